@@ -4,6 +4,7 @@ pub mod Begun
 pub mod Gated
 pub mod Grown
 pub mod Handing
+pub mod Hears
 pub mod Homing
 pub mod Keeping
 pub mod Landed

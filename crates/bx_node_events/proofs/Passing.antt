@@ -80,8 +80,7 @@ module _ {G O S T : Type 0} (g : register.Ghosts G) (o : owners.Ghosts O) (st : 
       (asked : (node its : ℕ) → own_then node ≡ Some its → (st.asked store_then node ≡ None) ⊎ (st.asked store_then node ≡ st.asked store_is node))
       (done : (node : ℕ) (write : Sent) → own_then node ≡ Some write.session → st.out_of store_is node ≡ Some write → st.out_of store_then node ≡ None → LivesIn (last c.register.chain) write.session → IsDone (st.stands store_then y sp) (sp.told.knew (Node node)) write)
       (lives : (session end : ℕ) → Contains c.owners.leases (session, end) → c.owners.told.greatest ≤ end + 500 → LivesIn (last c.register.chain) session)
-      (alone : (one other block : ℕ) (hold : Hold) → LivesIn (last c.register.chain) one → HasRow (last c.register.chain) other → c.owners.holding one block ≡ Some hold → oldest c.register.chain ≤ other)
-      (told : (node its : ℕ) → own_then node ≡ Some its → (g.knows register_then (Node node)).index ≤ sp.told.knew (Node node)) where
+      (alone : (one other block : ℕ) (hold : Hold) → LivesIn (last c.register.chain) one → HasRow (last c.register.chain) other → c.owners.holding one block ≡ Some hold → oldest c.register.chain ≤ other) where
     abbrev devices : ℕ
     devices = (st.made store_is).devices
 
@@ -198,11 +197,16 @@ module _ {G O S T : Type 0} (g : register.Ghosts G) (o : owners.Ghosts O) (st : 
         (λ node its machine row is alive about. owning.may_work (st.made store_is).devices (st.made store_is).areas Sure_before c.before (last c.register.chain) allowed_last c.owners.holding c.logs c.slots c.truth at_first.logs its row is alive
         (st.will_read store_is x c.store node) Before node machine refl refl about)
 
+    -- All are about what they were about.
+    pub about_passes : AreAbout (st.made store_then).devices (st.made store_then).areas (SureOf g o st Stands Step register_then owners_then store_then y (known_of g o st Stands Step register_then owners_then store_then y then_letters clocks_then machines) then_is)
+        (st.will_read store_then y sp) (IsOfNode o.by_boot clocks_then) Then
+    about_passes = subst (λ (m : Made). AreAbout m.devices m.areas (SureBy m) (st.will_read store_then y sp) (IsOfNode o.by_boot clocks_then) Then) (sym made) about_then
+
     -- The nodes stand then.
-    pub passes : NodesStand g o st Stands Step register_then owners_then store_then y then_letters clocks_then machines then_is tree
-    passes = record {
+    pub passes : ((node its : ℕ) → own_then node ≡ Some its → (g.knows register_then (Node node)).index ≤ sp.told.knew (Node node)) → NodesStand g o st Stands Step register_then owners_then store_then y then_letters clocks_then machines then_is tree
+    passes told = record {
       at = at_then;
-      about = subst (λ (m : Made). AreAbout m.devices m.areas (SureBy m) (st.will_read store_then y sp) (IsOfNode o.by_boot clocks_then) Then) (sym made) about_then;
+      about = about_passes;
       single = one_owner o.by_boot c.register.chain clocks_then (o.own owners_then) (λ n. sp.told.knew (Node n)) allowed at_then.sessions;
       told = told;
       given = given_first;

@@ -22,7 +22,7 @@ under_own (Some machine) (Some a) its is = by (is_one machine.session (Some its)
     by true false same both = absurd cc
     by false t same both = absurd cc
 
-own_or_not : (own : Option ℕ) (its : ℕ) → (own ≡ Some its) ⊎ (own ≢ Some its)
+pub own_or_not : (own : Option ℕ) (its : ℕ) → (own ≡ Some its) ⊎ (own ≢ Some its)
 own_or_not None its = inr (λ e. cc)
 own_or_not (Some a) its = by (eqb a its) refl
   where

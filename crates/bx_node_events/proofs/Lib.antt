@@ -1,6 +1,7 @@
 pub mod Acting
 pub mod Asked
 pub mod Begun
+pub mod Decided
 pub mod Gated
 pub mod Grown
 pub mod Handing
@@ -13,6 +14,7 @@ pub mod Opened
 pub mod Passing
 pub mod Quieted
 pub mod Received
+pub mod Taken
 pub mod Unlogged
 pub mod Wanted
 pub mod Working

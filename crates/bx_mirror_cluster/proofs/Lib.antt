@@ -25,6 +25,8 @@ pub mod WriteDone
 pub mod WriteSent
 pub mod WriteUntold
 pub mod GoingOn
+pub mod MemberLearns
+pub mod MemberOwn
 pub mod MemberSteps
 pub mod MemberStops
 pub mod NodeEvents

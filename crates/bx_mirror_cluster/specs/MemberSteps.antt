@@ -53,3 +53,7 @@ pub record MayServe (parts : Parts) (past : StorePast) (n : ℕ) (known : Global
   pub up : past.told.down (Member n) ≡ false
   pub place : IsPlace past.told.chain known
   pub rises : past.told.knew (Member n) ≤ known.index
+
+-- what a source has once one begins a copy in this epoch: what it reads
+abbrev pub source_with : ℕ → (ℕ → List ℕ) → (ℕ → ℕ → List ℕ) → ℕ → ℕ → List ℕ
+source_with epoch reads source e x = if e == epoch then reads x else source e x

@@ -15,6 +15,7 @@ pub mod Learned
 pub mod Leaving
 pub mod Losing
 pub mod Opening
+pub mod Owed
 pub mod Replacing
 pub mod Sent
 pub mod Sessions
@@ -29,6 +30,7 @@ pub mod MemberLearns
 pub mod MemberOwn
 pub mod MemberSteps
 pub mod MemberStops
+pub mod MemberSyncs
 pub mod NodeEvents
 pub mod NodeStarts
 pub mod NodeSteps

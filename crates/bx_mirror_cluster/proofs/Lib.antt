@@ -31,6 +31,7 @@ pub mod MemberOwn
 pub mod MemberSteps
 pub mod MemberStops
 pub mod MemberSyncs
+pub mod MemberTakes
 pub mod NodeEvents
 pub mod NodeStarts
 pub mod NodeSteps

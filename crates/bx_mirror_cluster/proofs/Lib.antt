@@ -28,6 +28,7 @@ pub mod WriteUntold
 pub mod GoingOn
 pub mod MemberLearns
 pub mod MemberOwn
+pub mod MemberSays
 pub mod MemberSteps
 pub mod MemberStops
 pub mod MemberSyncs

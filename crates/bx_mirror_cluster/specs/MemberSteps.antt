@@ -1,12 +1,14 @@
 -- What an event of a member leaves of a store.
-use Rattle.std.specs.Prelude.{◌≡◌, ℕ, ◌*◌, ◌<◌, ◌≤◌, ◌==◌, false, List, if◌then◌else◌}
+use Rattle.std.specs.Prelude.{◌≡◌, ℕ, ◌*◌, ◌<◌, ◌≤◌, ◌==◌, false, List, [], Some, slice_get, if◌then◌else◌}
 use Rattle.bx_base.specs.declared.names.Actor.{Actor}
 use Rattle.bx_base.specs.declared.names.Actor.TheVariants.{Member}
 use Rattle.bx_facts.specs.Chains.{IsPlace}
-use Rattle.bx_facts.specs.Writes.{StorePast}
+use Rattle.bx_facts.specs.Writes.{StorePast, store_room}
 use Rattle.bx_global.specs.declared.change.Change.{Change}
 use Rattle.bx_global.specs.declared.state.GlobalState.{GlobalState}
 use Rattle.bx_post.specs.declared.packets.Letter.{Letter}
+use Rattle.bx_rows.specs.Conditions.{Fits}
+use Rattle.bx_rows.specs.declared.device.DeviceRow.{DeviceRow}
 use Rattle.bx_mirror_laws.specs.Sides.{Copied, CopyLetter, Wrote}
 use Rattle.bx_mirror_member.specs.Standing.{Standing as Serving}
 use Rattle.bx_mirror_cluster.specs.Fitting.{History, Parts}
@@ -53,6 +55,12 @@ pub record MayServe (parts : Parts) (past : StorePast) (n : ℕ) (known : Global
   pub up : past.told.down (Member n) ≡ false
   pub place : IsPlace past.told.chain known
   pub rises : past.told.knew (Member n) ≤ known.index
+  -- each row has one of the modes, and numbers of the volume fit a packet
+  pub modes : (d : ℕ) (row : DeviceRow) → slice_get known.devices d ≡ Some row → row.mode < 5
+  pub few : parts.made.devices ≤ 4
+  pub room : Fits (store_room parts.made)
+  -- where no sync is owed nothing is
+  pub quiet : (parts.members n).due ≡ false → (parts.members n).owed ≡ []
 
 -- what a source has once one begins a copy in this epoch: what it reads
 abbrev pub source_with : ℕ → (ℕ → List ℕ) → (ℕ → ℕ → List ℕ) → ℕ → ℕ → List ℕ

@@ -1,4 +1,5 @@
 pub mod Alike
+pub mod Answered
 pub mod Begun
 pub mod Booted
 pub mod Chained
@@ -26,6 +27,7 @@ pub mod WriteDone
 pub mod WriteSent
 pub mod WriteUntold
 pub mod GoingOn
+pub mod MemberHands
 pub mod MemberLearns
 pub mod MemberOwn
 pub mod MemberSays

@@ -30,6 +30,7 @@ pub mod GoingOn
 pub mod MemberHands
 pub mod MemberLearns
 pub mod MemberOwn
+pub mod MemberRepeats
 pub mod MemberSays
 pub mod MemberSteps
 pub mod MemberStops

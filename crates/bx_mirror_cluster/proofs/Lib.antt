@@ -27,9 +27,11 @@ pub mod WriteDone
 pub mod WriteSent
 pub mod WriteUntold
 pub mod GoingOn
+pub mod MemberAnswers
 pub mod MemberHands
 pub mod MemberLearns
 pub mod MemberOwn
+pub mod MemberQuiet
 pub mod MemberRepeats
 pub mod MemberSays
 pub mod MemberSteps

@@ -75,6 +75,7 @@ module _ (parts : Parts) (x : Disks) (past : StorePast) (letters : List Letter) 
     askable = keeps.askable;
     epochs = keeps.epochs;
     owing = keeps.owing;
+    from_members = λ letter message there spells. keeps.from_members letter message (fewer.each letter (of_store message letter spells) there) spells;
     own_out = keeps.own_out;
     lasts = keeps.lasts;
     brings = keeps.brings;

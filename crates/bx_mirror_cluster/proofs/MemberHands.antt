@@ -123,7 +123,7 @@ module _ (parts : Parts) (x : Disks) (past : StorePast) (keeps : Keeps parts x p
   }
 
   pub hand_step : IsMemberStep parts x x past h d b was past.told.letters handed_next past.told.knew (history_of h d)
-  hand_step = says_step parts x past keeps d b past.told.letters handed_next (history_of h d) (λ inside. direct) (λ l there. inl there) handings_other (λ w there. there)
+  hand_step = says_step parts x past keeps d b past.told.letters handed_next (history_of h d) (λ inside. direct) (λ l there. inl there) (λ l message there spells. inl there) handings_other (λ w there. there)
 
   pub hand_goes : (From : DeviceRow → Type 0) (sector : ℕ) (content : List ℕ) → 1 ≤ sector → sector < store_room parts.made → StandsFor From parts x past d sector content → StandsFor From (with_serving parts n was) x (served past past.told.letters handed_next past.told.knew) d sector content
   hand_goes From sector content low high stands =

@@ -198,6 +198,7 @@ module _ (parts : Parts) (x : Disks) (past : StorePast) (keeps : Keeps parts x p
         knew_other = knew_else;
         owing = λ o has. keeps.owing n o has;
         lasts = λ session. inl refl;
+        spoken = λ l message its spells. inl its;
         wrotes = λ w has. has;
       }
 

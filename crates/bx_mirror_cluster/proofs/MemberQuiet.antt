@@ -88,6 +88,7 @@ module _ (parts : Parts) (x : Disks) (past : StorePast) (keeps : Keeps parts x p
     knew_other = knew_other;
     owing = λ o there. keeps.owing n o (subst (λ (os : List Owing). Contains os o) same_owed there);
     lasts = λ session. subst (λ (ls : List Last). (last_in ls session ≡ 0) ⊎ ((l : WriteLetter) × Among (h.writes d) l × (l.session ≡ session) × (l.sequence ≡ last_in ls session))) (sym same_lasts) (keeps.lasts d b session);
+    spoken = λ l message its spells. inl its;
     wrotes = λ w there. there;
   }
 

@@ -27,12 +27,12 @@ use Rattle.bx_mirror_member.specs.Steps.{answer_letter, owing, with_owing, wrote
 use Rattle.bx_mirror_client.specs.Sends.{member_at}
 use Rattle.bx_mirror_server.proofs.Owing.{copied_same, wrote_it, wrote_only, wrote_still}
 use Rattle.bx_mirror_server.specs.Sides.{side_of as side_by, wrote_in}
-use Rattle.bx_mirror_cluster.specs.Fitting.{History, IsAnswering, IsClaimed, IsComing, IsData, IsDeviceSound, Keeps, Parts, StandsFor, handings, knows_of, last_row, outs_of, rows_before, side_of}
+use Rattle.bx_mirror_cluster.specs.Fitting.{History, IsAnswering, IsClaimed, IsComing, IsData, IsDeviceSound, IsOwing, Keeps, Parts, StandsFor, handings, knows_of, last_row, outs_of, rows_before, side_of}
 use Rattle.bx_mirror_cluster.specs.MemberSteps.{DeviceHistory, history_of, served, with_histories, with_member, with_serving}
 use Rattle.bx_mirror_cluster.proofs.Answered.{answer_below, answer_is, answer_wrote, outs_answered, owing_copies, owing_hands, owing_rows, owing_sides, owing_stands, taken_before, writes_answered}
 use Rattle.bx_mirror_cluster.proofs.MemberLearns.{no_change}
 use Rattle.bx_mirror_cluster.proofs.MemberOwn.{IsOwnStep, inside_at, own_device, own_down, own_known, own_labels, own_second, own_step, two}
-use Rattle.bx_mirror_cluster.proofs.MemberSays.{from_member, old_coming, old_copied, old_copying, old_data, one_more, one_says, says_step}
+use Rattle.bx_mirror_cluster.proofs.MemberSays.{from_member, old_coming, old_copied, old_copying, old_data, one_more, one_says, one_spoken, says_step}
 use Rattle.bx_mirror_cluster.proofs.MemberSteps.{IsMemberStep}
 use Rattle.bx_mirror_cluster.proofs.MemberSyncs.{side_of_number}
 
@@ -209,7 +209,7 @@ module _ (parts : Parts) (x : Disks) (past : StorePast) (keeps : Keeps parts x p
 
     pub again_step : IsMemberStep parts x x past h d b was (past.told.letters ++ one ∷ []) past.told.handed past.told.knew again_history
     again_step = says_step parts x past keeps d b (past.told.letters ++ one ∷ []) past.told.handed again_history (λ inside. direct)
-        (from_member past.told.letters one was d b number refl (omega arith)) (λ k apart. refl) (λ v there. record { is = inr there.is })
+        (from_member past.told.letters one was d b number refl (omega arith)) (one_spoken past.told.letters one (WroteOf body) spells tt) (λ k apart. refl) (λ v there. record { is = inr there.is })
 
     pub again_data : (k e session epoch tag : ℕ) (bytes : List ℕ) → IsData (past.told.letters ++ one ∷ []) k e session epoch tag bytes → IsData past.told.letters k e session epoch tag bytes
     again_data k e session epoch tag bytes a = old_data past.told.letters one (WroteOf body) spells (λ q. omega (arith, q)) k e session epoch tag bytes a
@@ -350,11 +350,12 @@ module _ (parts : Parts) (x : Disks) (past : StorePast) (keeps : Keeps parts x p
     owing = λ o there. elim (Contains-append_cases was.owed (owing from (wrote_to w) ∷ []) o there) [
       | inl old ↦ keeps.owing n o old
       | inr new ↦ elim (front_or_behind (owing from (wrote_to w)) [] o new) [
-        | inl here ↦ subst (λ (q : Owing). IsDeviceMessage (message_of q.answer)) here fits
+        | inl here ↦ subst (IsOwing n) here (record { fits = fits; device = tt })
         | inr none ↦ absurd (nothing o none)
       ]
     ];
     lasts = λ session. keeps.lasts d b session;
+    spoken = λ l message its spells. inl its;
     wrotes = λ v there. there;
   }
 

@@ -25,7 +25,7 @@ use Rattle.bx_mirror_member.specs.Standing.{Standing as Serving, copies, copy_fr
 use Rattle.bx_mirror_member.specs.declared.copies.Piece.{Piece}
 use Rattle.bx_mirror_client.specs.Sends.{member_at}
 use Rattle.bx_mirror_server.specs.Serving.{SendsPiece}
-use Rattle.bx_mirror_cluster.specs.Fitting.{History, IsAnswering, IsComing, IsCopiedTo, IsCopying, IsData, IsDeviceSound, Keeps, Parts, handings, last_row, rows_before, side_of}
+use Rattle.bx_mirror_cluster.specs.Fitting.{History, IsAnswering, IsComing, IsCopiedTo, IsCopying, IsData, IsDeviceSound, IsFromMember, Keeps, Parts, handings, last_row, rows_before, side_of}
 use Rattle.bx_mirror_cluster.specs.MemberSteps.{DeviceHistory, history_of, served, with_histories, with_member, with_serving}
 use Rattle.bx_mirror_cluster.proofs.MemberLearns.{copies_so, no_change}
 use Rattle.bx_mirror_cluster.proofs.MemberOwn.{inside_at, own_device, own_disk, own_second}
@@ -49,9 +49,10 @@ same_serving parts n = λ i. record { made = parts.made; members = λ k. (each k
 pub says_step : (parts : Parts) (x : Disks) (past : StorePast) (keeps : Keeps parts x past) (d : ℕ) (b : Bool) (letters : List Letter) (handed : List Change) (new : DeviceHistory)
     → (d < parts.made.devices → IsDeviceSound parts x (served past letters handed past.told.knew) (with_histories keeps.history (λ k. new)) d)
     → ((l : Letter) → Contains letters l → Contains past.told.letters l ⊎ ((l.from ≡ Member (member_at d b)) × (18 < l.kind)))
+    → ((l : Letter) (message : DeviceMessage) → Contains letters l → Spells message l.kind l.body → Contains past.told.letters l ⊎ IsFromMember message l.from)
     → ((k : ℕ) → k ≢ d → handings k handed ≡ handings k past.told.handed) → ((w : Wrote) → Among (keeps.history.wrotes d) w → Among new.wrotes w)
     → IsMemberStep parts x x past keeps.history d b (parts.members (member_at d b)) letters handed past.told.knew new
-says_step parts x past keeps d b letters handed new direct sent handed_other wrotes = record {
+says_step parts x past keeps d b letters handed new direct sent spoken handed_other wrotes = record {
   sound = λ within. subst (λ (p : Parts). IsDeviceSound p x (served past letters handed past.told.knew) (with_histories keeps.history (λ k. new)) d) (sym (same_serving parts (member_at d b))) (direct within);
   boot = refl;
   disks = λ k s apart. no_change x k s;
@@ -61,6 +62,7 @@ says_step parts x past keeps d b letters handed new direct sent handed_other wro
   knew_other = λ who apart. refl;
   owing = λ o there. keeps.owing (member_at d b) o there;
   lasts = λ session. keeps.lasts d b session;
+  spoken = spoken;
   wrotes = wrotes;
 }
 
@@ -98,6 +100,23 @@ module _ (all : List Letter) (one : Letter) (message : DeviceMessage) (spells : 
 
   pub old_data : 21 ≢ kind_of message → (k d session epoch tag : ℕ) (bytes : List ℕ) → IsData (all ++ one ∷ []) k d session epoch tag bytes → IsData all k d session epoch tag bytes
   old_data apart k d session epoch tag bytes a = record { letter = a.letter; there = old_kind a.letter (Data a.data_) a.there a.spells apart; data_ = a.data_; spells = a.spells; to = a.to; device = a.device; session_is = a.session_is; epoch_is = a.epoch_is; tag_is = a.tag_is; bytes_are = a.bytes_are }
+
+  -- and it is from whom such a one may be
+  pub one_spoken : IsFromMember message one.from → (l : Letter) (other : DeviceMessage) → Contains (all ++ one ∷ []) l → Spells other l.kind l.body → Contains all l ⊎ IsFromMember other l.from
+  one_spoken from l other there its = elim (one_more l there) [
+    | inl old ↦ inl old
+    | inr here ↦ inr (subst (λ (q : DeviceMessage). IsFromMember q l.from) (sym (one_says l other here its)) (subst (λ (q : Letter). IsFromMember message q.from) here from))
+  ]
+
+-- a sign of life and an answer to a read are no pieces
+not_piece : (message : DeviceMessage) (from : Actor) → (kind_of message ≡ 21) ⊎ (kind_of message ≡ 24) → IsFromMember message from
+not_piece (Copy c) from kind = absurd (elim kind [ | inl one_is ↦ omega (arith, one_is) | inr other ↦ omega (arith, other) ])
+not_piece (CopiedOf c) from kind = absurd (elim kind [ | inl one_is ↦ omega (arith, one_is) | inr other ↦ omega (arith, other) ])
+not_piece (Write w) from kind = tt
+not_piece (WroteOf w) from kind = tt
+not_piece (Read r) from kind = tt
+not_piece (Data d) from kind = tt
+not_piece Alive from kind = tt
 
 -- a letter of a member is from it, and is no write
 pub from_member : (all : List Letter) (one : Letter) (m : Serving) (d : ℕ) (b : Bool) → m.number ≡ member_at d b → one.from ≡ me m → 18 < one.kind → (l : Letter) → Contains (all ++ one ∷ []) l → Contains all l ⊎ ((l.from ≡ Member (member_at d b)) × (18 < l.kind))
@@ -137,6 +156,7 @@ module _ (parts : Parts) (x : Disks) (past : StorePast) (keeps : Keeps parts x p
         known = was.known;
       })
       (from_member past.told.letters one (parts.members (member_at d b)) d b number from (let k = spells.kind_is in omega (arith, k, high)))
+      (one_spoken past.told.letters one message spells (not_piece message one.from kind))
       (λ k apart. refl) (λ w there. there)
 
 -- ---- a piece of a copy
@@ -257,7 +277,7 @@ module _ (parts : Parts) (x : Disks) (past : StorePast) (keeps : Keeps parts x p
 
   pub piece_step : IsMemberStep parts x x past h d b was (past.told.letters ++ one ∷ []) past.told.handed past.told.knew then_history
   piece_step = says_step parts x past keeps d b (past.told.letters ++ one ∷ []) past.told.handed then_history (λ inside. direct)
-      (from_member past.told.letters one was d b number refl (omega arith)) (λ k apart. refl) (λ w there. there)
+      (from_member past.told.letters one was d b number refl (omega arith)) (one_spoken past.told.letters one (Copy body) spells (b, ap Member number ∙ ap (λ (k : ℕ). Member (member_at k b)) (sym device_is))) (λ k apart. refl) (λ w there. there)
 
   pub piece_data : (k e session epoch tag : ℕ) (bytes : List ℕ) → IsData (past.told.letters ++ one ∷ []) k e session epoch tag bytes → IsData past.told.letters k e session epoch tag bytes
   piece_data k e session epoch tag bytes a = old_data past.told.letters one (Copy body) spells (λ q. omega (arith, q)) k e session epoch tag bytes a

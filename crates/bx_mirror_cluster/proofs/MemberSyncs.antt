@@ -1,5 +1,5 @@
 -- A member has synced its disk, and sends all that it owed: all goes on fitting, and what stands goes on.
-use Rattle.std.proofs.Common.{◌≡◌, ◌≢◌, ◌⊎◌, inl, inr, ℕ, ◌+◌, ◌<◌, ◌≤◌, Bool, true, false, Contains, List, [], ◌++◌, Option, Some, None, refl, sym, ◌∙◌, ap, subst, arith}
+use Rattle.std.proofs.Common.{◌≡◌, ◌≢◌, ◌⊎◌, inl, inr, ℕ, ◌+◌, ◌/◌, ◌<◌, ◌≤◌, Bool, true, false, Contains, List, [], ◌++◌, Option, Some, None, refl, sym, ◌∙◌, ap, subst, arith}
 use Rattle.std.specs.Prelude.{slice_get}
 use Rattle.std.proofs.lemmas.List.Elements.{Contains-append_cases}
 use Rattle.bx_base.specs.declared.names.Actor.{Actor}
@@ -18,14 +18,17 @@ use Rattle.bx_mirror_laws.proofs.Syncing.{sync_ages, sync_copies, sync_outs, syn
 use Rattle.bx_mirror_packets.specs.DeviceMessages.{Spells, kind_of}
 use Rattle.bx_mirror_packets.specs.declared.message.DeviceMessage.{DeviceMessage}
 use Rattle.bx_mirror_packets.specs.declared.message.DeviceMessage.TheVariants.{Write, Wrote as WroteOf, Read, Data, Copy, Copied as CopiedOf, Alive}
+use Rattle.bx_mirror_tables.specs.Owed.{message_of}
+use Rattle.bx_mirror_tables.specs.declared.answers.Answer.{Answer}
+use Rattle.bx_mirror_tables.specs.declared.answers.Answer.TheVariants as answers
 use Rattle.bx_mirror_tables.specs.declared.answers.Owing.{Owing}
 use Rattle.bx_mirror_member.specs.Standing.{Standing as Serving, disk_in, is_second}
 use Rattle.bx_mirror_member.specs.Steps.{answer_letter, owed_letters, released}
 use Rattle.bx_mirror_client.specs.Sends.{member_at}
 use Rattle.bx_mirror_server.specs.Sides.{copied_in, side_of as side_by, wrote_in}
-use Rattle.bx_mirror_cluster.specs.Fitting.{History, IsAnswering, IsClaimed, IsComing, IsCopiedTo, IsCopying, IsData, IsDeviceSound, Keeps, NeedsLabel, Parts, StandsFor, handings, knows_of, last_row, outs_of, rows_before, side_of}
+use Rattle.bx_mirror_cluster.specs.Fitting.{History, IsAnswering, IsClaimed, IsComing, IsCopiedTo, IsCopying, IsData, IsDeviceSound, IsFromMember, Keeps, NeedsLabel, OfDevice, Parts, StandsFor, handings, knows_of, last_row, outs_of, rows_before, side_of}
 use Rattle.bx_mirror_cluster.specs.MemberSteps.{DeviceHistory, served, with_histories, with_member, with_serving}
-use Rattle.bx_mirror_cluster.proofs.MemberOwn.{IsOwnStep, own_disk, own_down, own_known, own_labels, own_second, own_step}
+use Rattle.bx_mirror_cluster.proofs.MemberOwn.{IsOwnStep, own_device, own_disk, own_down, own_known, own_labels, own_second, own_step}
 use Rattle.bx_mirror_cluster.proofs.MemberSteps.{IsMemberStep}
 use Rattle.bx_mirror_cluster.proofs.Owed.{among_behind, among_copied, among_front, among_or, among_wrote, answer_high, answer_kind, answer_says, in_map, says_copied, says_wrote}
 
@@ -35,6 +38,11 @@ side_of_number d false false e = refl
 side_of_number d true true e = refl
 side_of_number d false true e = absurd (omega (arith, e))
 side_of_number d true false e = absurd (omega (arith, e))
+
+-- what a member owes says a piece's answer of its own device
+owed_from : (d : ℕ) (b : Bool) (a : Answer) (message : DeviceMessage) (from : Actor) → message ≡ message_of a → OfDevice a d → from ≡ Member (member_at d b) → IsFromMember message from
+owed_from d b (answers.Wrote w) message from is of at = subst (λ (q : DeviceMessage). IsFromMember q from) (sym is) tt
+owed_from d b (answers.Copied c) message from is of at = subst (λ (q : DeviceMessage). IsFromMember q from) (sym is) (b, at ∙ ap (λ (k : ℕ). Member (member_at k b)) (sym of))
 
 module _ (parts : Parts) (x y : Disks) (past : StorePast) (keeps : Keeps parts x past) (d : ℕ) (b : Bool) (within : d < parts.made.devices) (up : past.told.down (Member (member_at d b)) ≡ false)
     (number : (parts.members (member_at d b)).number ≡ member_at d b) (disks : (k s : ℕ) → k ≢ member_disk d b → Stays x y k s) (lengths : SameMemberLengths x y)
@@ -122,7 +130,7 @@ module _ (parts : Parts) (x y : Disks) (past : StorePast) (keeps : Keeps parts x
   pub was_other : (l : Letter) (message : DeviceMessage) → Contains letters l → Spells message l.kind l.body → kind_of message ≢ 19 → kind_of message ≢ 23 → Contains past.told.letters l
   was_other l message there spells not_wrote not_copied = elim (new_letter l there) [
     | inl old ↦ old
-    | inr new ↦ absurd (elim (answer_kind new.0.answer message (answer_says was new.0 l message (keeps.owing n new.0 new.1) new.2 spells)) [ | inl one ↦ not_wrote one | inr other ↦ not_copied other ])
+    | inr new ↦ absurd (elim (answer_kind new.0.answer message (answer_says was new.0 l message (keeps.owing n new.0 new.1).fits new.2 spells)) [ | inl one ↦ not_wrote one | inr other ↦ not_copied other ])
   ]
 
   from_it : (l : Letter) (c : Bool) (o : Owing) → answer_letter was o ≡ l → l.from ≡ Member (member_at d c) → c ≡ b
@@ -137,7 +145,7 @@ module _ (parts : Parts) (x y : Disks) (past : StorePast) (keeps : Keeps parts x
   answered : (w : Wrote) → IsAnswering letters d w → Among then_history.wrotes w
   answered w a = elim (new_letter a.letter a.there) [
     | inl old ↦ more w (sound.answering w (record { letter = a.letter; there = old; wrote = a.wrote; spells = a.spells; from = a.from; device = a.device; session = a.session; epoch_is = a.epoch_is; sequence = a.sequence }))
-    | inr new ↦ (let says = says_wrote new.0.answer a.wrote (answer_says was new.0 a.letter (WroteOf a.wrote) (keeps.owing n new.0 new.1) new.2 a.spells) in
+    | inr new ↦ (let says = says_wrote new.0.answer a.wrote (answer_says was new.0 a.letter (WroteOf a.wrote) (keeps.owing n new.0 new.1).fits new.2 a.spells) in
         let it = among_wrote b was.owed new.0 a.wrote new.1 says in
         let by = from_it a.letter w.by new.0 new.2 a.from in
         let same : w ≡ record { by = b; session = a.wrote.session; epoch = a.wrote.epoch; sequence = a.wrote.sequence } = (λ i. record { by = by i; session = a.session i; epoch = a.epoch_is i; sequence = a.sequence i }) in
@@ -147,7 +155,7 @@ module _ (parts : Parts) (x y : Disks) (past : StorePast) (keeps : Keeps parts x
   copied_answered : (g : Copied) → IsCopiedTo letters d g → Among then_history.copieds g
   copied_answered g a = elim (new_letter a.letter a.there) [
     | inl old ↦ among_behind (copied_in b was.owed) (h.copieds d) g (sound.copied_to g (record { letter = a.letter; there = old; copied = a.copied; spells = a.spells; from = a.from; device = a.device; epoch_is = a.epoch_is; place = a.place }))
-    | inr new ↦ (let says = says_copied new.0.answer a.copied (answer_says was new.0 a.letter (CopiedOf a.copied) (keeps.owing n new.0 new.1) new.2 a.spells) in
+    | inr new ↦ (let says = says_copied new.0.answer a.copied (answer_says was new.0 a.letter (CopiedOf a.copied) (keeps.owing n new.0 new.1).fits new.2 a.spells) in
         let it = among_copied b was.owed new.0 a.copied new.1 says in
         let by = from_it a.letter g.by new.0 new.2 a.from in
         let same : g ≡ record { by = b; epoch = a.copied.epoch; place = a.copied.place } = (λ i. record { by = by i; epoch = a.epoch_is i; place = a.place i }) in
@@ -222,6 +230,12 @@ module _ (parts : Parts) (x y : Disks) (past : StorePast) (keeps : Keeps parts x
     knew_other = λ who apart. refl;
     owing = λ o there. absurd (nothing o there);
     lasts = λ session. keeps.lasts d b session;
+    spoken = λ l message there spells. elim (new_letter l there) [
+      | inl old ↦ inl old
+      | inr new ↦ inr (let owing = keeps.owing n new.0 new.1 in
+          owed_from d b new.0.answer message l.from (answer_says was new.0 l message owing.fits new.2 spells) (subst (λ (k : ℕ). OfDevice new.0.answer k) (ap (λ (k : ℕ). k / 2) (sym number) ∙ own_device was d b number) owing.device)
+          (sym (ap (λ (q : Letter). q.from) new.2) ∙ ap Member number))
+    ];
     wrotes = more;
   }
 

@@ -33,7 +33,7 @@ use Rattle.bx_mirror_client.specs.Sends.{member_at}
 use Rattle.bx_mirror_server.specs.Serving.{PutsWrite}
 use Rattle.bx_mirror_server.specs.Sides.{IsOnce, letter_to, side_of as side_by}
 use Rattle.bx_mirror_server.proofs.Taking.{took}
-use Rattle.bx_mirror_cluster.specs.Fitting.{History, IsClaimed, IsComing, IsDeviceSound, Keeps, Parts, StandsFor, handings, knows_of, last_row, outs_of, rows_before, side_of}
+use Rattle.bx_mirror_cluster.specs.Fitting.{History, IsClaimed, IsComing, IsDeviceSound, IsOwing, Keeps, Parts, StandsFor, handings, knows_of, last_row, outs_of, rows_before, side_of}
 use Rattle.bx_mirror_cluster.specs.MemberSteps.{DeviceHistory, history_of, served, with_histories, with_member, with_serving}
 use Rattle.bx_mirror_cluster.proofs.MemberOwn.{IsOwnStep, own_device, own_disk, own_down, own_known, own_labels, own_second, own_step, two}
 use Rattle.bx_mirror_cluster.proofs.MemberSteps.{IsMemberStep}
@@ -231,11 +231,11 @@ module _ (parts : Parts) (x y : Disks) (past : StorePast) (keeps : Keeps parts x
       of_next : (k : ℕ) → last_in m.lasts k ≡ (next b).lasts k
       of_next k = sym (ap (λ (s : Side). s.lasts k) own.next)
 
-  owing_then : (o : Owing) → Contains m.owed o → IsDeviceMessage (message_of o.answer)
+  owing_then : (o : Owing) → Contains m.owed o → IsOwing n o
   owing_then o there = elim (Contains-append_cases was.owed (owing from (wrote_to w) ∷ []) o there) [
     | inl old ↦ keeps.owing n o old
     | inr new ↦ elim (front_or_behind (owing from (wrote_to w)) [] o new) [
-      | inl here ↦ (let is = comes.spells.is in subst (λ (q : Owing). IsDeviceMessage (message_of q.answer)) here (is.session, is.device, is.epoch, is.sequence))
+      | inl here ↦ (let is = comes.spells.is in subst (IsOwing n) here (record { fits = (is.session, is.device, is.epoch, is.sequence); device = tt }))
       | inr none ↦ absurd (nothing o none)
     ]
   ]
@@ -251,6 +251,7 @@ module _ (parts : Parts) (x y : Disks) (past : StorePast) (keeps : Keeps parts x
     knew_other = λ who apart. refl;
     owing = owing_then;
     lasts = lasts_then;
+    spoken = λ l message its spells. inl its;
     wrotes = λ q there. there;
   }
 

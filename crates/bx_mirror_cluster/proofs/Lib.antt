@@ -30,7 +30,9 @@ pub mod GoingOn
 pub mod MemberAnswers
 pub mod MemberHands
 pub mod MemberLearns
+pub mod MemberNotes
 pub mod MemberOwn
+pub mod MemberPieces
 pub mod MemberQuiet
 pub mod MemberRepeats
 pub mod MemberSays

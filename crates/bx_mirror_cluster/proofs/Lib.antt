@@ -30,6 +30,7 @@ pub mod GoingOn
 pub mod MemberAnswers
 pub mod MemberHands
 pub mod MemberLearns
+pub mod MemberMoves
 pub mod MemberNotes
 pub mod MemberOwn
 pub mod MemberPieces

@@ -27,7 +27,9 @@ pub mod WriteDone
 pub mod WriteSent
 pub mod WriteUntold
 pub mod GoingOn
+pub mod MemberActs
 pub mod MemberAnswers
+pub mod MemberDecides
 pub mod MemberHands
 pub mod MemberLearns
 pub mod MemberMoves

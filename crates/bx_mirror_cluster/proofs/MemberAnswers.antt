@@ -10,7 +10,7 @@ use Rattle.bx_post.specs.declared.packets.Letter.{Letter}
 use Rattle.bx_rows.specs.Modes.{IsSource}
 use Rattle.bx_rows.specs.declared.device.DeviceRow.{DeviceRow}
 use Rattle.bx_mirror_laws.specs.Acting.{Acts, FromEpoch, IsRow, boot_in}
-use Rattle.bx_mirror_laws.specs.Sides.{Side}
+use Rattle.bx_mirror_laws.specs.Sides.{Side, WriteLetter}
 use Rattle.bx_mirror_laws.proofs.Small.{answers_so}
 use Rattle.bx_mirror_packets.specs.DeviceMessages.{Spells, body_text}
 use Rattle.bx_mirror_packets.specs.declared.message.DataBody.{DataBody}
@@ -25,7 +25,7 @@ use Rattle.bx_mirror_server.specs.Serving.{AnswersRead}
 use Rattle.bx_mirror_cluster.specs.Fitting.{History, IsComing, IsData, IsDeviceSound, IsDrawn, IsReading, Keeps, Parts, StandsFor, WillReadOn, handings, last_row, rows_before, side_of}
 use Rattle.bx_mirror_cluster.specs.MemberSteps.{history_of}
 use Rattle.bx_mirror_cluster.proofs.MemberOwn.{inside_at, own_device, own_disk, own_second}
-use Rattle.bx_mirror_cluster.proofs.MemberSays.{one_more, one_says, plain_step}
+use Rattle.bx_mirror_cluster.proofs.MemberSays.{old_coming, one_more, one_says, plain_step}
 use Rattle.bx_mirror_cluster.proofs.MemberSteps.{IsMemberStep}
 
 -- A read comes to a member.
@@ -115,3 +115,6 @@ module _ (parts : Parts) (x : Disks) (past : StorePast) (keeps : Keeps parts x p
         (sound.rows.known b here.row here.acts.row_is) (omega (arith, from_epoch, epoch_are)) acts (read_leads here.row.mode b (subst (λ (t : Bool). IsReadAt here.row.mode t) (own_second was d b number) here.reads_here)) in
         ap (λ (z : List ℕ). sector_of z (sector - a.place)) bytes_are ∙ ap (λ (z : ℕ). sector_of answers.bytes (sector - z)) (sym place) ∙ sym read ∙ ap (λ (z : ℕ). x.reads (disk_in was) z) at ∙ ap (λ (z : ℕ). x.reads z sector) (own_disk was d b number) ∙ has)
   ]
+
+  pub answer_coming : (q : WriteLetter) → IsComing (past.told.letters ++ one ∷ []) d q → IsComing past.told.letters d q
+  answer_coming q c = old_coming past.told.letters one (Data body) spells (omega arith) d q c

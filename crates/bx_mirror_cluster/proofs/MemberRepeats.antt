@@ -214,6 +214,9 @@ module _ (parts : Parts) (x : Disks) (past : StorePast) (keeps : Keeps parts x p
     pub again_data : (k e session epoch tag : ℕ) (bytes : List ℕ) → IsData (past.told.letters ++ one ∷ []) k e session epoch tag bytes → IsData past.told.letters k e session epoch tag bytes
     again_data k e session epoch tag bytes a = old_data past.told.letters one (WroteOf body) spells (λ q. omega (arith, q)) k e session epoch tag bytes a
 
+    pub again_coming : (q : WriteLetter) → IsComing (past.told.letters ++ one ∷ []) d q → IsComing past.told.letters d q
+    again_coming q c = old_coming past.told.letters one (WroteOf body) spells (omega arith) d q c
+
   -- ---- with the sync that is owed
 
   abbrev m : Serving

@@ -281,3 +281,6 @@ module _ (parts : Parts) (x : Disks) (past : StorePast) (keeps : Keeps parts x p
 
   pub piece_data : (k e session epoch tag : ℕ) (bytes : List ℕ) → IsData (past.told.letters ++ one ∷ []) k e session epoch tag bytes → IsData past.told.letters k e session epoch tag bytes
   piece_data k e session epoch tag bytes a = old_data past.told.letters one (Copy body) spells (λ q. omega (arith, q)) k e session epoch tag bytes a
+
+  pub piece_coming : (q : WriteLetter) → IsComing (past.told.letters ++ one ∷ []) d q → IsComing past.told.letters d q
+  piece_coming q c = old_coming past.told.letters one (Copy body) spells (omega arith) d q c

@@ -31,6 +31,7 @@ pub mod MemberActs
 pub mod MemberAnswers
 pub mod MemberDecides
 pub mod MemberHands
+pub mod MemberInputs
 pub mod MemberLearns
 pub mod MemberMoves
 pub mod MemberNotes

@@ -30,6 +30,7 @@ pub mod GoingOn
 pub mod MemberActs
 pub mod MemberAnswers
 pub mod MemberDecides
+pub mod MemberEvents
 pub mod MemberHands
 pub mod MemberInputs
 pub mod MemberLearns

@@ -39,18 +39,12 @@ use Rattle.bx_mirror_client.specs.Sends.{member_at}
 use Rattle.bx_mirror_server.specs.Serving.{DoesWrite, OfInput, OfMessage, OfSaid, Passes, SaysOr, SendsAny, TakesCopied, change_of, piece_of}
 use Rattle.bx_mirror_cluster.specs.Fitting.{Keeps, Parts}
 use Rattle.bx_mirror_cluster.specs.GoesFurther.{GoesFurther}
-use Rattle.bx_mirror_cluster.specs.MemberSteps.{served, with_serving}
+use Rattle.bx_mirror_cluster.specs.MemberSteps.{IsFor, served, with_serving}
 use Rattle.bx_mirror_cluster.proofs.MemberActs.{again_goes, alive_goes, answers_goes, hands_goes, hears_goes, notes_goes, owes_goes, piece_goes, stays_goes, syncs_goes, takes_goes, target_takes, whole_goes}
 use Rattle.bx_mirror_cluster.proofs.MemberDecides.{noted_or, owed_or}
 use Rattle.bx_mirror_cluster.proofs.MemberLearns.{copies_then}
 use Rattle.bx_mirror_cluster.proofs.MemberMoves.{both_go}
 use Rattle.bx_mirror_cluster.proofs.MemberSays.{same_serving}
-
--- what comes is for this machine
-abbrev pub IsFor : Actor → Input → Type 0
-IsFor at (Packet packet reading) = packet.now.to ≡ at
-IsFor at (Tick reading) = Unit {0}
-IsFor at Synced = Unit {0}
 
 module _ (parts : Parts) (x y : Disks) (past : StorePast) (keeps : Keeps parts x past) (d : ℕ) (b : Bool) (within : d < parts.made.devices) (up : past.told.down (Member (member_at d b)) ≡ false)
     (number : (parts.members (member_at d b)).number ≡ member_at d b) (made : (parts.members (member_at d b)).made ≡ parts.made) (few : parts.made.devices ≤ 4) (fits_room : Fits (store_room parts.made))

@@ -42,14 +42,14 @@ source_else epoch reads source e s apart = let t : (e == epoch) ≡ false = grin
 pub one_source : (mode : ℕ) (b c : Bool) → mode ≡ copy_from b → IsSource mode c → c ≡ b
 one_source mode false false is leads = refl
 one_source mode true true is leads = refl
-one_source mode false true is leads = absurd (elim leads [ | inl zero_is ↦ omega (arith, is, zero_is) | inr not_a ↦ not_a (inr (inr is)) ])
-one_source mode true false is leads = absurd (elim leads [ | inl zero_is ↦ omega (arith, is, zero_is) | inr more ↦ elim more [ | inl one ↦ omega (arith, is, one) | inr three ↦ omega (arith, is, three) ] ])
+one_source mode false true is leads = absurd (elim leads [ inl zero_is ↦ omega (arith, is, zero_is) | inr not_a ↦ not_a (inr (inr is)) ])
+one_source mode true false is leads = absurd (elim leads [ inl zero_is ↦ omega (arith, is, zero_is) | inr more ↦ elim more [ inl one ↦ omega (arith, is, one) | inr three ↦ omega (arith, is, three) ] ])
 
 pub source_mode : (mode : ℕ) (b : Bool) → mode < 5 → 3 ≤ mode → IsSource mode b → mode ≡ copy_from b
-source_mode mode false less more leads = elim leads [ | inl zero_is ↦ absurd (omega (arith, more, zero_is)) | inr rest ↦ elim rest [ | inl one ↦ absurd (omega (arith, more, one)) | inr three ↦ three ] ]
+source_mode mode false less more leads = elim leads [ inl zero_is ↦ absurd (omega (arith, more, zero_is)) | inr rest ↦ elim rest [ inl one ↦ absurd (omega (arith, more, one)) | inr three ↦ three ] ]
 source_mode mode true less more leads = elim leads [
   | inl zero_is ↦ absurd (omega (arith, more, zero_is))
-  | inr not_a ↦ elim (same_or mode 3) [ | inl three ↦ absurd (not_a (inr (inr three))) | inr other ↦ omega (arith, less, more, other) ]
+  | inr not_a ↦ elim (same_or mode 3) [ inl three ↦ absurd (not_a (inr (inr three))) | inr other ↦ omega (arith, less, more, other) ]
 ]
 
 -- it makes a copy: its boot is named, and the mode is its own

@@ -38,7 +38,7 @@ pub record AnswerComes (parts : Parts) (past : StorePast) (d : ℕ) (b : Bool) (
 
 copy_leads : (b : Bool) (mode : ℕ) → mode ≡ copy_from b → (3 ≤ mode) × IsSource mode b
 copy_leads false mode e = (omega (arith, e), inr (inr e))
-copy_leads true mode e = (omega (arith, e), inr (λ at_a. elim at_a [ | inl zero_is ↦ omega (arith, e, zero_is) | inr rest ↦ elim rest [ | inl one_is ↦ omega (arith, e, one_is) | inr three ↦ omega (arith, e, three) ] ]))
+copy_leads true mode e = (omega (arith, e), inr (λ at_a. elim at_a [ inl zero_is ↦ omega (arith, e, zero_is) | inr rest ↦ elim rest [ inl one_is ↦ omega (arith, e, one_is) | inr three ↦ omega (arith, e, three) ] ]))
 
 module _ (parts : Parts) (x : Disks) (past : StorePast) (keeps : Keeps parts x past) (d : ℕ) (b : Bool) (within : d < parts.made.devices) (up : past.told.down (Member (member_at d b)) ≡ false)
     (number : (parts.members (member_at d b)).number ≡ member_at d b) (c : CopiedBody) (row : DeviceRow) (comes : AnswerComes parts past d b c row) where

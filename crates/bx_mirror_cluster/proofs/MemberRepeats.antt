@@ -160,7 +160,7 @@ module _ (parts : Parts) (x : Disks) (past : StorePast) (keeps : Keeps parts x p
 
     wrotes_again : AreWrotes last_ older_ sides (h.writes d) (answer_to l ∷ h.wrotes d)
     wrotes_again = record {
-      acked_to = λ v there. elim there.is [ | inl new ↦ subst (IsAnswer (h.writes d)) (sym new) is_answer | inr old ↦ sound.wrotes.acked_to v (record { is = old }) ];
+      acked_to = λ v there. elim there.is [ inl new ↦ subst (IsAnswer (h.writes d)) (sym new) is_answer | inr old ↦ sound.wrotes.acked_to v (record { is = old }) ];
       owed_to = sound.wrotes.owed_to;
       acked = λ v k there is e. elim there.is [
         | inl new ↦ subst (λ (u : Wrote). IsWrote sides u k) (sym new) (answered_row k is (e ∙ ap (λ (u : Wrote). u.epoch) new))

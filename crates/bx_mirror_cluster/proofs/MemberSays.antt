@@ -72,7 +72,7 @@ module _ (all : List Letter) (one : Letter) (message : DeviceMessage) (spells : 
   pub one_more : (l : Letter) → Contains (all ++ one ∷ []) l → Contains all l ⊎ (one ≡ l)
   one_more l there = elim (Contains-append_cases all (one ∷ []) l there) [
     | inl old ↦ inl old
-    | inr new ↦ elim (front_or_behind one [] l new) [ | inl here ↦ inr here | inr none ↦ absurd (nothing l none) ]
+    | inr new ↦ elim (front_or_behind one [] l new) [ inl here ↦ inr here | inr none ↦ absurd (nothing l none) ]
   ]
 
   pub one_says : (l : Letter) (other : DeviceMessage) → one ≡ l → Spells other l.kind l.body → other ≡ message
@@ -110,8 +110,8 @@ module _ (all : List Letter) (one : Letter) (message : DeviceMessage) (spells : 
 
 -- a sign of life and an answer to a read are no pieces
 not_piece : (message : DeviceMessage) (from : Actor) → (kind_of message ≡ 21) ⊎ (kind_of message ≡ 24) → IsFromMember message from
-not_piece (Copy c) from kind = absurd (elim kind [ | inl one_is ↦ omega (arith, one_is) | inr other ↦ omega (arith, other) ])
-not_piece (CopiedOf c) from kind = absurd (elim kind [ | inl one_is ↦ omega (arith, one_is) | inr other ↦ omega (arith, other) ])
+not_piece (Copy c) from kind = absurd (elim kind [ inl one_is ↦ omega (arith, one_is) | inr other ↦ omega (arith, other) ])
+not_piece (CopiedOf c) from kind = absurd (elim kind [ inl one_is ↦ omega (arith, one_is) | inr other ↦ omega (arith, other) ])
 not_piece (Write w) from kind = tt
 not_piece (WroteOf w) from kind = tt
 not_piece (Read r) from kind = tt
@@ -133,10 +133,10 @@ from_member all one m d b number from high l there = elim (Contains-append_cases
 module _ (parts : Parts) (x : Disks) (past : StorePast) (keeps : Keeps parts x past) (d : ℕ) (b : Bool) (number : (parts.members (member_at d b)).number ≡ member_at d b)
     (one : Letter) (message : DeviceMessage) (spells : Spells message one.kind one.body) (from : one.from ≡ me (parts.members (member_at d b))) (kind : (kind_of message ≡ 21) ⊎ (kind_of message ≡ 24)) where
   differs : (k : ℕ) → k ≢ 21 → k ≢ 24 → k ≢ kind_of message
-  differs k one_apart other_apart e = elim kind [ | inl data_ ↦ one_apart (e ∙ data_) | inr alive ↦ other_apart (e ∙ alive) ]
+  differs k one_apart other_apart e = elim kind [ inl data_ ↦ one_apart (e ∙ data_) | inr alive ↦ other_apart (e ∙ alive) ]
 
   high : 18 < kind_of message
-  high = elim kind [ | inl data_ ↦ omega (arith, data_) | inr alive ↦ omega (arith, alive) ]
+  high = elim kind [ inl data_ ↦ omega (arith, data_) | inr alive ↦ omega (arith, alive) ]
 
   pub plain_step : IsMemberStep parts x x past keeps.history d b (parts.members (member_at d b)) (past.told.letters ++ one ∷ []) past.told.handed past.told.knew (history_of keeps.history d)
   plain_step = says_step parts x past keeps d b (past.told.letters ++ one ∷ []) past.told.handed (history_of keeps.history d)
@@ -229,7 +229,7 @@ module _ (parts : Parts) (x : Disks) (past : StorePast) (keeps : Keeps parts x p
 
   copy_mode : (t : Bool) (mode : ℕ) → mode ≡ copy_from t → (3 ≤ mode) × IsSource mode t
   copy_mode false mode e = (omega (arith, e), inr (inr e))
-  copy_mode true mode e = (omega (arith, e), inr (λ at_a. elim at_a [ | inl zero_is ↦ omega (arith, e, zero_is) | inr rest ↦ elim rest [ | inl one_is ↦ omega (arith, e, one_is) | inr three ↦ omega (arith, e, three) ] ]))
+  copy_mode true mode e = (omega (arith, e), inr (λ at_a. elim at_a [ inl zero_is ↦ omega (arith, e, zero_is) | inr rest ↦ elim rest [ inl one_is ↦ omega (arith, e, one_is) | inr three ↦ omega (arith, e, three) ] ]))
 
   abbrev l : CopyLetter
   l = record { by = b; epoch = row.epoch; place = place; bytes = sends.bytes }

@@ -130,7 +130,7 @@ module _ (parts : Parts) (x y : Disks) (past : StorePast) (keeps : Keeps parts x
   pub was_other : (l : Letter) (message : DeviceMessage) → Contains letters l → Spells message l.kind l.body → kind_of message ≢ 19 → kind_of message ≢ 23 → Contains past.told.letters l
   was_other l message there spells not_wrote not_copied = elim (new_letter l there) [
     | inl old ↦ old
-    | inr new ↦ absurd (elim (answer_kind new.0.answer message (answer_says was new.0 l message (keeps.owing n new.0 new.1).fits new.2 spells)) [ | inl one ↦ not_wrote one | inr other ↦ not_copied other ])
+    | inr new ↦ absurd (elim (answer_kind new.0.answer message (answer_says was new.0 l message (keeps.owing n new.0 new.1).fits new.2 spells)) [ inl one ↦ not_wrote one | inr other ↦ not_copied other ])
   ]
 
   from_it : (l : Letter) (c : Bool) (o : Owing) → answer_letter was o ≡ l → l.from ≡ Member (member_at d c) → c ≡ b

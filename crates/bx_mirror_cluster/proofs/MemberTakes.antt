@@ -50,8 +50,8 @@ pub record MayBeTaken (parts : Parts) (past : StorePast) (d : ℕ) (b : Bool) (f
 
 -- a member that is written in a row makes no copy there
 pub written_mode : (mode : ℕ) (b : Bool) → IsWritten mode b → mode ≤ 2
-written_mode mode false is = elim is [ | inl zero_is ↦ omega (arith, zero_is) | inr one ↦ omega (arith, one) ]
-written_mode mode true is = elim is [ | inl zero_is ↦ omega (arith, zero_is) | inr two_is ↦ omega (arith, two_is) ]
+written_mode mode false is = elim is [ inl zero_is ↦ omega (arith, zero_is) | inr one ↦ omega (arith, one) ]
+written_mode mode true is = elim is [ inl zero_is ↦ omega (arith, zero_is) | inr two_is ↦ omega (arith, two_is) ]
 
 -- Copies stay as they were, where a member that acts in no copy row has changed its disk alone, and owes no piece more.
 pub copies_kept : (room : ℕ) (last_ : DeviceRow) (older : List DeviceRow) (sides next : Bool → Side) (source : ℕ → ℕ → List ℕ) (copies : List CopyLetter) (copieds : List Copied) (rows : AreRows room last_ older sides source) (ages : Ages room last_ older sides next source source) (b : Bool) (r : DeviceRow)

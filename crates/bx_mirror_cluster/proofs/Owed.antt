@@ -22,7 +22,7 @@ use Rattle.bx_mirror_server.specs.Sides.{copied_in, with_copied, with_wrote, wro
 
 pub among_front : {A : Type 0} (xs ys : List A) (a : A) → Among xs a → Among (xs ++ ys) a
 among_front [] ys a there = absurd there.is
-among_front (x ∷ xs) ys a there = elim there.is [ | inl e ↦ record { is = inl e } | inr more ↦ record { is = inr (among_front xs ys a (record { is = more })).is } ]
+among_front (x ∷ xs) ys a there = elim there.is [ inl e ↦ record { is = inl e } | inr more ↦ record { is = inr (among_front xs ys a (record { is = more })).is } ]
 
 pub among_behind : {A : Type 0} (xs ys : List A) (a : A) → Among ys a → Among (xs ++ ys) a
 among_behind [] ys a there = there
@@ -32,7 +32,7 @@ pub among_or : {A : Type 0} (xs ys : List A) (a : A) → Among (xs ++ ys) a → 
 among_or [] ys a there = inr there
 among_or (x ∷ xs) ys a there = elim there.is [
   | inl e ↦ inl (record { is = inl e })
-  | inr more ↦ elim (among_or xs ys a (record { is = more })) [ | inl one ↦ inl (record { is = inr one.is }) | inr other ↦ inr other ]
+  | inr more ↦ elim (among_or xs ys a (record { is = more })) [ inl one ↦ inl (record { is = inr one.is }) | inr other ↦ inr other ]
 ]
 
 pub in_map : {A B : Type 0} (f : A → B) (xs : List A) (y : B) → Contains (map f xs) y → (x : A) × Contains xs x × (f x ≡ y)

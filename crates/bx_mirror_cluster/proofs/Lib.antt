@@ -41,6 +41,7 @@ pub mod MemberPieces
 pub mod MemberQuiet
 pub mod MemberRepeats
 pub mod MemberSays
+pub mod MemberStarts
 pub mod MemberSteps
 pub mod MemberStops
 pub mod MemberSyncs

@@ -51,3 +51,4 @@ pub mod NodeStarts
 pub mod NodeSteps
 pub mod NodeTakes
 pub mod NodeStops
+pub mod Promised

@@ -96,6 +96,7 @@ module _ (parts : Parts) (x : Disks) (first s : GlobalState) (found : ℕ) (knew
     askable = λ n a is. absurd (no_asks n a is);
     epochs = λ q place d row is. epoch_fits s.devices d row allowed.each_device (ap (λ (g : GlobalState). slice_get g.devices d) (sym place) ∙ is);
     owing = λ n o there. absurd (nothing o (subst (λ (os : List Owing). Contains os o) (new.owed n) there));
+    from_members = λ letter message there spells. absurd (nothing letter there);
     own_out = λ n w there is. absurd there.is;
     lasts = λ d b session. inl (ap (λ (ls : List Last). last_in ls session) (new.lasts (member_at d b)));
     brings = λ d l there. absurd there.is;

@@ -34,7 +34,7 @@ rises parts x past d sector content index later less stands = record {
 }
 
 -- a source of a state leads in its row
-leads_in : (s : GlobalState) (handed : List Handing) (d : ℕ) (b : Bool) → IsSourceIn s d b → MayLead (row_of s d) handed b
+pub leads_in : (s : GlobalState) (handed : List Handing) (d : ℕ) (b : Bool) → IsSourceIn s d b → MayLead (row_of s d) handed b
 leads_in s handed d b = (elim (slice_get s.devices d) as (λ o. slice_get s.devices d ≡ o → IsSourceIn s d b → MayLead (row_of s d) handed b) [
   | None ↦ λ e source. absurd (let h = rw e at source in h)
   | Some row ↦ λ e source. record { is = inl (rw e (let h = rw e at source in h)) }

@@ -104,6 +104,7 @@ module _ (parts : Parts) (x : Disks) (past : StorePast) (later : ℕ) (rises : p
     askable = keeps.askable;
     epochs = keeps.epochs;
     owing = keeps.owing;
+    from_members = keeps.from_members;
     own_out = keeps.own_out;
     lasts = keeps.lasts;
     brings = keeps.brings;

@@ -106,6 +106,7 @@ with_disks parts x y past keeps sound = record {
   askable = keeps.askable;
   epochs = keeps.epochs;
   owing = keeps.owing;
+  from_members = keeps.from_members;
   own_out = keeps.own_out;
   lasts = keeps.lasts;
   brings = keeps.brings;

@@ -6,7 +6,11 @@ use Rattle.bx_facts.specs.Chains.{last}
 use Rattle.bx_facts.specs.Writes.{StorePast}
 use Rattle.bx_mirror_packets.specs.declared.message.ReadBody.{ReadBody}
 use Rattle.bx_mirror_client.specs.declared.asking.Asking.{Asking}
-use Rattle.bx_mirror_cluster.specs.Fitting.{IsDrawn, Keeps, Parts}
+use Rattle.bx_base.specs.declared.names.Actor.{Actor}
+use Rattle.bx_mirror_packets.specs.DeviceMessages.{kind_of}
+use Rattle.bx_mirror_packets.specs.declared.message.DeviceMessage.{DeviceMessage}
+use Rattle.bx_mirror_packets.specs.declared.message.DeviceMessage.TheVariants.{Write, Wrote as WroteOf, Read, Data, Copy, Copied as CopiedOf, Alive}
+use Rattle.bx_mirror_cluster.specs.Fitting.{IsDrawn, IsFromMember, Keeps, Parts}
 use Rattle.bx_mirror_cluster.specs.GoingOn.{IsSameRead}
 use Rattle.bx_mirror_cluster.specs.Speaking.{IsOfRead}
 
@@ -65,3 +69,13 @@ same_read was a r same is = record {
   place = is.place ∙ sym same.place;
   sectors = is.sectors ∙ sym same.sectors;
 }
+
+-- what is no piece of a copy, nor an answer to one, comes from whom it comes
+pub not_member : (message : DeviceMessage) (from : Actor) → kind_of message < 22 → IsFromMember message from
+not_member (Copy c) from low = absurd (omega (arith, low))
+not_member (CopiedOf c) from low = absurd (omega (arith, low))
+not_member (Write w) from low = tt
+not_member (WroteOf w) from low = tt
+not_member (Read r) from low = tt
+not_member (Data d) from low = tt
+not_member Alive from low = tt

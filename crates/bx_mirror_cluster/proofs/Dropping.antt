@@ -6,10 +6,12 @@ use Rattle.bx_disk.specs.Disks.{Disks}
 use Rattle.bx_facts.proofs.Lists.{behind, front, front_or_behind, nothing}
 use Rattle.bx_facts.specs.Writes.{IsOnly, Sent, StorePast, WritesTo, without_session}
 use Rattle.bx_rows.specs.declared.device.DeviceRow.{DeviceRow}
+use Rattle.bx_mirror_laws.specs.Acting.{FromEpoch}
 use Rattle.bx_mirror_laws.specs.Sides.{Among, Out}
 use Rattle.bx_mirror_laws.specs.Sound.{IsLate, sent_of}
 use Rattle.bx_mirror_laws.proofs.Nodes.{stands_drop}
-use Rattle.bx_mirror_cluster.specs.Fitting.{IsComing, IsSettledOn, Keeps, KnownFrom, Nowhere, Parts, StandsFor, StandsOn, handings, last_row, outs_of, rows_before, side_of}
+use Rattle.bx_mirror_client.specs.declared.asking.Asking.{Asking}
+use Rattle.bx_mirror_cluster.specs.Fitting.{IsComing, IsSettledOn, Keeps, KnownFrom, Nowhere, Parts, StandsFor, StandsOn, WillReadOn, handings, last_row, outs_of, rows_before, side_of}
 
 -- what passes a test stays
 pub in_filter : (test : Sent → Bool) (ws : List Sent) (w : Sent) → Contains ws w → test w ≡ true → Contains (filter test ws) w
@@ -62,6 +64,7 @@ module _ (parts : Parts) (x : Disks) (past : StorePast) (keeps : Keeps parts x p
     askable = keeps.askable;
     epochs = keeps.epochs;
     owing = keeps.owing;
+    from_members = keeps.from_members;
     own_out = keeps.own_out;
     lasts = keeps.lasts;
     brings = keeps.brings;
@@ -106,4 +109,16 @@ module _ (parts : Parts) (x : Disks) (past : StorePast) (keeps : Keeps parts x p
   stands_dropped d sector content index only stands = record {
     settled = settled_dropped d sector content only stands.settled;
     stands = dropped (KnownFrom past.told.chain d index) d sector content only stands.stands;
+  }
+
+  pub reads_dropped : (m : ℕ) (a : Asking) (sector : ℕ) (content : List ℕ) → IsOnly past.writes past.told.greatest a.device sector content → WillReadOn parts x past m a sector content → WillReadOn parts x (without_session past session) m a sector content
+  reads_dropped m a sector content only will = record {
+    device = will.device;
+    behind_label = will.behind_label;
+    within = will.within;
+    row = will.row;
+    row_is = will.row_is;
+    stands = dropped (FromEpoch will.row.epoch) a.device sector content only will.stands;
+    coming = will.coming;
+    came = will.came;
   }

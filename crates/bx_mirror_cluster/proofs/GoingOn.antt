@@ -17,7 +17,7 @@ use Rattle.bx_mirror_cluster.specs.Fitting.{IsClaimed, IsComing, IsData, IsDevic
 use Rattle.bx_mirror_cluster.proofs.Leaving.{same_left}
 use Rattle.bx_mirror_cluster.specs.GoingOn.{AreReads, GoesOn, IsAskedOn, letters_more, with_nodes}
 use Rattle.bx_mirror_cluster.specs.Speaking.{IsOfRead}
-use Rattle.bx_mirror_cluster.proofs.Drawn.{drawn_more, drawn_own, drawn_same, same_read}
+use Rattle.bx_mirror_cluster.proofs.Drawn.{drawn_more, drawn_own, drawn_same, not_member, same_read}
 use Rattle.bx_mirror_packets.specs.declared.message.ReadBody.{ReadBody}
 
 module _ (parts : Parts) (x : Disks) (past : StorePast) (keeps : Keeps parts x past) (nodes_next : ℕ → Streaming) (more : List Letter) (on : GoesOn parts keeps.history nodes_next) (reads : AreReads nodes_next more) where
@@ -87,6 +87,10 @@ module _ (parts : Parts) (x : Disks) (past : StorePast) (keeps : Keeps parts x p
     askable = on.askable;
     epochs = keeps.epochs;
     owing = keeps.owing;
+    from_members = λ letter message there spells. elim (Contains-append_cases past.told.letters more letter there) [
+      | inl old ↦ keeps.from_members letter message old spells
+      | inr new ↦ not_member message letter.from (let e = spells.kind_is in let k = reads.kinds letter new in omega (arith, e, k))
+    ];
     own_out = λ m w there is. on.out m ∙ keeps.own_out m w there (sym (on.session m) ∙ is);
     lasts = keeps.lasts;
     brings = keeps.brings;

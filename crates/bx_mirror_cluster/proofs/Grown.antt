@@ -206,6 +206,7 @@ module _ (parts : Parts) (x : Disks) (past : StorePast) (change : Change) (keeps
       | inr old ↦ keeps.epochs q old d row is
     ];
     owing = keeps.owing;
+    from_members = keeps.from_members;
     own_out = keeps.own_out;
     lasts = keeps.lasts;
     brings = keeps.brings;

@@ -340,6 +340,7 @@ module _ (parts : Parts) (x : Disks) (past : StorePast) (keeps : Keeps parts x p
     ];
     epochs = keeps.epochs;
     owing = keeps.owing;
+    from_members = keeps.from_members;
     own_out = λ m w there is. elim (same_or m n) [
       | inl e ↦ (let now : new.session ≡ Some w.session = sym (ap (λ (q : Streaming). q.session) (at_it m e)) ∙ is in
           let old = same_own w.session now (keeps.left w there) in

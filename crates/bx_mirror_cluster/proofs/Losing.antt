@@ -9,8 +9,10 @@ use Rattle.bx_mirror_packets.specs.DeviceMessages.{Spells}
 use Rattle.bx_mirror_packets.specs.declared.message.DeviceMessage.{DeviceMessage}
 use Rattle.bx_mirror_packets.specs.declared.message.ReadBody.{ReadBody}
 use Rattle.bx_mirror_packets.specs.declared.message.DeviceMessage.TheVariants.{Write, Wrote as WroteOf, Read, Data, Copy, Copied as CopiedOf, Alive}
+use Rattle.bx_mirror_laws.specs.Acting.{FromEpoch}
 use Rattle.bx_mirror_laws.specs.Sides.{Copied, CopyLetter, WriteLetter, Wrote}
-use Rattle.bx_mirror_cluster.specs.Fitting.{IsAnswering, IsComing, IsCopiedTo, IsCopying, IsData, IsReading, IsSettledOn, Keeps, KnownFrom, Nowhere, Parts, StandsFor, StandsOn}
+use Rattle.bx_mirror_client.specs.declared.asking.Asking.{Asking}
+use Rattle.bx_mirror_cluster.specs.Fitting.{IsAnswering, IsComing, IsCopiedTo, IsCopying, IsData, IsReading, IsSettledOn, Keeps, KnownFrom, Nowhere, Parts, StandsFor, StandsOn, WillReadOn}
 
 -- what says something is of the store's layer
 pub of_store : (message : DeviceMessage) (letter : Letter) → Spells message letter.kind letter.body → IsStores letter
@@ -75,6 +77,7 @@ module _ (parts : Parts) (x : Disks) (past : StorePast) (letters : List Letter) 
     askable = keeps.askable;
     epochs = keeps.epochs;
     owing = keeps.owing;
+    from_members = λ letter message there spells. keeps.from_members letter message (fewer.each letter (of_store message letter spells) there) spells;
     own_out = keeps.own_out;
     lasts = keeps.lasts;
     brings = keeps.brings;
@@ -110,3 +113,15 @@ module _ (parts : Parts) (x : Disks) (past : StorePast) (letters : List Letter) 
 
   pub stands_on_lost : (d sector : ℕ) (content : List ℕ) (index : ℕ) → StandsOn parts x past d sector content index → StandsOn parts x (record past { told = record past.told { letters = letters } }) d sector content index
   stands_on_lost d sector content index stands = record { settled = settled_lost d sector content stands.settled; stands = stands_lost (KnownFrom past.told.chain d index) d sector content stands.stands }
+
+  pub reads_lost : (n : ℕ) (a : Asking) (sector : ℕ) (content : List ℕ) → WillReadOn parts x past n a sector content → WillReadOn parts x (record past { told = record past.told { letters = letters } }) n a sector content
+  reads_lost n a sector content will = record {
+    device = will.device;
+    behind_label = will.behind_label;
+    within = will.within;
+    row = will.row;
+    row_is = will.row_is;
+    stands = stands_lost (FromEpoch will.row.epoch) a.device sector content will.stands;
+    coming = λ epoch bytes data_ from below above. will.coming epoch bytes (still_data letters past.told.letters fewer n a.device a.session epoch a.tag bytes data_) from below above;
+    came = will.came;
+  }

@@ -15,16 +15,16 @@ use Rattle.bx_rows.specs.declared.device.DeviceRow.{DeviceRow}
 use Rattle.bx_mirror_laws.specs.Acting.{FromEpoch}
 use Rattle.bx_mirror_laws.specs.Sides.{Among, Copied, CopyLetter, Handing, Side, WriteLetter, Wrote}
 use Rattle.bx_mirror_laws.specs.Sound.{AreCopies, AreHanded, AreOuts, AreRows, AreWrites, AreWrotes, Standing}
-use Rattle.bx_mirror_packets.specs.DeviceMessages.{IsDeviceMessage}
+use Rattle.bx_mirror_packets.specs.DeviceMessages.{Spells}
+use Rattle.bx_mirror_packets.specs.declared.message.DeviceMessage.{DeviceMessage}
 use Rattle.bx_mirror_packets.specs.declared.message.ReadBody.{ReadBody}
 use Rattle.bx_mirror_tables.specs.Lasts.{last_in}
-use Rattle.bx_mirror_tables.specs.Owed.{message_of}
 use Rattle.bx_mirror_tables.specs.declared.answers.Owing.{Owing}
 use Rattle.bx_mirror_member.specs.Standing.{Standing as Serving}
 use Rattle.bx_mirror_client.specs.Sends.{member_at}
 use Rattle.bx_mirror_client.specs.declared.asking.Asking.{Asking}
 use Rattle.bx_mirror_server.specs.Sides.{copied_in, wrote_in}
-use Rattle.bx_mirror_cluster.specs.Fitting.{History, IsAnswering, IsClaimed, IsComing, IsCopiedTo, IsCopying, IsData, IsDeviceSound, IsDrawn, IsOwnOrLeft, IsReading, IsSettledOn, Keeps, KnownFrom, NeedsLabel, Nowhere, Parts, StandsFor, StandsOn, WillReadOn, handings, knows_of, last_row, outs_of, rows_before, side_of}
+use Rattle.bx_mirror_cluster.specs.Fitting.{History, IsAnswering, IsClaimed, IsComing, IsCopiedTo, IsCopying, IsData, IsDeviceSound, IsDrawn, IsFromMember, IsOwing, IsOwnOrLeft, IsReading, IsSettledOn, Keeps, KnownFrom, NeedsLabel, Nowhere, Parts, StandsFor, StandsOn, WillReadOn, handings, knows_of, last_row, outs_of, rows_before, side_of}
 use Rattle.bx_mirror_cluster.proofs.Labels.{label_kept, lengths_at}
 use Rattle.bx_mirror_cluster.specs.MemberSteps.{DeviceHistory, at_device, history_of, served, with_histories, with_member, with_serving}
 
@@ -79,7 +79,8 @@ pub record IsMemberStep (parts : Parts) (x y : Disks) (past : StorePast) (h : Hi
   pub sent : (l : Letter) → Contains letters l → Contains past.told.letters l ⊎ ((l.from ≡ Member (member_at d b)) × (18 < l.kind))
   pub handed_other : (k : ℕ) → k ≢ d → handings k handed ≡ handings k past.told.handed
   pub knew_other : (who : Actor) → who ≢ Member (member_at d b) → knew who ≡ past.told.knew who
-  pub owing : (o : Owing) → Contains m.owed o → IsDeviceMessage (message_of o.answer)
+  pub owing : (o : Owing) → Contains m.owed o → IsOwing (member_at d b) o
+  pub spoken : (l : Letter) (message : DeviceMessage) → Contains letters l → Spells message l.kind l.body → Contains past.told.letters l ⊎ IsFromMember message l.from
   pub lasts : (session : ℕ) → (last_in m.lasts session ≡ 0) ⊎ ((l : WriteLetter) × Among (h.writes d) l × (l.session ≡ session) × (l.sequence ≡ last_in m.lasts session))
   pub wrotes : (w : Wrote) → Among (h.wrotes d) w → Among new.wrotes w
 
@@ -247,10 +248,14 @@ module _ (parts : Parts) (x y : Disks) (past : StorePast) (keeps : Keeps parts x
     askable = keeps.askable;
     epochs = keeps.epochs;
     owing = λ k o there. elim (same_or k n) [
-      | inl e ↦ step.owing o (subst (λ (q : Serving). Contains q.owed o) (member_here k e) there)
+      | inl e ↦ subst (λ (j : ℕ). IsOwing j o) (sym e) (step.owing o (subst (λ (q : Serving). Contains q.owed o) (member_here k e) there))
       | inr e ↦ keeps.owing k o (subst (λ (q : Serving). Contains q.owed o) (member_other k e) there)
     ];
     own_out = keeps.own_out;
+    from_members = λ letter message there spells. elim (step.spoken letter message there spells) [
+      | inl old ↦ keeps.from_members letter message old spells
+      | inr its ↦ its
+    ];
     lasts = lasts_then;
     brings = keeps.brings;
     noted = λ k j epoch c s within is has. wrotes_then j (record { by = c; session = s.session; epoch = epoch; sequence = s.sequence }) (keeps.noted k j epoch c s within is has);

@@ -194,6 +194,7 @@ module _ (parts : Parts) (x : Disks) (past : StorePast) (n : ℕ) (members : ℕ
       | inl e ↦ absurd (nothing o (subst (λ (os : List Owing). Contains os o) (ap (λ (j : ℕ). (members j).owed) e ∙ stops.owed) there))
       | inr e ↦ keeps.owing k o (subst (λ (m : Serving). Contains m.owed o) (stops.others k e) there)
     ];
+    from_members = keeps.from_members;
     own_out = keeps.own_out;
     lasts = λ d b session. elim (same_or (member_at d b) n) [
       | inl e ↦ inl (ap (λ (ls : List Last). last_in ls session) (ap (λ (k : ℕ). (members k).lasts) e ∙ stops.lasts))

@@ -163,6 +163,7 @@ module _ (parts : Parts) (x : Disks) (past : StorePast) (keeps : Keeps parts x p
     ];
     epochs = keeps.epochs;
     owing = keeps.owing;
+    from_members = keeps.from_members;
     own_out = λ m w there is. let old = was_session m w.session is in ap (λ (q : Streaming). out_by q.out) (at_other m old.0) ∙ keeps.own_out m w there old.1;
     lasts = keeps.lasts;
     brings = keeps.brings;

@@ -274,6 +274,9 @@ module _ (parts : Parts) (x : Disks) (past : StorePast) (keeps : Keeps parts x p
   are_reads : AreReads (with_node parts.nodes n next) (read_letters [] (parts.nodes n).node (Some it) (parts.nodes n).rows)
   are_reads = record { kinds = λ letter there. (let asked = is_asked [] (parts.nodes n).node it (parts.nodes n).rows letter there in ap (λ (l : Letter). l.kind) asked.is); each = each }
 
+  pub asked_is : ((parts_asked parts n session device place sectors).nodes n).asks ≡ Some it
+  asked_is = ap (λ (q : Streaming). q.asks) (at_it parts x past keeps n next n refl)
+
   pub read_sent : Keeps (parts_asked parts n session device place sectors) x (past_asked parts past n session device place sectors)
   read_sent = goes_on parts x past keeps (with_node parts.nodes n next) (read_letters [] (parts.nodes n).node (Some it) (parts.nodes n).rows) on are_reads
 

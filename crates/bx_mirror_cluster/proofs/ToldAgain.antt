@@ -26,7 +26,7 @@ use Rattle.bx_mirror_client.specs.declared.sending.Sending.{Sending}
 use Rattle.bx_mirror_client.proofs.Telling.{runs_there, there_runs}
 use Rattle.bx_mirror_packets.specs.declared.message.ReadBody.{ReadBody}
 use Rattle.std.proofs.lemmas.Bool.Decides.{nat_tests}
-use Rattle.bx_mirror_cluster.proofs.Drawn.{drawn_own}
+use Rattle.bx_mirror_cluster.proofs.Drawn.{drawn_own, not_member}
 use Rattle.bx_mirror_cluster.specs.Fitting.{History, IsClaimed, IsComing, IsDeviceSound, IsDrawn, IsReading, IsSettledOn, Keeps, KnownFrom, Nowhere, Parts, StandsFor, StandsOn, WillReadOn, handings, knows_of, last_row, out_by, outs_of, row_or, rows_before, side_of}
 use Rattle.bx_mirror_cluster.specs.GoingOn.{letters_more}
 use Rattle.bx_mirror_cluster.specs.Speaking.{BringsOnce, FitsPacket, IsSpoken, letter_of}
@@ -245,6 +245,10 @@ module _ (parts : Parts) (x : Disks) (past : StorePast) (keeps : Keeps parts x p
     askable = keeps.askable;
     epochs = keeps.epochs;
     owing = keeps.owing;
+    from_members = λ letter message there spells. elim (Contains-append_cases past.told.letters letters letter there) [
+      | inl old ↦ keeps.from_members letter message old spells
+      | inr new ↦ not_member message letter.from (let e = spells.kind_is in let k = low_kinds before c.rows c.node s letter new in omega (arith, e, k))
+    ];
     own_out = keeps.own_out;
     lasts = λ d b session_of_it. elim (keeps.lasts d b session_of_it) [
       | inl zero_is ↦ inl zero_is

@@ -275,6 +275,7 @@ module _ (parts : Parts) (x : Disks) (past : StorePast) (keeps : Keeps parts x p
     askable = λ m a is. keeps.askable m a (sym (kept (λ q. q.asks) refl m) ∙ is);
     epochs = keeps.epochs;
     owing = keeps.owing;
+    from_members = keeps.from_members;
     own_out = λ m w there is. let old = more w there in let before = keeps.own_out m w old.0 (sym (kept (λ q. q.session) refl m) ∙ is) in elim (same_or m n) [
       | inl e ↦ absurd (old.1 (let of_n : (parts.nodes n).session ≡ Some w.session = sym (ap (λ (k : ℕ). (parts.nodes k).session) e) ∙ sym (kept (λ q. q.session) refl m) ∙ is in
           let both : Some w.session ≡ Some s.session = sym of_n ∙ own in cc))

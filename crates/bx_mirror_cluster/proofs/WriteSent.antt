@@ -27,7 +27,7 @@ use Rattle.bx_mirror_client.specs.Streams.{Streaming, sending}
 use Rattle.bx_mirror_client.specs.declared.asking.Asking.{Asking}
 use Rattle.bx_mirror_client.specs.declared.sending.Sending.{Sending}
 use Rattle.bx_mirror_client.proofs.Telling.{runs_there, there_runs}
-use Rattle.bx_mirror_cluster.proofs.Drawn.{drawn_more, drawn_own, drawn_same}
+use Rattle.bx_mirror_cluster.proofs.Drawn.{drawn_more, drawn_own, drawn_same, not_member}
 use Rattle.bx_mirror_packets.specs.declared.message.ReadBody.{ReadBody}
 use Rattle.bx_mirror_cluster.specs.Fitting.{History, IsClaimed, IsComing, IsDeviceSound, IsDrawn, IsOwnOrLeft, IsReading, IsSettledOn, Keeps, KnownFrom, Nowhere, Parts, StandsFor, StandsOn, WillReadOn, handings, knows_of, last_row, out_by, outs_of, row_or, rows_before, side_of}
 use Rattle.bx_mirror_cluster.specs.Speaking.{BringsOnce, FitsPacket, IsSendable, letter_of}
@@ -370,6 +370,10 @@ module _ (parts : Parts) (x : Disks) (past : StorePast) (keeps : Keeps parts x p
     askable = λ m a is. keeps.askable m a (sym (kept (λ q. q.asks) refl m) ∙ is);
     epochs = keeps.epochs;
     owing = keeps.owing;
+    from_members = λ letter message there spells. elim (Contains-append_cases past.told.letters letters letter there) [
+      | inl old ↦ keeps.from_members letter message old spells
+      | inr new ↦ not_member message letter.from (let e = spells.kind_is in let k = low_kinds [] c.rows c.node s letter new in omega (arith, e, k))
+    ];
     own_out = λ m w there is. elim there.is [
       | inl new ↦ (let it : (parts.nodes m).session ≡ Some session = sym (kept (λ q. q.session) refl m) ∙ is ∙ ap (λ (v : Out). Some v.session) new in
           ap (λ (k : ℕ). outs_of nodes_next k) (its_node m it) ∙ out_now ∙ ap Some (sym new))

@@ -58,6 +58,7 @@ module _ (parts : Parts) (x : Disks) (past : StorePast) (sent : Sent) where
     askable = keeps.askable;
     epochs = keeps.epochs;
     owing = keeps.owing;
+    from_members = keeps.from_members;
     own_out = keeps.own_out;
     lasts = keeps.lasts;
     brings = keeps.brings;

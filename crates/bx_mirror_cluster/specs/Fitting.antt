@@ -1,5 +1,5 @@
 -- How mirrored devices fit what was done with them.
-use Rattle.std.specs.Prelude.{◌*◌, ◌≡◌, ◌≢◌, ℕ, ◌+◌, ◌-◌, ◌<◌, ◌≤◌, ◌==◌, ◌⊎◌, not, Bool, true, false, List, [], ◌∷◌, length, Contains, Option, Some, None, slice_get, slice_index, if◌then◌else◌}
+use Rattle.std.specs.Prelude.{◌*◌, ◌≡◌, ◌≢◌, ℕ, ◌+◌, ◌-◌, ◌/◌, ◌<◌, ◌≤◌, ◌==◌, ◌⊎◌, not, Bool, true, false, List, [], ◌∷◌, length, Contains, Option, Some, None, slice_get, slice_index, if◌then◌else◌}
 use Rattle.std.specs.List.{AllByRecursion}
 use Rattle.bx_base.specs.declared.names.Actor.{Actor}
 use Rattle.bx_base.specs.declared.names.Actor.TheVariants.{Member, Node}
@@ -24,12 +24,15 @@ use Rattle.bx_mirror_packets.specs.declared.message.ReadBody.{ReadBody}
 use Rattle.bx_mirror_packets.specs.declared.message.DataBody.{DataBody}
 use Rattle.bx_mirror_packets.specs.declared.message.CopyBody.{CopyBody}
 use Rattle.bx_mirror_packets.specs.declared.message.CopiedBody.{CopiedBody}
-use Rattle.bx_mirror_packets.specs.declared.message.DeviceMessage.TheVariants.{Write, Wrote as WroteOf, Read, Data, Copy, Copied as CopiedOf}
+use Rattle.bx_mirror_packets.specs.declared.message.DeviceMessage.{DeviceMessage}
+use Rattle.bx_mirror_packets.specs.declared.message.DeviceMessage.TheVariants.{Write, Wrote as WroteOf, Read, Data, Copy, Copied as CopiedOf, Alive}
 use Rattle.bx_mirror_laws.specs.Sides.{Among, Copied, CopyLetter, Handing, Out, Side, WriteLetter, Wrote}
 use Rattle.bx_mirror_laws.specs.Acting.{FromEpoch, IsRow, MayLead}
 use Rattle.bx_mirror_laws.specs.Sound.{AreCopies, AreHanded, AreOuts, AreRows, AreWrites, AreWrotes, IsLate, Standing, sent_of}
 use Rattle.bx_mirror_tables.specs.Lasts.{last_in}
 use Rattle.bx_mirror_tables.specs.Owed.{message_of}
+use Rattle.bx_mirror_tables.specs.declared.answers.Answer.{Answer}
+use Rattle.bx_mirror_tables.specs.declared.answers.Answer.TheVariants as answers
 use Rattle.bx_mirror_tables.specs.declared.answers.Owing.{Owing}
 use Rattle.bx_mirror_member.specs.Standing.{Standing as Serving}
 use Rattle.bx_mirror_server.specs.Sides.{copied_in, wrote_in}
@@ -284,6 +287,25 @@ pub record IsDrawn (next boot most session number drawn : ℕ) : Type 0 where
   pub boot_most : boot ≤ most
   pub case : (boot < most) ⊎ (number ≤ drawn)
 
+-- An answer that a member owes fits a packet, and one to a piece of a copy is of the member's device.
+abbrev pub OfDevice : Answer → ℕ → Type 0
+OfDevice (answers.Wrote w) device = Unit {0}
+OfDevice (answers.Copied c) device = c.device ≡ device
+
+pub record IsOwing (n : ℕ) (o : Owing) : Type 0 where
+  pub fits : IsDeviceMessage (message_of o.answer)
+  pub device : OfDevice o.answer (n / 2)
+
+-- Pieces of copies and their answers come from members of their device.
+abbrev pub IsFromMember : DeviceMessage → Actor → Type 0
+IsFromMember (Copy c) from = (b : Bool) × (from ≡ Member (member_at c.device b))
+IsFromMember (CopiedOf c) from = (b : Bool) × (from ≡ Member (member_at c.device b))
+IsFromMember (Write w) from = Unit {0}
+IsFromMember (WroteOf w) from = Unit {0}
+IsFromMember (Read r) from = Unit {0}
+IsFromMember (Data d) from = Unit {0}
+IsFromMember Alive from = Unit {0}
+
 pub record Keeps (parts : Parts) (x : Disks) (past : StorePast) : Type 0 where
   pub history : History
   pub devices : (d : ℕ) → d < parts.made.devices → IsDeviceSound parts x past history d
@@ -299,8 +321,9 @@ pub record Keeps (parts : Parts) (x : Disks) (past : StorePast) : Type 0 where
   pub sendable : (n : ℕ) (s : Sending) → (parts.nodes n).out ≡ Some s → IsSendable parts.made s
   pub askable : (n : ℕ) (a : Asking) → (parts.nodes n).asks ≡ Some a → FitsRead a
   pub epochs : (s : GlobalState) → IsPlace past.told.chain s → (d : ℕ) (row : DeviceRow) → slice_get s.devices d ≡ Some row → Fits row.epoch
-  pub owing : (n : ℕ) (o : Owing) → Contains (parts.members n).owed o → IsDeviceMessage (message_of o.answer)
+  pub owing : (n : ℕ) (o : Owing) → Contains (parts.members n).owed o → IsOwing n o
   pub own_out : (n : ℕ) (w : Out) → Among history.actual w → (parts.nodes n).session ≡ Some w.session → outs_of parts.nodes n ≡ Some w
+  pub from_members : (letter : Letter) (message : DeviceMessage) → Contains past.told.letters letter → Spells message letter.kind letter.body → IsFromMember message letter.from
   -- the last sequence that a member knows of a session is that of a letter
   pub lasts : (d : ℕ) (b : Bool) (session : ℕ) → (last_in (parts.members (member_at d b)).lasts session ≡ 0)
       ⊎ ((l : WriteLetter) × Among (history.writes d) l × (l.session ≡ session) × (l.sequence ≡ last_in (parts.members (member_at d b)).lasts session))

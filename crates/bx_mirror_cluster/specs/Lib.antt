@@ -1,4 +1,5 @@
 pub mod Fitting
+pub mod GoesFurther
 pub mod GoingOn
 pub mod Learning
 pub mod MemberSteps

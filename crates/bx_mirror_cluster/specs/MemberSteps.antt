@@ -1,12 +1,16 @@
 -- What an event of a member leaves of a store.
-use Rattle.std.specs.Prelude.{◌≡◌, ℕ, ◌*◌, ◌<◌, ◌≤◌, ◌==◌, false, List, if◌then◌else◌}
+use Rattle.std.specs.Prelude.{◌≡◌, ℕ, ◌*◌, ◌<◌, ◌≤◌, ◌==◌, false, List, [], Some, slice_get, if◌then◌else◌}
 use Rattle.bx_base.specs.declared.names.Actor.{Actor}
 use Rattle.bx_base.specs.declared.names.Actor.TheVariants.{Member}
 use Rattle.bx_facts.specs.Chains.{IsPlace}
-use Rattle.bx_facts.specs.Writes.{StorePast}
+use Rattle.bx_facts.specs.Writes.{StorePast, store_room}
+use Rattle.bx_facts.specs.declared.input.Input.{Input}
+use Rattle.bx_facts.specs.declared.input.Input.TheVariants.{Packet, Tick, Synced}
 use Rattle.bx_global.specs.declared.change.Change.{Change}
 use Rattle.bx_global.specs.declared.state.GlobalState.{GlobalState}
 use Rattle.bx_post.specs.declared.packets.Letter.{Letter}
+use Rattle.bx_rows.specs.Conditions.{Fits}
+use Rattle.bx_rows.specs.declared.device.DeviceRow.{DeviceRow}
 use Rattle.bx_mirror_laws.specs.Sides.{Copied, CopyLetter, Wrote}
 use Rattle.bx_mirror_member.specs.Standing.{Standing as Serving}
 use Rattle.bx_mirror_cluster.specs.Fitting.{History, Parts}
@@ -45,6 +49,12 @@ with_histories h all = record {
 abbrev pub at_device : History → ℕ → DeviceHistory → ℕ → DeviceHistory
 at_device h d new k = if k == d then new else history_of h k
 
+-- what comes is for this machine
+abbrev pub IsFor : Actor → Input → Type 0
+IsFor at (Packet packet reading) = packet.now.to ≡ at
+IsFor at (Tick reading) = Unit {0}
+IsFor at Synced = Unit {0}
+
 -- What a member is handed: it is up, the state is one of the chain, and no older than what it knew.
 pub record MayServe (parts : Parts) (past : StorePast) (n : ℕ) (known : GlobalState) : Type 0 where
   pub inside : n < 2 * parts.made.devices
@@ -53,3 +63,14 @@ pub record MayServe (parts : Parts) (past : StorePast) (n : ℕ) (known : Global
   pub up : past.told.down (Member n) ≡ false
   pub place : IsPlace past.told.chain known
   pub rises : past.told.knew (Member n) ≤ known.index
+  -- each row has one of the modes, and numbers of the volume fit a packet
+  pub modes : (d : ℕ) (row : DeviceRow) → slice_get known.devices d ≡ Some row → row.mode < 5
+  pub few : parts.made.devices ≤ 4
+  pub room : Fits (store_room parts.made)
+  -- its current piece lies in the device, and where no sync is owed nothing is
+  pub below : (parts.members n).place < store_room parts.made
+  pub quiet : (parts.members n).due ≡ false → (parts.members n).owed ≡ []
+
+-- what a source has once one begins a copy in this epoch: what it reads
+abbrev pub source_with : ℕ → (ℕ → List ℕ) → (ℕ → ℕ → List ℕ) → ℕ → ℕ → List ℕ
+source_with epoch reads source e x = if e == epoch then reads x else source e x

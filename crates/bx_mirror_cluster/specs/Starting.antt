@@ -1,10 +1,14 @@
--- A node starts again.
-use Rattle.std.specs.Prelude.{◌≡◌, ℕ, ◌<◌, true, false}
-use Rattle.bx_base.specs.declared.names.Actor.TheVariants.{Node}
+-- A node or a member starts again.
+use Rattle.std.specs.Prelude.{◌≡◌, ◌≢◌, ℕ, ◌<◌, ◌≤◌, Bool, true, false, [], None}
+use Rattle.bx_base.specs.declared.names.Actor.TheVariants.{Member, Node}
+use Rattle.bx_disk.specs.Disks.{Disks, Stays}
+use Rattle.bx_facts.specs.Disks.{SameMemberLengths}
 use Rattle.bx_facts.specs.Machines.{put_at}
-use Rattle.bx_facts.specs.Writes.{StorePast}
+use Rattle.bx_facts.specs.Writes.{Made, StorePast, member_disk}
+use Rattle.bx_mirror_member.specs.Standing.{Standing}
+use Rattle.bx_mirror_cluster.specs.Fitting.{HasLabel}
 
--- the past once it has a boot, and knows nothing yet
+-- the past once a node has a boot, and knows nothing yet
 abbrev pub starting : StorePast → ℕ → ℕ → StorePast
 starting past n boot = record past {
   told = record past.told {
@@ -13,3 +17,25 @@ starting past n boot = record past {
     down = put_at (Node n) false past.told.down;
   };
 }
+
+-- and once a member has
+abbrev pub awaking : StorePast → ℕ → ℕ → StorePast
+awaking past n boot = record past {
+  told = record past.told {
+    knew = put_at (Member n) 0 past.told.knew;
+    boots = put_at (Member n) boot past.told.boots;
+    down = put_at (Member n) false past.told.down;
+  };
+}
+
+-- A member of a device has started in a boot: it knows and owes nothing, and its disk has its label, reads as it did behind it, and is synced.
+pub record IsStarted (made : Made) (x y : Disks) (d : ℕ) (b : Bool) (boot : ℕ) (m : Standing) : Type 0 where
+  pub boot_is : m.boot ≡ boot
+  pub row : m.row ≡ None
+  pub lasts : m.lasts ≡ []
+  pub owed : m.owed ≡ []
+  pub label : HasLabel made y (member_disk d b)
+  pub reads : (s : ℕ) → 1 ≤ s → y.reads (member_disk d b) s ≡ x.reads (member_disk d b) s
+  pub sure : (s : ℕ) → y.unsure (member_disk d b) s ≡ false
+  pub disks : (disk s : ℕ) → disk ≢ member_disk d b → Stays x y disk s
+  pub lengths : SameMemberLengths x y

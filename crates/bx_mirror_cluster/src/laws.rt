@@ -45,6 +45,8 @@ pub fn nothing_is_out()
     ensures keeps { (parts : Parts) (x : Disks) (past : StorePast) (node session : ℕ) → Keeps parts x past → (parts.nodes node).session ≡ Some session → outs_of parts.nodes node ≡ None → Keeps parts x (without_session past session) }
     ensures settles { (parts : Parts) (x : Disks) (past : StorePast) (node session device sector : ℕ) (content : List ℕ) → Keeps parts x past → (parts.nodes node).session ≡ Some session → outs_of parts.nodes node ≡ None → IsOnly past.writes past.told.greatest device sector content → IsSettledOn parts x past device sector content → IsSettledOn parts x (without_session past session) device sector content }
     ensures stands { (parts : Parts) (x : Disks) (past : StorePast) (node session device sector : ℕ) (content : List ℕ) (index : ℕ) → Keeps parts x past → (parts.nodes node).session ≡ Some session → outs_of parts.nodes node ≡ None → IsOnly past.writes past.told.greatest device sector content → StandsOn parts x past device sector content index → StandsOn parts x (without_session past session) device sector content index }
+    ensures reads { (parts : Parts) (x : Disks) (past : StorePast) (node session reader : ℕ) (read : Asking) (sector : ℕ) (content : List ℕ) → Keeps parts x past → (parts.nodes node).session ≡ Some session → outs_of parts.nodes node ≡ None
+        → IsOnly past.writes past.told.greatest read.device sector content → WillReadOn parts x past reader read sector content → WillReadOn parts x (without_session past session) reader read sector content }
 {}
 
 /// Letters may be lost, and come in any order and number; those of other layers don't matter.
@@ -52,6 +54,7 @@ pub fn letters_are_lost()
     ensures keeps { (parts : Parts) (x : Disks) (past : StorePast) (letters : List Letter) → AreAmong IsStores letters past.told.letters → Keeps parts x past → Keeps parts x (letters_left past letters) }
     ensures settles { (parts : Parts) (x : Disks) (past : StorePast) (letters : List Letter) (device sector : ℕ) (content : List ℕ) → AreAmong IsStores letters past.told.letters → IsSettledOn parts x past device sector content → IsSettledOn parts x (letters_left past letters) device sector content }
     ensures stands { (parts : Parts) (x : Disks) (past : StorePast) (letters : List Letter) (device sector : ℕ) (content : List ℕ) (index : ℕ) → AreAmong IsStores letters past.told.letters → StandsOn parts x past device sector content index → StandsOn parts x (letters_left past letters) device sector content index }
+    ensures reads { (parts : Parts) (x : Disks) (past : StorePast) (letters : List Letter) (reader : ℕ) (read : Asking) (sector : ℕ) (content : List ℕ) → AreAmong IsStores letters past.told.letters → WillReadOn parts x past reader read sector content → WillReadOn parts x (letters_left past letters) reader read sector content }
 {}
 
 /// The chain may grow by each change that is legal, and that was handed back where a store asks for such: all goes on fitting, and so does what was
@@ -108,6 +111,18 @@ pub fn a_read_is_sent()
         → StandsOn parts x past d sector content index → StandsOn (parts_asked parts node session device place sectors) x (past_asked parts past node session device place sectors) d sector content index }
     ensures reads { (parts : Parts) (x : Disks) (past : StorePast) (node session device place sectors reader : ℕ) (read : Asking) (sector : ℕ) (content : List ℕ) → Keeps parts x past → MayRead parts node session device place sectors
         → WillReadOn parts x past reader read sector content → WillReadOn (parts_asked parts node session device place sectors) x (past_asked parts past node session device place sectors) reader read sector content }
+{}
+
+/// What stands for those who know what its node knows is what each answer has that may come to a read that it sends.
+pub fn a_read_has_what_stands()
+    ensures { (parts : Parts) (x : Disks) (past : StorePast) (node session device place sectors : ℕ) (read : Asking) (sector : ℕ) (content : List ℕ) (index : ℕ) → Keeps parts x past → MayRead parts node session device place sectors
+        → ((parts_asked parts node session device place sectors).nodes node).asks ≡ Some read → StandsOn parts x past device sector content index → index ≤ past.told.knew (Node node)
+        → WillReadOn (parts_asked parts node session device place sectors) x (past_asked parts past node session device place sectors) node read sector content }
+{}
+
+/// The last state has the devices that there are, and each member that an audit would read has its label, surely, and all its sectors.
+pub fn members_are_labelled()
+    ensures { (parts : Parts) (x : Disks) (past : StorePast) → Keeps parts x past → IsOfStore parts.made x (last past.told.chain) }
 {}
 
 /// The answer to a node's read is taken; and an acknowledgement that comes of its write is noted, where the write isn't done by it.

@@ -14,7 +14,7 @@ use Rattle.bx_facts.specs.Chains.{AreLegal, HasRow, IsPlace, LivesIn, last, olde
 use Rattle.bx_facts.specs.Holds.{Hold, Holds, KeepsHolds, OwnersPast}
 use Rattle.bx_facts.specs.Inputs.{greatest_with}
 use Rattle.bx_facts.specs.Machines.{is_same, put_at}
-use Rattle.bx_facts.specs.Writes.{GoesOn, IsDone, Sent}
+use Rattle.bx_facts.specs.Writes.{Asked, IsDone, IsOnly, Sent}
 use Rattle.bx_facts.proofs.Machines.{is_itself, is_one}
 use Rattle.bx_global.specs.declared.change.Change.{Change}
 use Rattle.bx_global.specs.declared.state.GlobalState.{GlobalState}
@@ -82,7 +82,9 @@ module _ {G O S T : Type 0} (g : register.Ghosts G) (o : owners.Ghosts O) (st : 
       (own : (node : ℕ) → who ≢ Node node → o.own owners_then node ≡ o.own owners_are node)
       (mine : (node : ℕ) → who ≡ Node node → o.own owners_then node ≡ session_by o.by_boot s node (clocks.boots who))
       (store_keeps : st.keeps store_then y then_is.store)
-      (goes : GoesOn c.store.writes c.store.told.greatest (st.asked store_is) (st.settled store_is x c.store) (st.settled store_then y then_is.store) (st.will_read store_is x c.store) (st.will_read store_then y then_is.store) (st.stands store_is x c.store) (st.stands store_then y then_is.store))
+      (standing : (d sector : ℕ) (content : List ℕ) (index : ℕ) → IsOnly c.store.writes c.store.told.greatest d sector content → st.stands store_is x c.store d sector content index → st.stands store_then y then_is.store d sector content index)
+      (reading : (node sector : ℕ) (content : List ℕ) (asks : Asked) → st.asked store_is node ≡ Some asks → st.asked store_then node ≡ Some asks → IsOnly c.store.writes c.store.told.greatest asks.device sector content
+      → st.will_read store_is x c.store node sector content → st.will_read store_then y then_is.store node sector content)
       (store_own : (node : ℕ) → who ≢ Node node → st.own store_then node ≡ st.own store_is node)
       (store_mine : (node : ℕ) → who ≡ Node node → st.own store_then node ≡ session_by st.by_boot s node (clocks.boots who))
       (made : st.made store_then ≡ st.made store_is) (labels : LabelsStand (st.made store_is) y)
@@ -154,7 +156,7 @@ module _ {G O S T : Type 0} (g : register.Ghosts G) (o : owners.Ghosts O) (st : 
         by_other none = subst (λ (k : Known). StandsAt g o st Stands Step register_then owners_then store_then y k then_is tree)
             (λ i. record { letters = then_letters; clocks = heard_clocks clocks input; held = λ n. shown (slice_get machines n) (sym (own n (not_it who none n)) i); hints = λ n. hinted (slice_get machines n) })
             (heard_by g o st Stands Step register_is register_then owners_are owners_then store_is store_then x y (known_of g o st Stands Step register_is owners_are store_is x letters clocks machines) c tree who s.index input owners_change store_change proposal then_letters holding
-            at_first none register_keeps rises knows proposes owners_keep keeps (λ n. own n (not_it who none n)) store_keeps goes.standing (λ n. store_own n (not_it who none n)) made labels apart)
+            at_first none register_keeps rises knows proposes owners_keep keeps (λ n. own n (not_it who none n)) store_keeps standing (λ n. store_own n (not_it who none n)) made labels apart)
 
         by_node : (node : ℕ) → who ≡ Node node → StandsAt g o st Stands Step register_then owners_then store_then y (known_of g o st Stands Step register_then owners_then store_then y then_letters (heard_clocks clocks input) machines) then_is tree
         by_node node same = subst (λ (a : Actor). StandsAt g o st Stands Step register_then owners_then store_then y (known_of g o st Stands Step register_then owners_then store_then y then_letters (heard_clocks clocks input) machines)
@@ -165,7 +167,7 @@ module _ {G O S T : Type 0} (g : register.Ghosts G) (o : owners.Ghosts O) (st : 
             (subst (λ (a : Actor). o.keeps owners_then (record c.owners { told = told_then c.owners.told a s.index input owners_change then_letters; holding = holding })) same owners_keep) keeps
             (λ other ne. own other (λ e. ne (sym same ∙ e))) (mine node same ∙ ap (λ (a : Actor). session_by o.by_boot s node (clocks.boots a)) same)
             (subst (λ (a : Actor). st.keeps store_then y (record c.store { told = told_then c.store.told a s.index input store_change then_letters })) same store_keeps)
-            (λ d sector content index only was. subst (λ (a : Actor). st.stands store_then y (record c.store { told = told_then c.store.told a s.index input store_change then_letters }) d sector content index) same (goes.standing d sector content index only was))
+            (λ d sector content index only was. subst (λ (a : Actor). st.stands store_then y (record c.store { told = told_then c.store.told a s.index input store_change then_letters }) d sector content index) same (standing d sector content index only was))
             (λ other ne. store_own other (λ e. ne (sym same ∙ e))) (store_mine node same ∙ ap (λ (a : Actor). session_by st.by_boot s node (clocks.boots a)) same)
             made labels apart (λ other ne. ap (λ (own_it : Option ℕ). shown (slice_get machines other) own_it) (own other (λ e. ne (sym same ∙ e))))
             (λ session is live. shows node session same is live))
@@ -225,8 +227,8 @@ module _ {G O S T : Type 0} (g : register.Ghosts G) (o : owners.Ghosts O) (st : 
         → NodesStand g o st Stands Step register_then owners_then store_then y then_letters (heard_clocks clocks input) machines then_is tree
     heard others here = passing.passes g o st Stands Step register_is register_then owners_are owners_then store_is store_then x y letters then_letters clocks (heard_clocks clocks input) machines c tree then_is.register then_is.owners then_is.store
         at_first about_first given_first allowed legal at_then made keeps (λ block. omega arith) (λ write has. has) (rises_then c.store.told.greatest input)
-        (λ node row of. (record { up = of.up; of = of.of; boot = of.boot }, more node)) goes.standing
-        (λ node its sector content asks is asks_it only was. goes.reading node sector content asks asks_it only was)
+        (λ node row of. (record { up = of.up; of = of.of; boot = of.boot }, more node)) standing
+        (λ node its sector content asks is asks_it asks_then only was. reading node sector content asks asks_it asks_then only was)
         (λ node its row found alive of had. kept node its row found alive had) quiet (λ node its is. out node) (λ node its is. asked node)
         (λ node write is was none live. let had = own_of clocks.down (o.own owners_then) node write.session is in done node write was none (sym (at_then.parts.own node had.0) ∙ had.1) live)
         lives alone (λ node its is. told node its others here is)

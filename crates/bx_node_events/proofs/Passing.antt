@@ -72,7 +72,7 @@ module _ {G O S T : Type 0} (g : register.Ghosts G) (o : owners.Ghosts O) (st : 
       (later : c.store.told.greatest ≤ sp.told.greatest)
       (fewer : (node : ℕ) (row : SessionRow) → IsOfNode o.by_boot clocks_then node row → IsOfNode o.by_boot clocks node row × (c.store.told.knew (Node node) ≤ sp.told.knew (Node node)))
       (standing : (d s : ℕ) (content : List ℕ) (index : ℕ) → IsOnly c.store.writes c.store.told.greatest d s content → st.stands store_is x c.store d s content index → st.stands store_then y sp d s content index)
-      (reading : (node its s : ℕ) (content : List ℕ) (asks : Asked) → own_then node ≡ Some its → st.asked store_is node ≡ Some asks → IsOnly c.store.writes c.store.told.greatest asks.device s content
+      (reading : (node its s : ℕ) (content : List ℕ) (asks : Asked) → own_then node ≡ Some its → st.asked store_is node ≡ Some asks → st.asked store_then node ≡ Some asks → IsOnly c.store.writes c.store.told.greatest asks.device s content
       → st.will_read store_is x c.store node s content → st.will_read store_then y sp node s content)
       (kept : (node its : ℕ) (row : SessionRow) → row_in (last c.register.chain).sessions its ≡ Some row → row.dead ≡ 0 → IsOfNode o.by_boot clocks_then node row → own node ≡ Some its → own_then node ≡ Some its)
       (quiet : (node its : ℕ) → own_then node ≡ Some its → own node ≢ Some its → (st.out_of store_then node ≡ None) × (st.asked store_then node ≡ None))
@@ -173,7 +173,7 @@ module _ {G O S T : Type 0} (g : register.Ghosts G) (o : owners.Ghosts O) (st : 
             (λ none. inl (⊎_elim (λ gone. gone) (λ same. same ∙ none) (asked node its own)))
             (λ some. ⊎_elim
             (λ gone. inl gone)
-            (λ same. inr (same ∙ some.0, λ i few. reading node its ((block_place block devices).1 + i) (c.before (block_place block devices).0 ((block_place block devices).1 + i)) (home_of devices block) own some.0 (at_first.logs.homes block was.is was.unlogged i few).only (some.1 i few)))
+            (λ same. inr (same ∙ some.0, λ i few. reading node its ((block_place block devices).1 + i) (c.before (block_place block devices).0 ((block_place block devices).1 + i)) (home_of devices block) own some.0 (same ∙ some.0) (at_first.logs.homes block was.is was.unlogged i few).only (some.1 i few)))
             (asked node its own))
             was.asked;
       };

@@ -13,7 +13,7 @@ use Rattle.bx_facts.specs.Chains.{AreLegal, Chain, GrowsBy, HasOwnBoot, HasRow, 
 use Rattle.bx_facts.specs.Holds.{Hold, Holding, KeepsHolds, OwnersPast, owners_grown}
 use Rattle.bx_facts.specs.Inputs.{IsComing, IsSteady}
 use Rattle.bx_facts.specs.Pasts.{MayTake, RegisterPast, Told}
-use Rattle.bx_facts.specs.Writes.{GoesOn, IsDone, IsOnly, Sent, StorePast, store_grown}
+use Rattle.bx_facts.specs.Writes.{Asked, IsDone, IsOnly, Sent, StorePast}
 use Rattle.bx_global.specs.declared.change.Change.{Change}
 use Rattle.bx_global.specs.declared.state.GlobalState.{GlobalState}
 use Rattle.bx_global.specs.Table.{IsLegal}
@@ -99,20 +99,23 @@ module _ {G O S T : Type 0} (g : register.Ghosts G) (o : owners.Ghosts O) (st : 
     given = stands.given;
   }
 
--- What the owners' clauses say of what they were handed, of each past; and the store's.
-pub record TakesOwners {O : Type 0} (o : owners.Ghosts O) (old new : O) (known : GlobalState) (who : Actor) (input : Input) (change : Option Change) (letters : List Letter) : Type 0 where
-  pub keeps : (past : OwnersPast) → o.keeps old past → MayTake past.told known who input → Holding (KeepsHolds past.holding) (o.keeps new) (record past { told = told_then past.told who known.index input change letters })
-  pub session : (past : OwnersPast) (node : ℕ) → o.keeps old past → MayTake past.told known who input → who ≡ Node node → o.own new node ≡ session_by o.by_boot known node (past.told.boots who)
+-- What the owners' clauses say of an input that they take, of this past, with these letters under way then; and the store's.
+pub record TakesOwners {O : Type 0} (o : owners.Ghosts O) (old new : O) (past : OwnersPast) (known : GlobalState) (who : Actor) (input : Input) (change : Option Change) (letters : List Letter) : Type 0 where
+  pub keeps : MayTake past.told known who input → Holding (KeepsHolds past.holding) (o.keeps new) (record past { told = told_then past.told who known.index input change letters })
+  pub session : (node : ℕ) → MayTake past.told known who input → who ≡ Node node → o.own new node ≡ session_by o.by_boot known node (past.told.boots who)
   pub others : (node : ℕ) → who ≢ Node node → o.own new node ≡ o.own old node
 
-pub record TakesStore {S : Type 0} (st : store.Ghosts S) (old new : S) (y z : Disks) (known : GlobalState) (who : Actor) (input : Input) (change : Option Change) (letters : List Letter) : Type 0 where
-  pub keeps : (past : StorePast) → st.keeps old y past → MayTake past.told known who input → st.keeps new z (record past { told = told_then past.told who known.index input change letters })
-  pub goes_on : (past : StorePast) → st.keeps old y past → MayTake past.told known who input
-      → GoesOn past.writes past.told.greatest (st.asked old) (st.settled old y past) (st.settled new z (record past { told = told_then past.told who known.index input change letters }))
-      (st.will_read old y past) (st.will_read new z (record past { told = told_then past.told who known.index input change letters })) (st.stands old y past) (st.stands new z (record past { told = told_then past.told who known.index input change letters }))
-  pub done : (past : StorePast) (node : ℕ) (write : Sent) → st.keeps old y past → MayTake past.told known who input → st.out_of old node ≡ Some write → st.out_of new node ≡ None → st.own new node ≡ Some write.session → LivesIn (last past.told.chain) write.session
-      → IsDone (st.stands new z (record past { told = told_then past.told who known.index input change letters })) ((told_then past.told who known.index input change letters).knew (Node node)) write
-  pub session : (past : StorePast) (node : ℕ) → st.keeps old y past → MayTake past.told known who input → who ≡ Node node → st.own new node ≡ session_by st.by_boot known node (past.told.boots who)
+abbrev pub store_then_is : StorePast → GlobalState → Actor → Input → Option Change → List Letter → StorePast
+store_then_is past known who input change letters = record past { told = told_then past.told who known.index input change letters }
+
+pub record TakesStore {S : Type 0} (st : store.Ghosts S) (old new : S) (y z : Disks) (past : StorePast) (known : GlobalState) (who : Actor) (input : Input) (change : Option Change) (letters : List Letter) : Type 0 where
+  pub keeps : MayTake past.told known who input → st.keeps new z (store_then_is past known who input change letters)
+  pub standing : (d s : ℕ) (content : List ℕ) (index : ℕ) → MayTake past.told known who input → IsOnly past.writes past.told.greatest d s content → st.stands old y past d s content index → st.stands new z (store_then_is past known who input change letters) d s content index
+  pub reading : (node s : ℕ) (content : List ℕ) (asks : Asked) → MayTake past.told known who input → st.asked old node ≡ Some asks → st.asked new node ≡ Some asks → IsOnly past.writes past.told.greatest asks.device s content
+      → st.will_read old y past node s content → st.will_read new z (store_then_is past known who input change letters) node s content
+  pub done : (node : ℕ) (write : Sent) → MayTake past.told known who input → st.out_of old node ≡ Some write → st.out_of new node ≡ None → st.own new node ≡ Some write.session → LivesIn (last past.told.chain) write.session
+      → IsDone (st.stands new z (store_then_is past known who input change letters)) ((store_then_is past known who input change letters).told.knew (Node node)) write
+  pub session : (node : ℕ) → MayTake past.told known who input → who ≡ Node node → st.own new node ≡ session_by st.by_boot known node (past.told.boots who)
   pub others : (node : ℕ) → who ≢ Node node → st.own new node ≡ st.own old node
   pub new_session : (node : ℕ) → st.own new node ≢ st.own old node → st.asked new node ≡ None
   pub out : (node : ℕ) → (st.out_of new node ≡ None) ⊎ (st.out_of new node ≡ st.out_of old node)
@@ -128,8 +131,8 @@ module _ {G O S T : Type 0} (g : register.Ghosts G) (o : owners.Ghosts O) (st : 
     (given : (node session : ℕ) (machine : MachineView) → slice_get machines node ≡ Some machine → machine.session ≡ Some session → session < (last c.register.chain).next_session)
     (allowed : AreAllowed c.register.chain) (legal : AreLegal c.register.chain.first c.register.chain.changes)
     (up : clocks.down who ≡ false) (place : IsPlace c.register.chain (g.knows register_heard who)) (steady : IsSteady clocks.greatest input) (comes : IsComing heard_letters input)
-    (takes_owners : TakesOwners o owners_are owners_then (g.knows register_heard who) who input owners_change then_letters)
-    (takes_store : TakesStore st store_is store_then y z (g.knows register_heard who) who input store_change then_letters)
+    (takes_owners : TakesOwners o owners_are owners_then c.owners (g.knows register_heard who) who input owners_change then_letters)
+    (takes_store : TakesStore st store_is store_then y z c.store (g.knows register_heard who) who input store_change then_letters)
     (register_keeps : g.keeps register_then z (record c.register { letters = then_letters; proposed = with_change proposal c.register.proposed }))
     (same_knows : (other : Actor) → g.knows register_then other ≡ g.knows register_heard other)
     (proposes : (change : Change) → proposal ≡ Some change → IsProposal (with_change owners_change c.owners.told.handed) (with_change store_change c.store.told.handed) change)
@@ -164,7 +167,7 @@ module _ {G O S T : Type 0} (g : register.Ghosts G) (o : owners.Ghosts O) (st : 
   }
 
   holds : Holding (KeepsHolds c.owners.holding) (o.keeps owners_then) (record c.owners { told = told_then c.owners.told who (g.knows register_heard who).index input owners_change then_letters })
-  holds = takes_owners.keeps c.owners at.parts.owners_keep may_owners
+  holds = takes_owners.keeps may_owners
 
   -- The nodes stand.
   pub takes : (course : Course) × (course.register.chain ≡ c.register.chain) × NodesStand g o st Stands Step register_then owners_then store_then z then_letters (heard_clocks clocks input) machines course tree
@@ -174,11 +177,11 @@ module _ {G O S T : Type 0} (g : register.Ghosts G) (o : owners.Ghosts O) (st : 
     tighten g o st Stands Step register_then owners_then store_then z then_letters (heard_clocks clocks input) machines _ tree register_keeps
         (hearing.heard (loose g) o st Stands Step register_heard register_then owners_are owners_then store_is store_then y z heard_letters then_letters clocks machines c tree who (g.knows register_heard who) input owners_change store_change proposal holds.holding at about given allowed legal up place (at.parts.store_knew who)
         tt (λ other. let e = ap (λ (one : GlobalState). one.index) (same_knows other) in omega (arith, e)) (let e = ap (λ (one : GlobalState). one.index) (same_knows who) in omega (arith, e)) proposes holds.stands holds.may
-        takes_owners.others (λ node same. takes_owners.session c.owners node at.parts.owners_keep may_owners same ∙ ap (λ (n : ℕ). session_by o.by_boot (g.knows register_heard who) node n) (at.pasts.owners_boots who up))
-        (takes_store.keeps c.store at.parts.store_keeps may_store) (takes_store.goes_on c.store at.parts.store_keeps may_store)
-        takes_store.others (λ node same. takes_store.session c.store node at.parts.store_keeps may_store same ∙ ap (λ (n : ℕ). session_by st.by_boot (g.knows register_heard who) node n) (at.pasts.store_boots who up))
+        takes_owners.others (λ node same. takes_owners.session node may_owners same ∙ ap (λ (n : ℕ). session_by o.by_boot (g.knows register_heard who) node n) (at.pasts.owners_boots who up))
+        (takes_store.keeps may_store) (λ d sector content index only was. takes_store.standing d sector content index may_store only was) (λ node sector content asks is still only was. takes_store.reading node sector content asks may_store is still only was)
+        takes_store.others (λ node same. takes_store.session node may_store same ∙ ap (λ (n : ℕ). session_by st.by_boot (g.knows register_heard who) node n) (at.pasts.store_boots who up))
         takes_store.made labels apart own_out own_out_then takes_store.new_session takes_store.out takes_store.asked
-        (λ node write is none own live. takes_store.done c.store node write at.parts.store_keeps may_store is none own (subst (λ (chain : Chain). LivesIn (last chain) write.session) (sym at.pasts.store_chain) live))
+        (λ node write is none own live. takes_store.done node write may_store is none own (subst (λ (chain : Chain). LivesIn (last chain) write.session) (sym at.pasts.store_chain) live))
         lives alone
         (λ other one own differ. let low = told other one own differ in let e = ap (λ (s : GlobalState). s.index) (same_knows (Node other)) in omega (arith, low, e)) (let e = ap (λ (one : GlobalState). one.index) (same_knows who) in omega (arith, e))),
   )

@@ -14,7 +14,7 @@ use Rattle.bx_facts.specs.Chains.{AreLegal, HasRow, IsPlace, LivesIn, last, olde
 use Rattle.bx_facts.specs.Holds.{Hold, Holds, KeepsHolds, OwnersPast}
 use Rattle.bx_facts.specs.Inputs.{greatest_with}
 use Rattle.bx_facts.specs.Machines.{is_same, put_at}
-use Rattle.bx_facts.specs.Writes.{Asked, IsDone, IsOnly, Sent}
+use Rattle.bx_facts.specs.Writes.{Asked, IsOnly, Sent, WritesTo}
 use Rattle.bx_facts.proofs.Machines.{is_itself, is_one}
 use Rattle.bx_global.specs.declared.change.Change.{Change}
 use Rattle.bx_global.specs.declared.state.GlobalState.{GlobalState}
@@ -59,7 +59,7 @@ not_it (Replica n) none node e = cc
 not_it (Server n) none node e = cc
 not_it (Member n) none node e = cc
 
-rises_then : (a : ℕ) (input : Input) → a ≤ greatest_with a input
+pub rises_then : (a : ℕ) (input : Input) → a ≤ greatest_with a input
 rises_then a (Packet packet reading) = omega arith
 rises_then a (Tick reading) = omega arith
 rises_then a Synced = omega arith
@@ -93,7 +93,7 @@ module _ {G O S T : Type 0} (g : register.Ghosts G) (o : owners.Ghosts O) (st : 
       (new_session : (node : ℕ) → st.own store_then node ≢ st.own store_is node → st.asked store_then node ≡ None)
       (out : (node : ℕ) → (st.out_of store_then node ≡ None) ⊎ (st.out_of store_then node ≡ st.out_of store_is node)) (asked : (node : ℕ) → (st.asked store_then node ≡ None) ⊎ (st.asked store_then node ≡ st.asked store_is node))
       (done : (node : ℕ) (write : Sent) → st.out_of store_is node ≡ Some write → st.out_of store_then node ≡ None → st.own store_then node ≡ Some write.session → LivesIn (last c.register.chain) write.session
-      → IsDone (st.stands store_then y then_is.store) (then_is.store.told.knew (Node node)) write)
+      → (d sector : ℕ) (content : List ℕ) → WritesTo write d sector content → IsOnly then_is.store.writes then_is.store.told.greatest d sector content → st.stands store_then y then_is.store d sector content (then_is.store.told.knew (Node node)))
       (lives : (session end : ℕ) → Contains c.owners.leases (session, end) → c.owners.told.greatest ≤ end + 500 → LivesIn (last c.register.chain) session)
       (alone : (one other block : ℕ) (hold : Hold) → LivesIn (last c.register.chain) one → HasRow (last c.register.chain) other → c.owners.holding one block ≡ Some hold → oldest c.register.chain ≤ other) where
     -- a session that was the node's and lives is its still

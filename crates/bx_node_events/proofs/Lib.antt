@@ -1,6 +1,7 @@
 pub mod Acting
 pub mod Asked
 pub mod Begun
+pub mod Clauses
 pub mod Decided
 pub mod Gated
 pub mod Grown

@@ -10,7 +10,7 @@ use Rattle.bx_facts.specs.declared.store.Store as store
 use Rattle.bx_facts.specs.Chains.{AreLegal, HasRow, LivesIn, last, oldest}
 use Rattle.bx_facts.specs.Holds.{Hold, Holds, KeepsHolds, OwnersPast}
 use Rattle.bx_facts.specs.Pasts.{RegisterPast}
-use Rattle.bx_facts.specs.Writes.{Asked, IsDone, IsOnly, IsOver, Made, MayWrite, Sent, StorePast, WritesIn, WritesTo}
+use Rattle.bx_facts.specs.Writes.{Asked, IsOnly, IsOver, Made, MayWrite, Sent, StorePast, WritesIn, WritesTo}
 use Rattle.bx_global.specs.Allowed.{IsAllowed}
 use Rattle.bx_node_machines.specs.Machines.{AreAbout, IsAbout, IsFetched, IsFlying, IsLanded, IsWriting, MachineView, Scene, home_of}
 use Rattle.bx_node_machines.specs.Nodes.{IsOfNode, NodesStand, hinted, known_of, scene_of, shown}
@@ -78,7 +78,8 @@ module _ {G O S T : Type 0} (g : register.Ghosts G) (o : owners.Ghosts O) (st : 
       (quiet : (node its : ℕ) → own_then node ≡ Some its → own node ≢ Some its → (st.out_of store_then node ≡ None) × (st.asked store_then node ≡ None))
       (out : (node its : ℕ) → own_then node ≡ Some its → (st.out_of store_then node ≡ None) ⊎ (st.out_of store_then node ≡ st.out_of store_is node))
       (asked : (node its : ℕ) → own_then node ≡ Some its → (st.asked store_then node ≡ None) ⊎ (st.asked store_then node ≡ st.asked store_is node))
-      (done : (node : ℕ) (write : Sent) → own_then node ≡ Some write.session → st.out_of store_is node ≡ Some write → st.out_of store_then node ≡ None → LivesIn (last c.register.chain) write.session → IsDone (st.stands store_then y sp) (sp.told.knew (Node node)) write)
+      (done : (node : ℕ) (write : Sent) → own_then node ≡ Some write.session → st.out_of store_is node ≡ Some write → st.out_of store_then node ≡ None → LivesIn (last c.register.chain) write.session
+      → (d s : ℕ) (content : List ℕ) → WritesTo write d s content → IsOnly sp.writes sp.told.greatest d s content → st.stands store_then y sp d s content (sp.told.knew (Node node)))
       (lives : (session end : ℕ) → Contains c.owners.leases (session, end) → c.owners.told.greatest ≤ end + 500 → LivesIn (last c.register.chain) session)
       (alone : (one other block : ℕ) (hold : Hold) → LivesIn (last c.register.chain) one → HasRow (last c.register.chain) other → c.owners.holding one block ≡ Some hold → oldest c.register.chain ≤ other) where
     abbrev devices : ℕ
@@ -124,8 +125,8 @@ module _ {G O S T : Type 0} (g : register.Ghosts G) (o : owners.Ghosts O) (st : 
         → (d s : ℕ) (content : List ℕ) → WritesIn runs d s content → SureBy (st.made store_is) d s content
     done_sure node its row runs own is alive touches flying none d s content w = record {
       index = sp.told.knew (Node node);
-      is = (done node flying.write (own ∙ ap (λ (n : ℕ). Some n) (sym flying.whose)) flying.is_out none (subst (λ (n : ℕ). LivesIn (last c.register.chain) n) (sym flying.whose) its_lives)).each d s content (subst (λ (l : List Run). WritesIn l d s content) (sym flying.runs_are) w);
-      only = record { each = λ other brings has to. by_session other brings (sent other has) to (might.each other d s content brings (sent other has) to (subst (λ (l : List Run). WritesIn l d s content) (sym flying.runs_are) w)) };
+      is = done node flying.write (own ∙ ap (λ (n : ℕ). Some n) (sym flying.whose)) flying.is_out none (subst (λ (n : ℕ). LivesIn (last c.register.chain) n) (sym flying.whose) its_lives) d s content (subst (λ (l : List Run). WritesIn l d s content) (sym flying.runs_are) w) only_it;
+      only = only_it;
       within = within_stays (st.made store_is).devices (st.made store_is).areas c.register.chain c.owners.holding op.holding c.owners.floor op.floor (IsOfNode o.by_boot clocks_then) (IsOfNode o.by_boot clocks_then) (λ n. sp.told.knew (Node n)) (λ n. sp.told.knew (Node n))
           keeps rises (λ n session one found lives_too of. (of, omega arith)) d s (sp.told.knew (Node node))
           (reaches (st.made store_is).devices (st.made store_is).areas at_first.logs.volume c.register.chain allowed legal c.owners.holding c.owners.floor (IsOfNode o.by_boot clocks_then) (λ n. sp.told.knew (Node n)) c.logs c.slots at_first.rights
@@ -156,6 +157,9 @@ module _ {G O S T : Type 0} (g : register.Ghosts G) (o : owners.Ghosts O) (st : 
             let e : other ≡ flying.write = flying.only other has (same ∙ flying.whose) in
             inl (flying.once d s content brings w (subst (λ (l : List Run). WritesIn l d s brings) flying.runs_are (subst (λ (one : Sent). WritesTo one d s brings) e to)))
         by_session other brings has to (inr over) = inr (let a = over.0 in omega (arith, a, later))
+
+        only_it : IsOnly sp.writes sp.told.greatest d s content
+        only_it = record { each = λ other brings has to. by_session other brings (sent other has) to (might.each other d s content brings (sent other has) to (subst (λ (l : List Run). WritesIn l d s content) (sym flying.runs_are) w)) }
 
     leaves : (node its : ℕ) (row : SessionRow) → own node ≡ Some its → own_then node ≡ Some its → row_in (last c.register.chain).sessions its ≡ Some row → row.dead ≡ 0
         → Leaves (st.made store_is).devices (st.made store_is).areas (Touches its) Sure_before (SureBy (st.made store_is)) (st.will_read store_is x c.store node) (st.will_read store_then y sp node) Before Then node its row.slot

@@ -13,7 +13,7 @@ use Rattle.bx_facts.specs.Chains.{AreLegal, Chain, GrowsBy, HasOwnBoot, HasRow, 
 use Rattle.bx_facts.specs.Holds.{Hold, Holding, KeepsHolds, OwnersPast, owners_grown}
 use Rattle.bx_facts.specs.Inputs.{IsComing, IsSteady}
 use Rattle.bx_facts.specs.Pasts.{MayTake, RegisterPast, Told}
-use Rattle.bx_facts.specs.Writes.{Asked, IsDone, IsOnly, Sent, StorePast}
+use Rattle.bx_facts.specs.Writes.{Asked, IsOnly, Sent, StorePast, WritesTo}
 use Rattle.bx_global.specs.declared.change.Change.{Change}
 use Rattle.bx_global.specs.declared.state.GlobalState.{GlobalState}
 use Rattle.bx_global.specs.Table.{IsLegal}
@@ -114,7 +114,8 @@ pub record TakesStore {S : Type 0} (st : store.Ghosts S) (old new : S) (y z : Di
   pub reading : (node s : ℕ) (content : List ℕ) (asks : Asked) → MayTake past.told known who input → st.asked old node ≡ Some asks → st.asked new node ≡ Some asks → IsOnly past.writes past.told.greatest asks.device s content
       → st.will_read old y past node s content → st.will_read new z (store_then_is past known who input change letters) node s content
   pub done : (node : ℕ) (write : Sent) → MayTake past.told known who input → st.out_of old node ≡ Some write → st.out_of new node ≡ None → st.own new node ≡ Some write.session → LivesIn (last past.told.chain) write.session
-      → IsDone (st.stands new z (store_then_is past known who input change letters)) ((store_then_is past known who input change letters).told.knew (Node node)) write
+      → (d s : ℕ) (content : List ℕ) → WritesTo write d s content → IsOnly past.writes (store_then_is past known who input change letters).told.greatest d s content
+      → st.stands new z (store_then_is past known who input change letters) d s content ((store_then_is past known who input change letters).told.knew (Node node))
   pub session : (node : ℕ) → MayTake past.told known who input → who ≡ Node node → st.own new node ≡ session_by st.by_boot known node (past.told.boots who)
   pub others : (node : ℕ) → who ≢ Node node → st.own new node ≡ st.own old node
   pub new_session : (node : ℕ) → st.own new node ≢ st.own old node → st.asked new node ≡ None

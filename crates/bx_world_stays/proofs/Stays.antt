@@ -42,7 +42,7 @@ has_stays : (old new : Holds) (limit session at : ℕ) → KeepsHolds old new �
 has_stays old new limit session at keeps (inl own) = inl (exclusive_stays old new session at keeps own)
 has_stays old new limit session at keeps (inr less) = inr less
 
-only_stays : (writes : List Sent) (before after d s : ℕ) (content : List ℕ) → before ≤ after → IsOnly writes before d s content → IsOnly writes after d s content
+pub only_stays : (writes : List Sent) (before after d s : ℕ) (content : List ℕ) → before ≤ after → IsOnly writes before d s content → IsOnly writes after d s content
 only_stays writes before after d s content later only = record { each = λ write other there writes_it. ⊎_elim (λ same. inl same) (λ over. inr (omega (arith, later, over))) (only.each write other there writes_it) }
 
 module _ (devices areas : ℕ) (chain : Chain) (old new : Holds) (floor floor_then : ℕ → ℕ) (IsOf IsOf_then : ℕ → SessionRow → Type 0) (knew knew_then : ℕ → ℕ)

@@ -5,7 +5,7 @@ ghost use Rattle.std.specs.List.{AllByRecursion};
 ghost use Rattle.bx_layout.specs.Blocks.{HasParts, block_text};
 ghost use Rattle.bx_node_cache.specs.Kept.{AreHomesOf, Commits, LeavesHint, OnlyHinted, OnlyKept, Settles, away_in, held_in, hint_in, home_runs, kept_in};
 ghost use Rattle.bx_node_cache.specs.Shares.{shares_held};
-ghost use Rattle.bx_places.specs.Places.{IsBlock, IsVolume};
+ghost use Rattle.bx_places.specs.Places.{IsBlock, IsVolume, block_place};
 ghost use Rattle.bx_redo.specs.Homes.{home_run};
 
 use bx_base::{Mode, OutOfMemory, Raw};
@@ -197,11 +197,21 @@ impl Cache {
         settle_all(&mut self.kept);
     }
 
+    /// Where a block stands: its device, and the first of its nine sectors there. It takes no memory.
+    pub fn place(&self, at: u64) -> (u32, u64)
+        requires is_block { IsBlock self.now.areas at }
+        ensures volume { IsVolume self.now.devices self.now.areas }
+        ensures place { result ≡ block_place at self.now.devices }
+    {
+        place(at, self.devices, self.areas)
+    }
+
     /// Lets a block go. It stays as a hint, where there is memory for that.
     pub fn let_go(&mut self, at: u64)
         ensures kept { OnlyKept at None self.old.kept self.new.kept }
         ensures hint { LeavesHint (kept_in self.old.kept at) (hint_in self.old.hinted at) (hint_in self.new.hinted at) }
         ensures hints { OnlyHinted at self.old.hinted self.new.hinted }
+        ensures is_block { IfSome (kept_in self.old.kept at) (λ one. IsBlock self.old.areas at) }
         ensures stays { (self.new.devices ≡ self.old.devices) × (self.new.areas ≡ self.old.areas) }
     {
         if let Some(kept) = self.kept.remove(&at) {

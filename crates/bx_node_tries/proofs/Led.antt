@@ -2,11 +2,15 @@
 use Rattle.std.proofs.Common.{◌≡◌, ◌⊎◌, ◌∙◌, ℕ, List, [], ◌∷◌, ◌++◌, refl, sym, ap, subst}
 use Rattle.std.specs.Prelude.{reverse}
 use Rattle.std.specs.List.{AllByRecursion}
+use Rattle.std.proofs.Common.{All, Contains}
 use Rattle.std.proofs.lemmas.List.{reverse-append}
-use Rattle.bx_node_tries.specs.Tries.{LeadsBack, LedTo, deed_said}
+use Rattle.std.proofs.lemmas.List.Elements.{All-push, All-weaker, Contains-append_left, Contains-push}
+use Rattle.bx_node_tries.specs.Tries.{AreNeeded, LeadsBack, LedTo, deed_said}
 use Rattle.bx_node_tries.specs.declared.round.Said.{Said}
+use Rattle.bx_node_tries.specs.declared.round.Waiting.{Waiting}
+use Rattle.bx_base.specs.declared.names.Mode.{Mode}
 use Rattle.bx_views.specs.Attempts.{Acts, Deed}
-use Rattle.bx_views.specs.Truths.{Hints, Truth}
+use Rattle.bx_views.specs.Truths.{Held, Hints, Truth}
 use Rattle.bx_views.specs.declared.attempt.Done.{Done}
 
 pub led_more : {T : Type 0} (Stands : Truth → Hints → T → Type 0) (Step : T → Deed → T → Type 0) (free : ℕ) (truth : Truth) (first : T) (old new : List Said) (said : Said) (done : Done)
@@ -26,3 +30,20 @@ led_more {T = T} Stands Step free truth first old new said done led acts same is
 -- Nothing is answered yet.
 pub none_led : {T : Type 0} (Stands : Truth → Hints → T → Type 0) (Step : T → Deed → T → Type 0) (free : ℕ) (truth : Truth) (tree : T) (said : List Said) → said ≡ [] → LedTo Stands Step free truth tree said
 none_led Stands Step free truth tree said is = subst (λ (l : List Said). LedTo Stands Step free truth tree l) (sym is) (record { last = tree; leads = refl; all = λ hints stood. stood; spares = tt })
+
+-- What holds of each item by what was told holds of each, and of one more, by what is told then.
+pub all_told : {A B : Type 0} (P : List B → A → Type 0) (items later : List A) (item : A) (told then : List B) (one : B) → later ≡ items ++ item ∷ [] → then ≡ told ++ one ∷ []
+    → ((a : A) → ((b : B) → Contains told b → Contains (told ++ one ∷ []) b) → P told a → P (told ++ one ∷ []) a) → (Contains (told ++ one ∷ []) one → P (told ++ one ∷ []) item) → All (P told) items → All (P then) later
+all_told P items later item told then one more tells leads new all =
+    subst (λ bs. All (P bs) later) (sym tells)
+    (subst (λ xs. All (P (told ++ one ∷ [])) xs) (sym more)
+    (All-push (P (told ++ one ∷ [])) items item (All-weaker (P told) (P (told ++ one ∷ [])) (λ a. leads a (λ b has. Contains-append_left told (one ∷ []) b has)) items all) (new (Contains-push told one))))
+
+-- What is needed by one of the calls that wait is needed by one of them where one more waits.
+pub still_needed : {T : Type 0} (Stands : Truth → Hints → T → Type 0) (Step : T → Deed → T → Type 0) (free : Truth → ℕ) (areas : ℕ) (path : ℕ → List ℕ → ℕ → Mode → Type 0) (held : Held) (hints : Hints) (moment : ℕ)
+    (waiting later : List Waiting) (call : Waiting) (needs : List (List (ℕ × Mode))) → later ≡ waiting ++ call ∷ []
+    → All (AreNeeded Stands Step free areas path held hints moment waiting) needs → All (AreNeeded Stands Step free areas path held hints moment later) needs
+still_needed Stands Step free areas path held hints moment waiting later call needs more all =
+    subst (λ (l : List Waiting). All (AreNeeded Stands Step free areas path held hints moment l) needs) (sym more)
+    (All-weaker (AreNeeded Stands Step free areas path held hints moment waiting) (AreNeeded Stands Step free areas path held hints moment (waiting ++ call ∷ []))
+    (λ wants was. record { call = was.call; waits = Contains-append_left waiting (call ∷ []) was.call was.waits; tried = was.tried }) needs all)

@@ -1,5 +1,5 @@
 -- What comes of the calls that wait, once each is attempted over one view.
-use Rattle.std.specs.Prelude.{◌≡◌, ◌⊎◌, ℕ, List, [], ◌∷◌, ◌++◌, reverse, None, IsSomeAnd}
+use Rattle.std.specs.Prelude.{◌≡◌, ◌⊎◌, ℕ, List, [], ◌∷◌, ◌++◌, reverse, Contains, None, IsSomeAnd}
 use Rattle.std.specs.List.{AllByRecursion}
 use Rattle.bx_base.specs.declared.names.Mode.{Mode}
 use Rattle.bx_node_tries.specs.declared.round.Round.{Round}
@@ -45,11 +45,19 @@ IsChange (Change draft done) = Unit {0}
 IsChange (Inner draft) = Unit {0}
 IsChange (Answer done) = ⊥
 
--- The call waits for blocks: its attempt over the view wants some.
-pub record WaitsForBlocks {T : Type 0} (Stands : Truth → Hints → T → Type 0) (Step : T → Deed → T → Type 0) (free : Truth → ℕ) (areas : ℕ) (path : ℕ → List ℕ → ℕ → Mode → Type 0) (held : Held) (hints : Hints) (moment : ℕ) (call : Waiting) : Type 0 where
-  pub attempt : Attempt
-  pub is : IsNeed attempt
-  pub tried : Tried Stands Step free areas (path call.client call.message) held hints call.client call.message moment attempt
+-- The call waits for blocks: its attempt over the view wants some, which are among these.
+pub record WaitsForBlocks {T : Type 0} (Stands : Truth → Hints → T → Type 0) (Step : T → Deed → T → Type 0) (free : Truth → ℕ) (areas : ℕ) (path : ℕ → List ℕ → ℕ → Mode → Type 0) (held : Held) (hints : Hints) (moment : ℕ)
+    (needs : List (List (ℕ × Mode))) (call : Waiting) : Type 0 where
+  pub wants : List (ℕ × Mode)
+  pub tried : Tried Stands Step free areas (path call.client call.message) held hints call.client call.message moment (Need wants)
+  pub told : Contains needs wants
+
+-- Blocks are needed by the attempt of one of these calls over the view.
+pub record AreNeeded {T : Type 0} (Stands : Truth → Hints → T → Type 0) (Step : T → Deed → T → Type 0) (free : Truth → ℕ) (areas : ℕ) (path : ℕ → List ℕ → ℕ → Mode → Type 0) (held : Held) (hints : Hints) (moment : ℕ)
+    (waiting : List Waiting) (wants : List (ℕ × Mode)) : Type 0 where
+  pub call : Waiting
+  pub waits : Contains waiting call
+  pub tried : Tried Stands Step free areas (path call.client call.message) held hints call.client call.message moment (Need wants)
 
 -- an answer is to a call, at a moment
 pub record IsAnswerTo (moment : ℕ) (call : Waiting) (said : Said) : Type 0 where
@@ -58,11 +66,12 @@ pub record IsAnswerTo (moment : ℕ) (call : Waiting) (said : Said) : Type 0 whe
   pub client : said.client ≡ call.client
   pub bytes : said.call ≡ call.message
 
--- A call still waits; or it is answered; or it begins a record. All else is as it was.
+-- A call still waits, as it isn't to act now, or as it needs blocks; or it is answered; or it begins a record. All else is as it was.
 pub data Goes (moment : ℕ) (call : Waiting) (old new : Round) : Type 0 where
-  Stays : new.waiting.items ≡ old.waiting.items ++ call ∷ [] → new.said.items ≡ old.said.items → new.begun ≡ old.begun → Goes moment call old new
-  Answered : (said : Said) → IsAnswerTo moment call said → new.said.items ≡ old.said.items ++ said ∷ [] → new.waiting.items ≡ old.waiting.items → new.begun ≡ old.begun → Goes moment call old new
-  Begins : old.begun ≡ None → IsSomeAnd new.begun (λ begun. begun.call ≡ call) → new.said.items ≡ old.said.items → new.waiting.items ≡ old.waiting.items → Goes moment call old new
+  Stays : new.waiting.items ≡ old.waiting.items ++ call ∷ [] → new.said.items ≡ old.said.items → new.begun ≡ old.begun → new.needs.items ≡ old.needs.items → Goes moment call old new
+  Needs : (wants : List (ℕ × Mode)) → new.waiting.items ≡ old.waiting.items ++ call ∷ [] → new.said.items ≡ old.said.items → new.begun ≡ old.begun → new.needs.items ≡ old.needs.items ++ wants ∷ [] → Goes moment call old new
+  Answered : (said : Said) → IsAnswerTo moment call said → new.said.items ≡ old.said.items ++ said ∷ [] → new.waiting.items ≡ old.waiting.items → new.begun ≡ old.begun → new.needs.items ≡ old.needs.items → Goes moment call old new
+  Begins : old.begun ≡ None → IsSomeAnd new.begun (λ begun. begun.call ≡ call) → new.said.items ≡ old.said.items → new.waiting.items ≡ old.waiting.items → new.needs.items ≡ old.needs.items → Goes moment call old new
 
 -- So each of these calls, in their order.
 pub data AllGo (moment : ℕ) : List Waiting → Round → Round → Type 0 where
@@ -74,3 +83,4 @@ pub record AreNone (round : Round) : Type 0 where
   pub said : round.said.items ≡ []
   pub waiting : round.waiting.items ≡ []
   pub begun : round.begun ≡ None
+  pub needs : round.needs.items ≡ []

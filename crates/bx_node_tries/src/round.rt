@@ -2,6 +2,7 @@
 
 use crate::message::Message;
 use bx_base::{CallNo, Point, Raw};
+use bx_records::Wants;
 use bx_views::Attempt;
 
 /// A call that waits.
@@ -50,4 +51,6 @@ pub struct Round {
     pub waiting: Vec<Waiting>,
     /// The call that begins a record.
     pub begun: Option<Begun>,
+    /// What the calls that wait for blocks need, in their order.
+    pub needs: Vec<Wants>,
 }

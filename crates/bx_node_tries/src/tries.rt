@@ -1,7 +1,7 @@
 //! The attempts.
 
 ghost use Rattle.std.specs.Prelude.{◌≡◌, ℕ, ◌≤◌, [], All, IfOk, IfSome, None, OnOk, true, false};
-ghost use Rattle.bx_node_tries.specs.Tries.{AllGo, AreNone, Goes, IsChange, LedTo, Tried, WaitsForBlocks};
+ghost use Rattle.bx_node_tries.specs.Tries.{AllGo, AreNeeded, AreNone, Goes, IsChange, LedTo, Tried, WaitsForBlocks};
 ghost use Rattle.bx_views.specs.Truths.{IsTruth, Truth};
 
 use crate::round::{Begun, Round, Said, Waiting};
@@ -23,7 +23,8 @@ pub fn attempt_all<E: Engine, V: View>(
     ensures led { (truth : Truth) (first : E.Tree) → IsTruth (V.held view.now) truth → E.stands engine.now truth (V.hints view.now) first
         → IfOk result (λ round. LedTo (E.stands engine.now) (E.step engine.now) (E.free engine.now truth) truth first round.said.items) }
     ensures waits { may_begin ≡ true → IfOk result (λ round. round.begun ≡ None
-        → All (WaitsForBlocks (E.stands engine.now) (E.step engine.now) (E.free engine.now) (E.areas engine.now) (λ client bytes. E.path engine.now client bytes (V.held view.now) (V.hints view.now)) (V.held view.now) (V.hints view.now) moment) round.waiting.items) }
+        → All (WaitsForBlocks (E.stands engine.now) (E.step engine.now) (E.free engine.now) (E.areas engine.now) (λ client bytes. E.path engine.now client bytes (V.held view.now) (V.hints view.now)) (V.held view.now) (V.hints view.now) moment round.needs.items) round.waiting.items) }
+    ensures needs { IfOk result (λ round. All (AreNeeded (E.stands engine.now) (E.step engine.now) (E.free engine.now) (E.areas engine.now) (λ client bytes. E.path engine.now client bytes (V.held view.now) (V.hints view.now)) (V.held view.now) (V.hints view.now) moment round.waiting.items) round.needs.items) }
     ensures goes { IfOk result (λ round. (first : Round) × AreNone first × AllGo moment calls.items first round) }
     ensures begun { IfOk result (λ round. IfSome round.begun (λ begun. IsChange begun.attempt × Tried (E.stands engine.now) (E.step engine.now) (E.free engine.now) (E.areas engine.now) (E.path engine.now begun.call.client begun.call.message (V.held view.now) (V.hints view.now)) (V.held view.now) (V.hints view.now) begun.call.client begun.call.message moment begun.attempt)) }
     ensures may { may_begin ≡ false → IfOk result (λ round. round.begun ≡ None) }
@@ -32,6 +33,7 @@ pub fn attempt_all<E: Engine, V: View>(
         said: Vec::new(alloc),
         waiting: Vec::new(alloc),
         begun: None,
+        needs: Vec::new(alloc),
     };
     for call in calls {
         if round.begun.is_some() {
@@ -57,8 +59,9 @@ fn try_one<E: Engine, V: View>(
     requires moment { moment ≤ 4294967295999 }
     ensures led { (truth : Truth) (first : E.Tree) → IsTruth (V.held view.now) truth → E.stands engine.now truth (V.hints view.now) first → LedTo (E.stands engine.now) (E.step engine.now) (E.free engine.now truth) truth first round.old.said.items
         → OnOk result (LedTo (E.stands engine.now) (E.step engine.now) (E.free engine.now truth) truth first round.new.said.items) }
-    ensures waits { may_begin ≡ true → All (WaitsForBlocks (E.stands engine.now) (E.step engine.now) (E.free engine.now) (E.areas engine.now) (λ client bytes. E.path engine.now client bytes (V.held view.now) (V.hints view.now)) (V.held view.now) (V.hints view.now) moment) round.old.waiting.items
-        → OnOk result (All (WaitsForBlocks (E.stands engine.now) (E.step engine.now) (E.free engine.now) (E.areas engine.now) (λ client bytes. E.path engine.now client bytes (V.held view.now) (V.hints view.now)) (V.held view.now) (V.hints view.now) moment) round.new.waiting.items) }
+    ensures waits { may_begin ≡ true → All (WaitsForBlocks (E.stands engine.now) (E.step engine.now) (E.free engine.now) (E.areas engine.now) (λ client bytes. E.path engine.now client bytes (V.held view.now) (V.hints view.now)) (V.held view.now) (V.hints view.now) moment round.old.needs.items) round.old.waiting.items
+        → OnOk result (All (WaitsForBlocks (E.stands engine.now) (E.step engine.now) (E.free engine.now) (E.areas engine.now) (λ client bytes. E.path engine.now client bytes (V.held view.now) (V.hints view.now)) (V.held view.now) (V.hints view.now) moment round.new.needs.items) round.new.waiting.items) }
+    ensures needs { All (AreNeeded (E.stands engine.now) (E.step engine.now) (E.free engine.now) (E.areas engine.now) (λ client bytes. E.path engine.now client bytes (V.held view.now) (V.hints view.now)) (V.held view.now) (V.hints view.now) moment round.old.waiting.items) round.old.needs.items → OnOk result (All (AreNeeded (E.stands engine.now) (E.step engine.now) (E.free engine.now) (E.areas engine.now) (λ client bytes. E.path engine.now client bytes (V.held view.now) (V.hints view.now)) (V.held view.now) (V.hints view.now) moment round.new.waiting.items) round.new.needs.items) }
     ensures goes { OnOk result (Goes moment call round.old round.new) }
     ensures begun { OnOk result (IfSome round.new.begun (λ begun. IsChange begun.attempt × Tried (E.stands engine.now) (E.step engine.now) (E.free engine.now) (E.areas engine.now) (E.path engine.now begun.call.client begun.call.message (V.held view.now) (V.hints view.now)) (V.held view.now) (V.hints view.now) begun.call.client begun.call.message moment begun.attempt)) }
     ensures may { may_begin ≡ false → OnOk result (round.new.begun ≡ None) }
@@ -69,7 +72,10 @@ fn try_one<E: Engine, V: View>(
     };
     match attempt {
         Attempt::Answer(done) => round.said.push(said(call, moment, done))?,
-        Attempt::Need(_wants) => round.waiting.push(call)?,
+        Attempt::Need(wants) => {
+            round.needs.push(wants)?;
+            round.waiting.push(call)?;
+        }
         Attempt::Change(draft, done) if may_begin => {
             round.begun = Some(Begun {
                 call,

@@ -9,7 +9,7 @@ use Rattle.bx_nodes.specs.declared.machine.Machine.{Machine}
 pub record AllSettle (moment : ℕ) (old new : Machine) (attempted : Attempted) : Type 0 where
   pub first : Round
   pub none : AreNone first
-  pub go : AllGo moment old.calls.items first (record { said = attempted.said; waiting = new.calls; begun = attempted.begun })
+  pub go : AllGo moment old.calls.items first (record { said = attempted.said; waiting = new.calls; begun = attempted.begun; needs = attempted.needs })
 
 abbrev pub Settle : ℕ → Option Machine → Option Machine → Attempted → Type 0
 Settle moment None new attempted = ⊥

@@ -1,3 +1,6 @@
+pub mod Asks
+pub mod Changing
 pub mod Going
+pub mod Joined
 pub mod Seen
 pub mod Turns

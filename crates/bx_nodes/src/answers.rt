@@ -1,10 +1,12 @@
 //! The attempts of a turn.
 
-ghost use Rattle.std.specs.Prelude.{◌≡◌, ℕ, ◌<◌, ◌≤◌, false, length, List, IfOk, IfSome, None, Some, slice_get};
+ghost use Rattle.std.specs.Prelude.{◌≡◌, ℕ, ◌<◌, ◌≤◌, false, true, length, All, List, IfOk, IfSome, None, Some, slice_get};
 ghost use Rattle.bx_base.specs.declared.names.Actor.TheVariants.{Node};
 ghost use Rattle.bx_disk.specs.Disks.{Disks};
 ghost use Rattle.bx_facts.specs.Chains.{LivesIn, last};
+ghost use Rattle.bx_node_cache.specs.Kept.{held_in, hint_in};
 ghost use Rattle.bx_node_machines.specs.Nodes.{NodesStand};
+ghost use Rattle.bx_node_tries.specs.Tries.{AreNeeded, WaitsForBlocks};
 ghost use Rattle.bx_nodes.specs.Going.{Settle};
 ghost use Rattle.bx_nodes.specs.Seen.{seen};
 ghost use Rattle.bx_nodes.specs.Turns.{OnlyMachine, Turned};
@@ -17,6 +19,7 @@ use bx_base::OutOfMemory;
 use bx_facts::{Register, Store};
 use bx_node_tries::{Begun, Round, Said, attempt_all};
 use bx_owners::Owners;
+use bx_records::Wants;
 use bx_views::Engine;
 use std::mem;
 
@@ -27,6 +30,8 @@ pub struct Attempted {
     pub said: Vec<Said>,
     /// The call that begins a record.
     pub begun: Option<Begun>,
+    /// What the calls that wait for blocks need, in their order.
+    pub needs: Vec<Wants>,
 }
 
 impl<G: Register, O: Owners, S: Store, E: Engine> Nodes<G, O, S, E> {
@@ -45,6 +50,8 @@ impl<G: Register, O: Owners, S: Store, E: Engine> Nodes<G, O, S, E> {
             → O.own self.old.owners node ≡ Some session → LivesIn (last c.register.chain) session → IfSome (slice_get self.old.machines.items node) (λ machine. machine.session ≡ Some session)
             → IfOk result (λ attempted. Turned (E.step self.old.engine) (NodesStand G.Register O.Owners S.Store (E.stands self.new.engine) (E.step self.new.engine) self.new.register self.new.owners self.new.store x letters clocks (seen self.new.machines.items)) c tree attempted.said.items) }
         ensures goes { IfOk result (Settle moment (slice_get self.old.machines.items node) (slice_get self.new.machines.items node)) }
+        ensures needs { IfOk result (λ attempted. IfSome (slice_get self.new.machines.items node) (λ machine. All (AreNeeded (E.stands self.new.engine) (E.step self.new.engine) (E.free self.new.engine) (E.areas self.new.engine) (λ client bytes. E.path self.new.engine client bytes (held_in machine.cache.kept) (hint_in machine.cache.hinted)) (held_in machine.cache.kept) (hint_in machine.cache.hinted) moment machine.calls.items) attempted.needs.items)) }
+        ensures waits { may_begin ≡ true → IfOk result (λ attempted. attempted.begun ≡ None → IfSome (slice_get self.new.machines.items node) (λ machine. All (WaitsForBlocks (E.stands self.new.engine) (E.step self.new.engine) (E.free self.new.engine) (E.areas self.new.engine) (λ client bytes. E.path self.new.engine client bytes (held_in machine.cache.kept) (hint_in machine.cache.hinted)) (held_in machine.cache.kept) (hint_in machine.cache.hinted) moment attempted.needs.items) machine.calls.items)) }
         ensures may { may_begin ≡ false → IfOk result (λ attempted. attempted.begun ≡ None) }
         ensures others { OnlyMachine node self.old.machines.items self.new.machines.items }
     {
@@ -62,8 +69,9 @@ impl<G: Register, O: Owners, S: Store, E: Engine> Nodes<G, O, S, E> {
             said,
             waiting,
             begun,
+            needs,
         } = round;
         machine.calls = waiting;
-        Ok(Attempted { said, begun })
+        Ok(Attempted { said, begun, needs })
     }
 }

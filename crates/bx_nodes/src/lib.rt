@@ -2,8 +2,10 @@
 #![tactic(auto)]
 
 mod answers;
+mod asks;
 mod machine;
 mod nodes;
+mod reads;
 mod turns;
 
 pub use answers::Attempted;

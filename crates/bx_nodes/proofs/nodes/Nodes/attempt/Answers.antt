@@ -1,8 +1,9 @@
-use Rattle.std.proofs.Common.{◌≡◌, ◌∙◌, List, Option, Some, IfSome, refl, sym, ap, subst}
+use Rattle.std.proofs.Common.{◌≡◌, ◌∙◌, All, List, Option, Some, IfSome, refl, sym, ap, subst}
 use Rattle.std.specs.Prelude.{slice_get, slice_set}
 use Rattle.std.proofs.lemmas.Option.{slice_get-get_or}
 use Rattle.bx_node_machines.proofs.Showing.{sees_truth}
-use Rattle.bx_node_tries.specs.Tries.{AllGo}
+use Rattle.bx_node_cache.specs.Kept.{held_in, hint_in}
+use Rattle.bx_node_tries.specs.Tries.{AllGo, AreNeeded, WaitsForBlocks}
 use Rattle.bx_node_tries.specs.declared.round.Waiting.{Waiting}
 use Rattle.bx_nodes.specs.Going.{Settle}
 use Rattle.bx_nodes.specs.Seen.{seen, view_of}
@@ -20,11 +21,11 @@ returns g c =
     let was : slice_get items node ≡ Some before = slice_get-get_or items node before c.requires.there ∙ ap (λ (m : Machine). Some m) (sym c.index_mut-machine.ensures.value) in
     let round = c.in_ok-round.round in
     let after : Machine = record before { calls = round.waiting } in
-    let attempted : Attempted = record { said = round.said; begun = round.begun } in
+    let attempted : Attempted = record { said = round.said; begun = round.begun; needs = round.needs } in
+    let e = g.E.Engine in
+    let engine = c.args.self.now.engine in
     record {
       stands = λ x letters clocks course tree session up stands own lives mine.
-          let e = g.E.Engine in
-          let engine = c.args.self.now.engine in
           let is_mine : before.session ≡ Some session = subst (λ (m : Option Machine). IfSome m (λ machine. machine.session ≡ Some session)) was mine in
           let sees = sees_truth g.G.Register g.O.Owners g.S.Store (e.stands engine) (e.step engine) c.args.self.now.register c.args.self.now.owners c.args.self.now.store x letters clocks (seen items) course tree node session (view_of before)
           stands up own lives (seen_there items node before was) is_mine in
@@ -34,6 +35,10 @@ returns g c =
           subst (λ (m : Option Machine). Settle c.args.moment m (slice_get (slice_set items node after) node) attempted) (sym was)
           (subst (λ (m : Option Machine). Settle c.args.moment (Some before) m attempted) (sym (set_here items node after before was))
           (record { first = went.0; none = went.1; go = subst (λ (l : List Waiting). AllGo c.args.moment l went.0 round) (ap (λ v. v.items) c.replace-calls.ensures.value) went.2 }));
+      needs = subst (λ (m : Option Machine). IfSome m (λ machine. All (AreNeeded (e.stands engine) (e.step engine) (e.free engine) (e.areas engine) (λ client bytes. e.path engine client bytes (held_in machine.cache.kept) (hint_in machine.cache.hinted))
+          (held_in machine.cache.kept) (hint_in machine.cache.hinted) c.args.moment machine.calls.items) round.needs.items)) (sym (set_here items node after before was)) c.in_ok-round.ensures.needs;
+      waits = λ may none. subst (λ (m : Option Machine). IfSome m (λ machine. All (WaitsForBlocks (e.stands engine) (e.step engine) (e.free engine) (e.areas engine) (λ client bytes. e.path engine client bytes (held_in machine.cache.kept) (hint_in machine.cache.hinted))
+          (held_in machine.cache.kept) (hint_in machine.cache.hinted) c.args.moment round.needs.items) machine.calls.items)) (sym (set_here items node after before was)) (c.in_ok-round.ensures.waits may none);
       may = λ may. c.in_ok-round.ensures.may may;
       others = record { others = λ other ne. set_there items node other after ne };
     }

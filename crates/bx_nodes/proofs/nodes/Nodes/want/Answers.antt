@@ -1,0 +1,107 @@
+use Rattle.std.proofs.Common.{◌≡◌, ◌∙◌, ⊎_elim, inl, inr, ℕ, false, Option, Some, IfSome, refl, sym, ap, subst}
+use Rattle.std.specs.Prelude.{slice_get, slice_set}
+use Rattle.std.proofs.lemmas.Option.{slice_get-get_or}
+use Rattle.std.proofs.lemmas.Result.{on_ok_weaker}
+use Rattle.bx_base.specs.declared.names.Actor.TheVariants.{Node}
+use Rattle.bx_facts.specs.Chains.{last}
+use Rattle.bx_facts.specs.Holds.{Hold, OwnersPast, hold_of, is_exclusive, owners_with}
+use Rattle.bx_node_views.proofs.Knowing as knowing
+use Rattle.bx_nodes.specs.Changing.{LetsGo}
+use Rattle.bx_nodes.specs.Joined.{IsJoined}
+use Rattle.bx_nodes.specs.Seen.{seen}
+use Rattle.bx_nodes.specs.declared.machine.Machine.{Machine}
+use Rattle.bx_nodes.specs.declared.machine.Stage.TheVariants.{Idle}
+use Rattle.bx_nodes.proofs.Joining.{block_there, fits_let_go, joined_then, weak}
+use Rattle.bx_nodes.proofs.LettingGo.{lets_go}
+use Rattle.bx_nodes.proofs.Machines.{both_ok, seen_others, seen_there, set_here, set_there}
+use Rattle.bx_world_chains.proofs.Rows.{lives_row}
+use Rattle.bx_world_standing.specs.Sessions.{IsOfNode}
+use Rattle.bx_world_standing.proofs.Owns.{own_is}
+use Rattle.bx_world_standing.proofs.Told.{own_of_node}
+use Rattle.bx_nodes.proofs.nodes.Nodes.want.Goals as goal
+
+pub want-requires-clause-session : goal.want-requires-clause-session
+want-requires-clause-session g c =
+    let items = c.args.self.now.machines.items in
+    let node = c.args.node in
+    let before = c.index_mut.result.now in
+    let was : slice_get items node ≡ Some before = slice_get-get_or items node before c.requires.there ∙ ap (λ (m : Machine). Some m) (sym c.index_mut.ensures.value) in
+    (subst (λ (m : Option Machine). IfSome m (IsJoined (g.S.Store.made c.args.self.now.store) (g.E.Engine.areas c.args.self.now.engine) (g.O.Owners.own c.args.self.now.owners node) (g.S.Store.own c.args.self.now.store node)
+    (g.S.Store.asked c.args.self.now.store node))) was c.requires.joined).session
+
+pub returns-clause-stands : goal.returns-clause-stands
+returns-clause-stands g c = λ x letters clocks course tree session up stands own live mine.
+    let e = g.E.Engine in
+    let engine = c.args.self.now.engine in
+    let register = c.args.self.now.register in
+    let owners = c.args.self.now.owners in
+    let store = c.args.self.now.store in
+    let items = c.args.self.now.machines.items in
+    let node = c.args.node in
+    let at = c.args.at in
+    let made = g.S.Store.made store in
+    let before = c.index_mut.result.now in
+    let after = c.let_go.new.self in
+    let was : slice_get items node ≡ Some before = slice_get-get_or items node before c.requires.there ∙ ap (λ (m : Machine). Some m) (sym c.index_mut.ensures.value) in
+    let is_mine : before.session ≡ Some session = subst (λ (m : Option Machine). IfSome m (λ machine. machine.session ≡ Some session)) was mine in
+    let rests : before.stage ≡ Idle = subst (λ (m : Option Machine). IfSome m (λ machine. machine.stage ≡ Idle)) was c.requires.rests in
+    let joined = subst (λ (m : Option Machine). IfSome m (IsJoined made (e.areas engine) (g.O.Owners.own owners node) (g.S.Store.own store node) (g.S.Store.asked store node))) was c.requires.joined in
+    let later = slice_set items node after in
+    let past : OwnersPast = record course.owners { told = record course.owners.told { letters = letters } } in
+    let same_past : owners_with past c.args.out.now ≡ course.owners = λ i. record course.owners { told = record course.owners.told { letters = sym stands.at.pasts.owners_letters i } } in
+    let kept = subst (λ (p : OwnersPast). g.O.Owners.keeps owners p) (sym same_past) stands.at.parts.owners_keep in
+    let row = lives_row (last course.register.chain) session live in
+    let holds : g.O.Owners.hold owners node at ≡ course.owners.holding session at = g.met.O.Owners.held owners course.owners node at stands.at.parts.owners_keep ∙ ap (λ (s : Option ℕ). hold_of s course.owners.holding at) own in
+    let shared : is_exclusive (course.owners.holding session at) ≡ false = ap (λ (h : Option Hold). is_exclusive h) (sym holds) ∙ weak (g.O.Owners.hold owners node at) c.args.mode c.requires.weaker in
+    let is_of = own_of_node g.O.Owners.by_boot course.register.chain clocks (g.O.Owners.own owners) (λ n. course.store.told.knew (Node n))
+    (record { each = λ s place. g.met.G.Register.allowed register x course.register s stands.at.parts.register_keeps place }) stands.at.sessions node session row.0 (own_is clocks.down (g.O.Owners.own owners) node session up own) row.1 row.2 in
+    on_ok_weaker c.want.result
+    (λ both. lets_go g.G.Register g.O.Owners g.S.Store (e.stands engine) (e.step engine) register owners c.want.new.self store x letters c.args.out.now c.want.new.out clocks (seen items) (seen later) course tree node session at (e.areas engine) before after
+    both.0.holding course.owners.floor stands up own live (seen_there items node before was) is_mine rests (seen_there later node after (set_here items node after before was)) (λ other ne. seen_others items later other (set_there items node other after ne))
+    c.let_go.ensures both.1
+    (λ some_past some keeps among. g.met.G.Register.loses register x some_past some keeps among)
+    (λ some_past some keeps among. g.met.S.Store.loses store x some_past some keeps among)
+    (λ some_past one other place hold other_hold keeps has has_other ne is is_other. g.met.O.Owners.apart c.want.new.self some_past one other place hold other_hold keeps has has_other ne is is_other)
+    (λ truth hints t place stood is. g.met.E.Engine.hints_at engine truth hints t place stood is)
+    (block_there _ before.cache.areas made.areas (e.areas engine) at joined.areas joined.engine c.let_go.ensures.is_block)
+    (λ other. (c.want.ensures.own other).0) both.0.stands both.0.may (λ write has is. shared)
+    (knowing.wanted made.devices made.areas course.register.chain (IsOfNode g.O.Owners.by_boot clocks) (λ n. course.store.told.knew (Node n)) node session row.0 row.1 row.2 is_of course.owners.holding both.0.holding course.owners.floor at both.0.may shared))
+    (both_ok _ _ c.want.result (c.want.ensures.keeps past session kept (stands.at.pasts.owners_down (Node node) ∙ up) own) c.want.ensures.sent)
+
+pub returns-clause-goes : goal.returns-clause-goes
+returns-clause-goes g c =
+    let items = c.args.self.now.machines.items in
+    let node = c.args.node in
+    let before = c.index_mut.result.now in
+    let after = c.let_go.new.self in
+    let was : slice_get items node ≡ Some before = slice_get-get_or items node before c.requires.there ∙ ap (λ (m : Machine). Some m) (sym c.index_mut.ensures.value) in
+    on_ok_weaker c.want.result
+    (λ sent. subst (λ (m : Option Machine). IfSome m (λ old. IfSome (slice_get (slice_set items node after) node) (LetsGo c.args.at old))) (sym was)
+    (subst (λ (m : Option Machine). IfSome m (LetsGo c.args.at before)) (sym (set_here items node after before was)) c.let_go.ensures))
+    c.want.ensures.sent
+
+pub returns-clause-wants : goal.returns-clause-wants
+returns-clause-wants g c = on_ok_weaker c.want.result (λ both. (both.0, ⊎_elim (λ one. inl one) (λ spent. inr (spent.0, spent.3)) both.1)) (both_ok _ _ c.want.result c.want.ensures.grants c.want.ensures.wants)
+
+pub returns-clause-joined : goal.returns-clause-joined
+returns-clause-joined g c =
+    let items = c.args.self.now.machines.items in
+    let node = c.args.node in
+    let store = c.args.self.now.store in
+    let made = g.S.Store.made store in
+    let areas = g.E.Engine.areas c.args.self.now.engine in
+    let own = g.O.Owners.own c.args.self.now.owners node in
+    let before = c.index_mut.result.now in
+    let after = c.let_go.new.self in
+    let was : slice_get items node ≡ Some before = slice_get-get_or items node before c.requires.there ∙ ap (λ (m : Machine). Some m) (sym c.index_mut.ensures.value) in
+    let joined = subst (λ (m : Option Machine). IfSome m (IsJoined made areas own (g.S.Store.own store node) (g.S.Store.asked store node))) was c.requires.joined in
+    let goes = c.let_go.ensures in
+    on_ok_weaker c.want.result
+    (λ sent. subst (λ (m : Option Machine). IfSome m (IsJoined made areas (g.O.Owners.own c.want.new.self node) (g.S.Store.own store node) (g.S.Store.asked store node))) (sym (set_here items node after before was))
+    (joined_then made made areas own (g.O.Owners.own c.want.new.self node) (g.S.Store.own store node) (g.S.Store.own store node) (g.S.Store.asked store node) (g.S.Store.asked store node) before after joined
+    refl (c.want.ensures.own node).0 refl goes.same.devices goes.same.areas
+    (fits_let_go made areas c.args.at own (g.S.Store.own store node) (g.S.Store.asked store node) before after joined (ap (λ (m : Machine). m.fetch) goes.only))))
+    c.want.ensures.sent
+
+pub returns-clause-others : goal.returns-clause-others
+returns-clause-others g c = record { others = λ other ne. set_there c.args.self.now.machines.items c.args.node other c.let_go.new.self ne }

@@ -5,6 +5,7 @@ pub mod Clauses
 pub mod Decided
 pub mod Gated
 pub mod Grown
+pub mod Handed
 pub mod Handing
 pub mod Hears
 pub mod Homing

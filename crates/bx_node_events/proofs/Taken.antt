@@ -123,6 +123,31 @@ pub record TakesStore {S : Type 0} (st : store.Ghosts S) (old new : S) (y z : Di
   pub asked : (node : ℕ) → (st.asked new node ≡ None) ⊎ (st.asked new node ≡ st.asked old node)
   pub made : st.made new ≡ st.made old
 
+-- A machine that is up may take an input with the state that its register knows: by what owners were told, and by what the store was.
+module _ {G O S T : Type 0} (g : register.Ghosts G) (o : owners.Ghosts O) (st : store.Ghosts S) (Stands : Truth → Hints → T → Type 0) (Step : T → Deed → T → Type 0)
+    (register_heard : G) (owners_are : O) (store_is : S) (y : Disks) (heard_letters : List Letter) (clocks : Clocks) (machines : List MachineView) (c : Course) (tree : T) (who : Actor) (input : Input)
+    (at : StandsAt (loose g) o st Stands Step register_heard owners_are store_is y (known_of (loose g) o st Stands Step register_heard owners_are store_is y heard_letters clocks machines) c tree)
+    (up : clocks.down who ≡ false) (place : IsPlace c.register.chain (g.knows register_heard who)) (steady : IsSteady clocks.greatest input) (comes : IsComing heard_letters input) where
+  pub may_owners : MayTake c.owners.told (g.knows register_heard who) who input
+  may_owners = record {
+    up = at.pasts.owners_down who ∙ up;
+    place = subst (λ (chain : Chain). IsPlace chain (g.knows register_heard who)) (sym at.pasts.owners_chain) place;
+    rises = at.parts.owners_knew who;
+    own_boot = subst (λ (chain : Chain). HasOwnBoot chain (c.owners.told.boots who)) (sym at.pasts.owners_chain) (subst (λ (n : ℕ). HasOwnBoot c.register.chain n) (sym (at.pasts.owners_boots who up)) (at.pasts.own_boots who up));
+    steady = steady_on c.owners.told.greatest clocks.greatest input (let a = at.pasts.owners_greatest in let b = at.pasts.greatest in omega (arith, a, b)) steady;
+    comes = subst (λ (l : List Letter). IsComing l input) (sym at.pasts.owners_letters) comes;
+  }
+
+  pub may_store : MayTake c.store.told (g.knows register_heard who) who input
+  may_store = record {
+    up = at.pasts.store_down who ∙ up;
+    place = subst (λ (chain : Chain). IsPlace chain (g.knows register_heard who)) (sym at.pasts.store_chain) place;
+    rises = at.parts.store_knew who;
+    own_boot = subst (λ (chain : Chain). HasOwnBoot chain (c.store.told.boots who)) (sym at.pasts.store_chain) (subst (λ (n : ℕ). HasOwnBoot c.register.chain n) (sym (at.pasts.store_boots who up)) (at.pasts.own_boots who up));
+    steady = steady_on c.store.told.greatest clocks.greatest input at.pasts.greatest steady;
+    comes = subst (λ (l : List Letter). IsComing l input) (sym at.pasts.store_letters) comes;
+  }
+
 module _ {G O S T : Type 0} (g : register.Ghosts G) (o : owners.Ghosts O) (st : store.Ghosts S) (Stands : Truth → Hints → T → Type 0) (Step : T → Deed → T → Type 0)
     (register_heard register_then : G) (owners_are owners_then : O) (store_is store_then : S) (y z : Disks) (heard_letters then_letters : List Letter) (clocks : Clocks) (machines : List MachineView) (c : Course) (tree : T)
     (who : Actor) (input : Input) (owners_change store_change proposal : Option Change)
@@ -143,32 +168,14 @@ module _ {G O S T : Type 0} (g : register.Ghosts G) (o : owners.Ghosts O) (st : 
     (lives : (session end : ℕ) → Contains c.owners.leases (session, end) → c.owners.told.greatest ≤ end + 500 → LivesIn (last c.register.chain) session)
     (alone : (one other block : ℕ) (hold : Hold) → LivesIn (last c.register.chain) one → HasRow (last c.register.chain) other → c.owners.holding one block ≡ Some hold → oldest c.register.chain ≤ other)
     (told : (other one : ℕ) → own_up clocks.down (o.own owners_are) other ≡ Some one → who ≢ Node other → (g.knows register_heard (Node other)).index ≤ c.store.told.knew (Node other)) where
-  s : GlobalState
-  s = g.knows register_heard who
+  may_o : MayTake c.owners.told (g.knows register_heard who) who input
+  may_o = may_owners g o st Stands Step register_heard owners_are store_is y heard_letters clocks machines c tree who input at up place steady comes
 
-  -- it may take the input, by what owners were told, and by what the store was
-  may_owners : MayTake c.owners.told (g.knows register_heard who) who input
-  may_owners = record {
-    up = at.pasts.owners_down who ∙ up;
-    place = subst (λ (chain : Chain). IsPlace chain (g.knows register_heard who)) (sym at.pasts.owners_chain) place;
-    rises = at.parts.owners_knew who;
-    own_boot = subst (λ (chain : Chain). HasOwnBoot chain (c.owners.told.boots who)) (sym at.pasts.owners_chain) (subst (λ (n : ℕ). HasOwnBoot c.register.chain n) (sym (at.pasts.owners_boots who up)) (at.pasts.own_boots who up));
-    steady = steady_on c.owners.told.greatest clocks.greatest input (let a = at.pasts.owners_greatest in let b = at.pasts.greatest in omega (arith, a, b)) steady;
-    comes = subst (λ (l : List Letter). IsComing l input) (sym at.pasts.owners_letters) comes;
-  }
-
-  may_store : MayTake c.store.told (g.knows register_heard who) who input
-  may_store = record {
-    up = at.pasts.store_down who ∙ up;
-    place = subst (λ (chain : Chain). IsPlace chain (g.knows register_heard who)) (sym at.pasts.store_chain) place;
-    rises = at.parts.store_knew who;
-    own_boot = subst (λ (chain : Chain). HasOwnBoot chain (c.store.told.boots who)) (sym at.pasts.store_chain) (subst (λ (n : ℕ). HasOwnBoot c.register.chain n) (sym (at.pasts.store_boots who up)) (at.pasts.own_boots who up));
-    steady = steady_on c.store.told.greatest clocks.greatest input at.pasts.greatest steady;
-    comes = subst (λ (l : List Letter). IsComing l input) (sym at.pasts.store_letters) comes;
-  }
+  may_s : MayTake c.store.told (g.knows register_heard who) who input
+  may_s = may_store g o st Stands Step register_heard owners_are store_is y heard_letters clocks machines c tree who input at up place steady comes
 
   holds : Holding (KeepsHolds c.owners.holding) (o.keeps owners_then) (record c.owners { told = told_then c.owners.told who (g.knows register_heard who).index input owners_change then_letters })
-  holds = takes_owners.keeps may_owners
+  holds = takes_owners.keeps may_o
 
   -- The nodes stand.
   pub takes : (course : Course) × (course.register.chain ≡ c.register.chain) × NodesStand g o st Stands Step register_then owners_then store_then z then_letters (heard_clocks clocks input) machines course tree
@@ -178,11 +185,11 @@ module _ {G O S T : Type 0} (g : register.Ghosts G) (o : owners.Ghosts O) (st : 
     tighten g o st Stands Step register_then owners_then store_then z then_letters (heard_clocks clocks input) machines _ tree register_keeps
         (hearing.heard (loose g) o st Stands Step register_heard register_then owners_are owners_then store_is store_then y z heard_letters then_letters clocks machines c tree who (g.knows register_heard who) input owners_change store_change proposal holds.holding at about given allowed legal up place (at.parts.store_knew who)
         tt (λ other. let e = ap (λ (one : GlobalState). one.index) (same_knows other) in omega (arith, e)) (let e = ap (λ (one : GlobalState). one.index) (same_knows who) in omega (arith, e)) proposes holds.stands holds.may
-        takes_owners.others (λ node same. takes_owners.session node may_owners same ∙ ap (λ (n : ℕ). session_by o.by_boot (g.knows register_heard who) node n) (at.pasts.owners_boots who up))
-        (takes_store.keeps may_store) (λ d sector content index only was. takes_store.standing d sector content index may_store only was) (λ node sector content asks is still only was. takes_store.reading node sector content asks may_store is still only was)
-        takes_store.others (λ node same. takes_store.session node may_store same ∙ ap (λ (n : ℕ). session_by st.by_boot (g.knows register_heard who) node n) (at.pasts.store_boots who up))
+        takes_owners.others (λ node same. takes_owners.session node may_o same ∙ ap (λ (n : ℕ). session_by o.by_boot (g.knows register_heard who) node n) (at.pasts.owners_boots who up))
+        (takes_store.keeps may_s) (λ d sector content index only was. takes_store.standing d sector content index may_s only was) (λ node sector content asks is still only was. takes_store.reading node sector content asks may_s is still only was)
+        takes_store.others (λ node same. takes_store.session node may_s same ∙ ap (λ (n : ℕ). session_by st.by_boot (g.knows register_heard who) node n) (at.pasts.store_boots who up))
         takes_store.made labels apart own_out own_out_then takes_store.new_session takes_store.out takes_store.asked
-        (λ node write is none own live. takes_store.done node write may_store is none own (subst (λ (chain : Chain). LivesIn (last chain) write.session) (sym at.pasts.store_chain) live))
+        (λ node write is none own live. takes_store.done node write may_s is none own (subst (λ (chain : Chain). LivesIn (last chain) write.session) (sym at.pasts.store_chain) live))
         lives alone
         (λ other one own differ. let low = told other one own differ in let e = ap (λ (s : GlobalState). s.index) (same_knows (Node other)) in omega (arith, low, e)) (let e = ap (λ (one : GlobalState). one.index) (same_knows who) in omega (arith, e))),
   )

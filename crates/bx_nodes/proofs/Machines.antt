@@ -107,3 +107,8 @@ was_there Holds found before is holds = subst (λ (m : Option Machine). IfSome m
 
 pub of_there : (Holds : Machine → Type 0) (found : Option Machine) (before : Machine) → found ≡ Some before → IfSome found Holds → Holds before
 of_there Holds found before is holds = subst (λ (m : Option Machine). IfSome m Holds) is holds
+
+-- What follows of what was found follows where it was.
+pub if_some : {A : Type 0} (found : Option A) (P Q : A → Type 0) → ((a : A) → P a → Q a) → IfSome found P → IfSome found Q
+if_some None P Q leads is = tt
+if_some (Some a) P Q leads is = leads a is

@@ -1,19 +1,20 @@
 -- What the clauses of a store's write, and the laws of register and owners, come to where a node's session is live by its lease.
-use Rattle.std.proofs.Common.{◌≡◌, ◌≢◌, ◌∙◌, ℕ, ◌+◌, ◌<◌, ◌≤◌, false, List, ◌∷◌, ◌++◌, Contains, Some, refl, sym, subst, arith}
+use Rattle.std.proofs.Common.{◌≡◌, ◌≢◌, ◌∙◌, ℕ, ◌+◌, ◌<◌, ◌≤◌, false, List, ◌∷◌, ◌++◌, Contains, None, Some, refl, sym, subst, arith}
 use Rattle.bx_base.specs.declared.names.Actor.TheVariants.{Node}
 use Rattle.bx_disk.specs.Disks.{Disks}
 use Rattle.bx_facts.specs.declared.register.Register as register
 use Rattle.bx_facts.specs.declared.store.Store as store
-use Rattle.bx_facts.specs.Chains.{Chain, HasRow, IsPlace, LivesIn, last, oldest}
+use Rattle.bx_facts.specs.Chains.{AreLegal, Chain, HasRow, IsPlace, LivesIn, last, oldest}
 use Rattle.bx_facts.specs.Holds.{Hold, OwnersPast, leased}
 use Rattle.bx_facts.specs.Inputs.{AreAmong, IsOwners, IsRegisters, IsStores, SendsOnly}
 use Rattle.bx_facts.specs.Pasts.{RegisterPast}
-use Rattle.bx_facts.specs.Writes.{AreRuns, GoesOn, IsOnly, MayWrite, Sent, StorePast, store_with, writing}
+use Rattle.bx_facts.specs.Writes.{AreRuns, GoesOn, IsOnly, MayWrite, Sent, StorePast, store_with, without_session, writing}
 use Rattle.bx_facts.proofs.Following.{none_new}
 use Rattle.bx_facts.proofs.Lists.{front}
 use Rattle.bx_global.specs.Allowed.{IsAllowed}
 use Rattle.bx_global.specs.declared.state.GlobalState.{GlobalState}
 use Rattle.bx_node_events.proofs.Leased.{leased_course}
+use Rattle.bx_node_events.proofs.Quieted.{none_sent, quieted}
 use Rattle.bx_node_events.proofs.Working.{IsHanded, IsSending, store_sent}
 use Rattle.bx_node_machines.specs.Machines.{MachineView, home_of}
 use Rattle.bx_node_machines.specs.Nodes.{NodesStand}
@@ -21,12 +22,15 @@ use Rattle.bx_owners.specs.declared.owners.Owners as owners
 use Rattle.bx_post.specs.declared.packets.Letter.{Letter}
 use Rattle.bx_views.specs.Attempts.{Deed}
 use Rattle.bx_views.specs.Truths.{Hints, Truth}
+use Rattle.bx_world_chains.specs.Entitled.{AreAllowed}
 use Rattle.bx_world_chains.proofs.Chains.{last_place}
 use Rattle.bx_world_standing.specs.Parts.{Clocks}
 use Rattle.bx_world_standing.specs.Standing.{Course}
+use Rattle.bx_world_stays.proofs.Drops.{dropped_course}
 
--- The laws of a register, and of owners, of which a write makes use.
+-- The laws of a register, of owners and of a store, of which a write makes use.
 pub record RegisterLaws {G : Type 0} (g : register.Ghosts G) (register_is : G) : Type 0 where
+  pub legal : (x : Disks) (past : RegisterPast) → g.keeps register_is x past → AreLegal past.chain.first past.chain.changes
   pub allowed : (x : Disks) (past : RegisterPast) (s : GlobalState) → g.keeps register_is x past → IsPlace past.chain s → IsAllowed s
   pub loses : (x : Disks) (past : RegisterPast) (letters : List Letter) → g.keeps register_is x past → AreAmong IsRegisters letters past.letters → g.keeps register_is x (record past { letters = letters })
 
@@ -36,6 +40,12 @@ pub record OwnersLaws {O : Type 0} (o : owners.Ghosts O) (owners_are : O) : Type
   pub alone : (past : OwnersPast) (session other block : ℕ) (hold : Hold) → o.keeps owners_are past → LivesIn (last past.told.chain) session → HasRow (last past.told.chain) other → past.holding session block ≡ Some hold → oldest past.told.chain ≤ other
   pub opened : (past : OwnersPast) (node session : ℕ) → o.keeps owners_are past → o.own owners_are node ≡ Some session → session < (last past.told.chain).next_session
   pub loses : (past : OwnersPast) (letters : List Letter) → o.keeps owners_are past → AreAmong IsOwners letters past.told.letters → o.keeps owners_are (record past { told = record past.told { letters = letters } })
+
+pub record StoreLaws {S : Type 0} (st : store.Ghosts S) (store_is : S) : Type 0 where
+  pub nothing_out : (x : Disks) (past : StorePast) (node session : ℕ) → st.keeps store_is x past → st.own store_is node ≡ Some session → st.out_of store_is node ≡ None
+      → st.keeps store_is x (without_session past session)
+      × GoesOn past.writes past.told.greatest (st.asked store_is) (st.settled store_is x past) (st.settled store_is x (without_session past session)) (st.will_read store_is x past) (st.will_read store_is x (without_session past session))
+      (st.stands store_is x past) (st.stands store_is x (without_session past session))
 
 -- What a store's clauses say of a write of a node's session that it took.
 pub record IsTaken {S : Type 0} (st : store.Ghosts S) (old new : S) (node : ℕ) (box box_then : List Letter) (write : Sent) : Type 0 where
@@ -59,7 +69,7 @@ not_owners letter one other = let a = one.least in let b = other.most in omega (
 
 module _ {G O S T : Type 0} (g : register.Ghosts G) (o : owners.Ghosts O) (st : store.Ghosts S) (Stands : Truth → Hints → T → Type 0) (Step : T → Deed → T → Type 0)
     (register_is : G) (owners_are : O) (old new : S) (x : Disks) (letters box box_then : List Letter) (clocks : Clocks) (machines : List MachineView) (c : Course) (tree : T)
-    (node session end : ℕ) (write : Sent)
+    (node session end : ℕ)
     (stands : NodesStand g o st Stands Step register_is owners_are old x (letters ++ box) clocks machines c tree)
     (up : clocks.down (Node node) ≡ false) (own : o.own owners_are node ≡ Some session) (ends : o.end_of owners_are node ≡ Some end)
     (register_laws : RegisterLaws g register_is) (owners_laws : OwnersLaws o owners_are) where
@@ -69,10 +79,34 @@ module _ {G O S T : Type 0} (g : register.Ghosts G) (o : owners.Ghosts O) (st : 
   pub keeps_leased : o.keeps owners_are (leased c.owners session end)
   keeps_leased = owners_laws.leases c.owners node session end stands.at.parts.owners_keep own ends
 
+  alone_on : (one other block : ℕ) (hold : Hold) → LivesIn (last c.register.chain) one → HasRow (last c.register.chain) other → c.owners.holding one block ≡ Some hold → oldest c.register.chain ≤ other
+  alone_on one other block hold lives has holds = subst (λ (chain : Chain). oldest chain ≤ other) chain_is
+      (owners_laws.alone c.owners one other block hold stands.at.parts.owners_keep
+      (subst (λ (chain : Chain). LivesIn (last chain) one) (sym chain_is) lives) (subst (λ (chain : Chain). HasRow (last chain) other) (sym chain_is) has) holds)
+
   pub is_allowed : IsAllowed (last c.register.chain)
   is_allowed = register_laws.allowed x c.register (last c.register.chain) stands.at.parts.register_keeps (last_place c.register.chain)
 
-  module _ (whose : write.session ≡ session) (until : write.until ≡ end) (taken : IsTaken st old new node box box_then write) where
+  -- Where none of its writes is out, none may be taken any more, and the nodes stand without them.
+  module _ (none_out : st.out_of old node ≡ None) (store_laws : StoreLaws st old) where
+    over : st.keeps old x (without_session c.store session)
+        × GoesOn c.store.writes c.store.told.greatest (st.asked old) (st.settled old x c.store) (st.settled old x (without_session c.store session)) (st.will_read old x c.store) (st.will_read old x (without_session c.store session))
+        (st.stands old x c.store) (st.stands old x (without_session c.store session))
+    over = store_laws.nothing_out x c.store node session stands.at.parts.store_keeps (sym (stands.at.parts.own node up) ∙ own) none_out
+
+    all_allowed : AreAllowed c.register.chain
+    all_allowed = record { each = λ s place. register_laws.allowed x c.register s stands.at.parts.register_keeps place }
+
+    lives_on : (other its_end : ℕ) → Contains c.owners.leases (other, its_end) → c.owners.told.greatest ≤ its_end + 500 → LivesIn (last c.register.chain) other
+    lives_on other its_end has late = subst (λ (chain : Chain). LivesIn (last chain) other) chain_is (owners_laws.lives c.owners other its_end stands.at.parts.owners_keep has late)
+
+    pub quiet : NodesStand g o st Stands Step register_is owners_are old x (letters ++ box) clocks machines (dropped_course c (without_session c.store session).writes) tree
+    quiet = quieted g o st Stands Step register_is owners_are old x (letters ++ box) clocks machines c tree session stands all_allowed (register_laws.legal x c.register stands.at.parts.register_keeps) over.0 over.1 lives_on alone_on
+
+    pub quiet_sent : (write : Sent) → Contains (without_session c.store session).writes write → write.session ≢ session
+    quiet_sent = none_sent g o st Stands Step register_is owners_are old x (letters ++ box) clocks machines c tree session stands all_allowed (register_laws.legal x c.register stands.at.parts.register_keeps) over.0 over.1 lives_on alone_on
+
+  module _ (write : Sent) (whose : write.session ≡ session) (until : write.until ≡ end) (taken : IsTaken st old new node box box_then write) where
     -- the store's past as it was before the node's turn
     abbrev past : StorePast
     past = record c.store { told = record c.store.told { letters = letters } }
@@ -123,8 +157,5 @@ module _ {G O S T : Type 0} (g : register.Ghosts G) (o : owners.Ghosts O) (st : 
           (subst (λ (l : List Letter). AreAmong IsOwners (letters ++ box_then) l) (sym stands.at.pasts.owners_letters) (none_new IsOwners IsStores not_owners letters box box_then taken.sent));
       end = (end, subst (λ (n : ℕ). Contains ((session, end) ∷ c.owners.leases) (n, end)) refl (front (session, end) c.owners.leases), let e = until in omega (arith, e));
       opened = subst (λ (chain : Chain). session < (last chain).next_session) chain_is (owners_laws.opened c.owners node session stands.at.parts.owners_keep own);
-      alone = λ one other block hold lives has holds.
-          subst (λ (chain : Chain). oldest chain ≤ other) chain_is
-          (owners_laws.alone c.owners one other block hold stands.at.parts.owners_keep
-          (subst (λ (chain : Chain). LivesIn (last chain) one) (sym chain_is) lives) (subst (λ (chain : Chain). HasRow (last chain) other) (sym chain_is) has) holds);
+      alone = alone_on;
     }

@@ -1,6 +1,5 @@
 -- What has to hold where a node sends a write; and the write of its log's work.
-use Rattle.std.proofs.Common.{◌≡◌, ◌≢◌, ◌∙◌, inl, ℕ, ◌+◌, ◌<◌, ◌≤◌, Bool, false, true, List, ◌∷◌, length, Contains, Some, refl, sym, subst, arith}
-use Rattle.bx_base.specs.declared.names.Actor.{Actor}
+use Rattle.std.proofs.Common.{◌≡◌, ◌≢◌, ◌∙◌, inl, ℕ, ◌+◌, ◌<◌, ◌≤◌, false, true, List, ◌∷◌, length, Contains, Some, refl, sym, subst, arith}
 use Rattle.bx_base.specs.declared.names.Actor.TheVariants.{Node}
 use Rattle.bx_disk.specs.Disks.{Disks}
 use Rattle.bx_facts.specs.declared.register.Register as register

@@ -1,8 +1,13 @@
 pub mod Answered
+pub mod Beginning
 pub mod Caches
+pub mod Drafted
+pub mod Fitting
 pub mod Joining
 pub mod Letters
 pub mod LettingGo
+pub mod LogSteps
 pub mod Machines
 pub mod Readings
 pub mod Receiving
+pub mod Stepping

@@ -1,5 +1,5 @@
 -- Machines in their list, and how they are seen.
-use Rattle.std.proofs.Common.{◌≡◌, ◌≢◌, ◌∙◌, ℕ, zero, suc, ◌<◌, List, [], ◌∷◌, length, Option, Some, None, IfSome, refl, sym, ap, arith}
+use Rattle.std.proofs.Common.{◌≡◌, ◌≢◌, ◌∙◌, ℕ, zero, suc, ◌<◌, List, [], ◌∷◌, length, Option, Some, None, IfSome, refl, sym, ap, subst, arith}
 use Rattle.std.specs.Prelude.{OnOk, Result, Ok, Err, false, is_some, option_map, slice_get, slice_set}
 use Rattle.bx_node_machines.specs.Machines.{MachineView}
 use Rattle.bx_nodes.specs.Seen.{seen, view_of}
@@ -97,3 +97,18 @@ rests_if (Some a) (Some b) P some same rests p = let k = same a b p in (k.0 ∙ 
 pub none_of : {A : Type 0} (found : Option A) → is_some found ≡ false → found ≡ None
 none_of None is = refl
 none_of (Some a) is = absurd cc
+
+-- What holds of the machine that is put there.
+pub put_there : (Holds : Machine → Type 0) (items : List Machine) (i : ℕ) (after before : Machine) → slice_get items i ≡ Some before → Holds after → IfSome (slice_get (slice_set items i after) i) Holds
+put_there Holds items i after before is holds = subst (λ (m : Option Machine). IfSome m Holds) (sym (set_here items i after before is)) holds
+
+pub was_there : (Holds : Machine → Type 0) (found : Option Machine) (before : Machine) → found ≡ Some before → Holds before → IfSome found Holds
+was_there Holds found before is holds = subst (λ (m : Option Machine). IfSome m Holds) (sym is) holds
+
+pub of_there : (Holds : Machine → Type 0) (found : Option Machine) (before : Machine) → found ≡ Some before → IfSome found Holds → Holds before
+of_there Holds found before is holds = subst (λ (m : Option Machine). IfSome m Holds) is holds
+
+-- What follows of what was found follows where it was.
+pub if_some : {A : Type 0} (found : Option A) (P Q : A → Type 0) → ((a : A) → P a → Q a) → IfSome found P → IfSome found Q
+if_some None P Q leads is = tt
+if_some (Some a) P Q leads is = leads a is

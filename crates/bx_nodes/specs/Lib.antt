@@ -2,5 +2,6 @@ pub mod Asks
 pub mod Changing
 pub mod Going
 pub mod Joined
+pub mod Logging
 pub mod Seen
 pub mod Turns

@@ -1,6 +1,6 @@
 //! The attempts of a turn.
 
-ghost use Rattle.std.specs.Prelude.{◌≡◌, ℕ, ◌<◌, ◌≤◌, false, true, length, All, List, IfOk, IfSome, None, Some, slice_get};
+ghost use Rattle.std.specs.Prelude.{◌≡◌, ℕ, ◌<◌, ◌≤◌, false, true, length, All, List, IfOk, IfSome, None, OnOk, Some, slice_get};
 ghost use Rattle.bx_base.specs.declared.names.Actor.TheVariants.{Node};
 ghost use Rattle.bx_disk.specs.Disks.{Disks};
 ghost use Rattle.bx_facts.specs.Chains.{LivesIn, last};
@@ -8,6 +8,7 @@ ghost use Rattle.bx_node_cache.specs.Kept.{held_in, hint_in};
 ghost use Rattle.bx_node_machines.specs.Nodes.{NodesStand};
 ghost use Rattle.bx_node_tries.specs.Tries.{AreNeeded, WaitsForBlocks};
 ghost use Rattle.bx_nodes.specs.Going.{Settle};
+ghost use Rattle.bx_nodes.specs.Logging.{IsFairBegun};
 ghost use Rattle.bx_nodes.specs.Seen.{seen};
 ghost use Rattle.bx_nodes.specs.Turns.{OnlyMachine, Turned};
 ghost use Rattle.bx_post.specs.declared.packets.Letter.{Letter};
@@ -53,6 +54,9 @@ impl<G: Register, O: Owners, S: Store, E: Engine> Nodes<G, O, S, E> {
         ensures needs { IfOk result (λ attempted. IfSome (slice_get self.new.machines.items node) (λ machine. All (AreNeeded (E.stands self.new.engine) (E.step self.new.engine) (E.free self.new.engine) (E.areas self.new.engine) (λ client bytes. E.path self.new.engine client bytes (held_in machine.cache.kept) (hint_in machine.cache.hinted)) (held_in machine.cache.kept) (hint_in machine.cache.hinted) moment machine.calls.items) attempted.needs.items)) }
         ensures waits { may_begin ≡ true → IfOk result (λ attempted. attempted.begun ≡ None → IfSome (slice_get self.new.machines.items node) (λ machine. All (WaitsForBlocks (E.stands self.new.engine) (E.step self.new.engine) (E.free self.new.engine) (E.areas self.new.engine) (λ client bytes. E.path self.new.engine client bytes (held_in machine.cache.kept) (hint_in machine.cache.hinted)) (held_in machine.cache.kept) (hint_in machine.cache.hinted) moment attempted.needs.items) machine.calls.items)) }
         ensures may { may_begin ≡ false → IfOk result (λ attempted. attempted.begun ≡ None) }
+        ensures begun { IfOk result (λ attempted. IfSome attempted.begun (λ begun. IfSome (slice_get self.new.machines.items node) (IsFairBegun (E.stands self.new.engine) (E.step self.new.engine) (E.free self.new.engine) (E.areas self.new.engine) (E.path self.new.engine) moment begun))) }
+        ensures only { OnOk result (IfSome (slice_get self.old.machines.items node) (λ old. IfSome (slice_get self.new.machines.items node) (λ new. new ≡ record old { calls = new.calls }))) }
+        ensures parts { (self.new.register ≡ self.old.register) × (self.new.owners ≡ self.old.owners) × (self.new.store ≡ self.old.store) × (self.new.engine ≡ self.old.engine) }
         ensures others { OnlyMachine node self.old.machines.items self.new.machines.items }
     {
         let machine = &mut self.machines[node];

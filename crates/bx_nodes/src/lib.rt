@@ -1,11 +1,14 @@
-//! The nodes of a cluster, over any register, owners, store and engine: what each has, and turns that only answer.
+//! The nodes of a cluster, over any register, owners, store and engine: what each has; turns that only answer, records that begin, and the steps of their logs.
 #![tactic(auto)]
 
 mod answers;
 mod asks;
+mod logs;
 mod machine;
 mod nodes;
 mod reads;
+mod recording;
+mod sends;
 mod turns;
 
 pub use answers::Attempted;

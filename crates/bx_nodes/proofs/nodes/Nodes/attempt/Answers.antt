@@ -6,11 +6,12 @@ use Rattle.bx_node_cache.specs.Kept.{held_in, hint_in}
 use Rattle.bx_node_tries.specs.Tries.{AllGo, AreNeeded, WaitsForBlocks}
 use Rattle.bx_node_tries.specs.declared.round.Waiting.{Waiting}
 use Rattle.bx_nodes.specs.Going.{Settle}
+use Rattle.bx_nodes.specs.Logging.{IsFairBegun}
 use Rattle.bx_nodes.specs.Seen.{seen, view_of}
 use Rattle.bx_nodes.specs.declared.answers.Attempted.{Attempted}
 use Rattle.bx_nodes.specs.declared.machine.Machine.{Machine}
 use Rattle.bx_nodes.proofs.Answered.{turned}
-use Rattle.bx_nodes.proofs.Machines.{seen_same, seen_there, set_here, set_there}
+use Rattle.bx_nodes.proofs.Machines.{if_some, put_there, seen_same, seen_there, set_here, set_there, was_there}
 use Rattle.bx_nodes.proofs.nodes.Nodes.attempt.Goals as goal
 
 pub returns : goal.returns
@@ -40,5 +41,11 @@ returns g c =
       waits = λ may none. subst (λ (m : Option Machine). IfSome m (λ machine. All (WaitsForBlocks (e.stands engine) (e.step engine) (e.free engine) (e.areas engine) (λ client bytes. e.path engine client bytes (held_in machine.cache.kept) (hint_in machine.cache.hinted))
           (held_in machine.cache.kept) (hint_in machine.cache.hinted) c.args.moment round.needs.items) machine.calls.items)) (sym (set_here items node after before was)) (c.in_ok-round.ensures.waits may none);
       may = λ may. c.in_ok-round.ensures.may may;
+      begun = if_some round.begun _ _
+          (λ begun is. put_there (IsFairBegun (e.stands engine) (e.step engine) (e.free engine) (e.areas engine) (e.path engine) c.args.moment begun) items node after before was (record { changes = is.0; tried = is.1 }))
+          c.in_ok-round.ensures.begun;
+      only = was_there (λ (old : Machine). IfSome (slice_get (slice_set items node after) node) (λ new. new ≡ record old { calls = new.calls })) (slice_get items node) before was
+          (put_there (λ (new : Machine). new ≡ record before { calls = new.calls }) items node after before was refl);
+      parts = (refl, refl, refl, refl);
       others = record { others = λ other ne. set_there items node other after ne };
     }

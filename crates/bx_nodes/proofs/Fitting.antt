@@ -1,0 +1,220 @@
+-- What a node's log asks for may be written, and the node goes on with it.
+use Rattle.std.proofs.Common.{◌≡◌, ⊎_elim, ◌∙◌, ℕ, ◌+◌, ◌-◌, ◌*◌, ◌/◌, ◌<◌, ◌≤◌, Bool, true, false, eqb, List, [], ◌∷◌, Contains, length, Option, Some, refl, sym, ap, subst, arith}
+use Rattle.std.proofs.lemmas.Bool.Decides.{nat_tests}
+use Rattle.std.proofs.lemmas.List.{length-replicate}
+use Rattle.bx_disk.specs.Disks.{sector_of}
+use Rattle.bx_facts.specs.Writes.{AreRuns, IsRun, Made, Writes, WritesIn}
+use Rattle.bx_facts.proofs.Lists.{front_or_behind, nothing}
+use Rattle.bx_fields.proofs.Whole.{length-padded}
+use Rattle.bx_layout.specs.Blocks.{HasParts, block_text}
+use Rattle.bx_layout.specs.Labels.{gate_text, gate_word}
+use Rattle.bx_layout.specs.declared.block.Block.{Block}
+use Rattle.bx_layout.specs.declared.gate.Gate.{Gate}
+use Rattle.bx_layout.specs.declared.gate.Gate.TheVariants.{Open, Closed as Shut}
+use Rattle.bx_node_cache.specs.Kept.{AreHomesOf}
+use Rattle.bx_node_tries.specs.declared.round.Said.{Said}
+use Rattle.bx_nodes.specs.Logging.{Begins, Closed, FitsStage, IsLogging, LogGoes, Rests, SendsClosing, SendsGate, SendsHomes, SendsShut}
+use Rattle.bx_nodes.specs.declared.machine.Machine.{Machine}
+use Rattle.bx_nodes.specs.declared.machine.Stage.{Stage}
+use Rattle.bx_nodes.specs.declared.machine.Stage.TheVariants as stages
+use Rattle.bx_nodes.specs.declared.recording.Recording.{Recording}
+use Rattle.bx_places.specs.Places.{IsBlock, IsVolume, block_place, log_device, log_start}
+use Rattle.bx_records.specs.Runs.{KindAndRuns}
+use Rattle.bx_records.specs.declared.runs.Run.{Run}
+use Rattle.bx_redo.specs.Homes.{home_run}
+use Rattle.bx_redo.specs.Steps.{record_of, shut_text}
+use Rattle.bx_redo.specs.View.{HasRoom, LogView}
+use Rattle.bx_redo.specs.declared.work.Work.{Work}
+use Rattle.bx_redo.specs.declared.work.Work.TheVariants as works
+use Rattle.bx_volume.specs.Records.{IsLogged, Logged, logged_text}
+use Rattle.bx_volume.proofs.Apart.{two_homes}
+use Rattle.bx_volume.proofs.Sizes.{block_bytes, logged_bytes}
+
+-- ---- runs that may be written
+
+only_run : (run other : Run) → Contains (run ∷ []) other → run ≡ other
+only_run run other has = ⊎_elim (λ same. same) (λ none. absurd (nothing other none)) (front_or_behind run [] other has)
+
+-- one run writes nothing twice
+one_fits : (made : Made) (run : Run) → IsRun made run → AreRuns made (run ∷ [])
+one_fits made run is = record {
+  each = λ other has. subst (IsRun made) (only_run run other has) is;
+  once = λ d s content other w v. sym (mine d s other v).is ∙ (mine d s content w).is;
+}
+  where
+    mine : (d s : ℕ) (content : List ℕ) → WritesIn (run ∷ []) d s content → Writes run d s content
+    mine d s content (it, has, w) = subst (λ (r : Run). Writes r d s content) (sym (only_run run it has)) w
+
+-- so many sectors in a log slot
+slot_fits : (made : Made) (slot device place sectors : ℕ) (bytes : List ℕ) → IsVolume made.devices made.areas → slot < 8 → device ≡ log_device slot made.devices → length bytes ≡ 512 * sectors → 1 ≤ sectors
+    → log_start slot ≤ place → place + sectors ≤ log_start slot + 1168 → AreRuns made ((record { device = device; place = place; bytes = bytes }) ∷ [])
+slot_fits made slot device place sectors bytes volume low on long least from to = one_fits made (record { device = device; place = place; bytes = bytes }) (record {
+  device = let some = volume.least_devices in omega (arith, on, some);
+  behind_label = omega (arith, from);
+  some = omega (arith, long, least);
+  whole = omega (arith, long);
+  within = omega (arith, long, to, low);
+})
+
+gate_long : (gate : Gate) → length (gate_text gate) ≡ 512
+gate_long Open = length-padded 512 gate_word (omega arith)
+gate_long Shut = length-replicate {A = ℕ} 512 0
+
+shut_long : length shut_text ≡ 3584
+unfolding shut_text
+shut_long = length-replicate {A = ℕ} 3584 0
+
+module _ (made : Made) (log : LogView) (volume : IsVolume made.devices made.areas) (low : log.slot < 8) (on : log.device ≡ log_device log.slot made.devices) where
+  body_fits : (logged : Logged) (areas : ℕ) → IsLogged areas logged → log.count < 8 → AreRuns made ((record { device = log.device; place = log_start log.slot + 8 + 145 * log.count; bytes = logged_text logged }) ∷ [])
+  body_fits logged areas is room =
+      let long = logged_bytes areas logged is in
+      let few = is.draft.most in
+      slot_fits made log.slot log.device (log_start log.slot + 8 + 145 * log.count) (1 + 9 * length logged.changed) (logged_text logged) volume low on (omega (arith, long)) (omega arith) (omega arith) (omega (arith, few, room))
+
+  opens_fits : log.count < 8 → AreRuns made ((record { device = log.device; place = log_start log.slot + log.count; bytes = gate_text Open }) ∷ [])
+  opens_fits room = slot_fits made log.slot log.device (log_start log.slot + log.count) 1 (gate_text Open) volume low on (omega (arith, gate_long Open)) (omega arith) (omega arith) (omega (arith, room))
+
+  closes_fits : AreRuns made ((record { device = log.device; place = log_start log.slot + 0; bytes = gate_text Shut }) ∷ [])
+  closes_fits = slot_fits made log.slot log.device (log_start log.slot + 0) 1 (gate_text Shut) volume low on (omega (arith, gate_long Shut)) (omega arith) (omega arith) (omega arith)
+
+  shuts_fits : AreRuns made ((record { device = log.device; place = log_start log.slot + 1; bytes = shut_text }) ∷ [])
+  shuts_fits = slot_fits made log.slot log.device (log_start log.slot + 1) 7 shut_text volume low on (omega (arith, shut_long)) (omega arith) (omega arith) (omega arith)
+
+-- the homes of blocks
+module _ (made : Made) (volume : IsVolume made.devices made.areas) (away : ℕ → Option Block) where
+  home_fits : (at : ℕ) (block : Block) → IsBlock made.areas at → HasParts block → IsRun made (home_run made.devices at block)
+  home_fits at block is parts = let long = block_bytes block parts in record {
+    device = there;
+    behind_label = omega arith;
+    some = omega (arith, long);
+    whole = omega (arith, long);
+    within = within long;
+  }
+    where
+      there : (block_place at made.devices).0 < made.devices
+      there = let v = volume.least_devices in omega (arith, v)
+
+      within : length (block_text block) ≡ 4608 → (block_place at made.devices).1 + length (block_text block) / 512 ≤ 9345 + 8649 * ((made.areas + made.devices - 1) / made.devices)
+      within long = let v = volume.least_devices in let area = is.area in let slot = is.slot in grind (arith, nat_tests)
+
+  pub homes_fit : (runs : List Run) → AreHomesOf made.devices made.areas away runs → AreRuns made runs
+  homes_fit runs are = record {
+    each = λ run has. let h = are.each run has in subst (IsRun made) (sym h.run_is) (home_fits h.at h.block h.is h.parts);
+    once = λ d s content other (run, has, w) (run_too, has_too, v).
+        let one = are.each run has in
+        let two = are.each run_too has_too in
+        both d s content other one.at two.at one.block two.block one.is two.is one.parts two.parts one.is_away two.is_away
+        (subst (λ (r : Run). Writes r d s content) one.run_is w) (subst (λ (r : Run). Writes r d s other) two.run_is v);
+  }
+    where
+      both : (d s : ℕ) (content other : List ℕ) (at at_too : ℕ) (block block_too : Block) → IsBlock made.areas at → IsBlock made.areas at_too → HasParts block → HasParts block_too → away at ≡ Some block → away at_too ≡ Some block_too
+          → Writes (home_run made.devices at block) d s content → Writes (home_run made.devices at_too block_too) d s other → other ≡ content
+      both d s content other at at_too block block_too is is_too parts parts_too out out_too w v = by (eqb at at_too) refl
+        where
+          by : (b : Bool) → eqb at at_too ≡ b → other ≡ content
+          by true same =
+              let e : at ≡ at_too = grind (arith, nat_tests, same) in
+              let n : Some block ≡ Some block_too = sym out ∙ ap away e ∙ out_too in
+              let f : block ≡ block_too = (let h = n in cc) in
+              sym v.is ∙ sym (λ i. sector_of (block_text (f i)) (s - (block_place (e i) made.devices).1)) ∙ w.is
+          by false differ =
+              let long = block_bytes block parts in
+              let long_too = block_bytes block_too parts_too in
+              let from = w.from in
+              let below = w.below in
+              let from_too = v.from in
+              let below_too = v.below in
+              absurd (⊎_elim (λ le. omega (arith, le, from, below, from_too, below_too, long, long_too)) (λ le. omega (arith, le, from, below, from_too, below_too, long, long_too))
+              (two_homes at at_too made.devices made.areas volume is is_too (λ e. grind (arith, nat_tests, differ, e)) (w.on ∙ sym v.on)))
+
+-- ---- what a node's log does
+
+module _ (made : Made) (own_store : Option ℕ) (old new : Machine) (is : IsLogging made own_store old) where
+  same_homes : (devices areas : ℕ) (away : ℕ → Option Block) (runs : List Run) → devices ≡ made.devices → areas ≡ made.areas → AreHomesOf devices areas away runs → AreHomesOf made.devices made.areas away runs
+  same_homes devices areas away runs same_devices same_areas are = subst (λ (d : ℕ). AreHomesOf d made.areas away runs) same_devices (subst (λ (a : ℕ). AreHomesOf devices a away runs) same_areas are)
+
+  fits_as : (stage : Stage) → old.stage ≡ stage → FitsStage old.cache.areas old.log stage
+  fits_as stage same = subst (λ (s : Stage). FitsStage old.cache.areas old.log s) same is.fits
+
+  room_as : (work : Work) → old.log.work ≡ work → HasRoom work old.log.count
+  room_as work same = subst (λ (w : Work). HasRoom w old.log.count) same is.room
+
+  -- what it asks for may be written
+  pub step_fits : (runs : KindAndRuns) (said : Option Said) → LogGoes old new (Some runs) said → AreRuns made runs.1
+  step_fits runs said (SendsGate pending text point stage work now) = opens_fits made old.log is.volume is.is_slot is.device (room_as (works.Body text point) work)
+  step_fits runs said (SendsHomes pending point stage work now volume commits homes) =
+      homes_fit made is.volume _ _ (same_homes new.cache.devices new.cache.areas _ _ (volume.devices ∙ is.devices) (volume.areas ∙ is.areas) homes)
+  step_fits runs said (SendsClosing stage now volume settles) = closes_fits made old.log is.volume is.is_slot is.device
+  step_fits runs said (SendsShut stage work now) = shuts_fits made old.log is.volume is.is_slot is.device
+
+  -- and it goes on
+  pub still_logging : (runs : Option KindAndRuns) (said : Option Said) → LogGoes old new runs said → IsLogging made own_store new
+  still_logging runs said (Rests stage now) = subst (λ (m : Machine). IsLogging made own_store m) (sym now) is
+  still_logging runs said (SendsGate pending text point stage work now) = subst (λ (m : Machine). IsLogging made own_store m) (sym now) (record {
+    session = is.session;
+    volume = is.volume;
+    devices = is.devices;
+    areas = is.areas;
+    is_slot = is.is_slot;
+    device = is.device;
+    room = room_as (works.Body text point) work;
+    fits = subst (λ (s : Stage). FitsStage old.cache.areas (record old.log { work = works.Opens point; out = true }) s) (sym stage) (tt, refl, (fits_as (stages.Records pending) stage).2);
+  })
+  still_logging runs said (SendsHomes pending point stage work now volume commits homes) = subst (λ (m : Machine). IsLogging made own_store m) (sym now) (record {
+    session = is.session;
+    volume = is.volume;
+    devices = volume.devices ∙ is.devices;
+    areas = volume.areas ∙ is.areas;
+    is_slot = is.is_slot;
+    device = is.device;
+    room = tt;
+    fits = (refl, omega arith);
+  })
+  still_logging runs said (SendsClosing stage now volume settles) = subst (λ (m : Machine). IsLogging made own_store m) (sym now) (record {
+    session = is.session;
+    volume = is.volume;
+    devices = volume.devices ∙ is.devices;
+    areas = volume.areas ∙ is.areas;
+    is_slot = is.is_slot;
+    device = is.device;
+    room = tt;
+    fits = (tt, refl, λ e. let wrong : works.Closes ≡ works.Shuts = e in absurd cc);
+  })
+  still_logging runs said (SendsShut stage work now) = subst (λ (m : Machine). IsLogging made own_store m) (sym now) (record {
+    session = is.session;
+    volume = is.volume;
+    devices = is.devices;
+    areas = is.areas;
+    is_slot = is.is_slot;
+    device = is.device;
+    room = tt;
+    fits = subst (λ (s : Stage). FitsStage old.cache.areas (record old.log { count = 0; work = works.Shuts; out = true }) s) (sym stage) (tt, refl, λ e. refl);
+  })
+  still_logging runs said (Closed stage work now) = subst (λ (m : Machine). IsLogging made own_store m) (sym now) (record {
+    session = is.session;
+    volume = is.volume;
+    devices = is.devices;
+    areas = is.areas;
+    is_slot = is.is_slot;
+    device = is.device;
+    room = tt;
+    fits = (refl, (fits_as stages.Closes stage).2 work);
+  })
+
+  -- so where a record begins
+  module _ (recording : Recording) (runs : KindAndRuns) (begins : Begins recording old new runs) (idle : old.stage ≡ stages.Idle) where
+    pub begin_fits : AreRuns made runs.1
+    begin_fits = subst (λ (r : KindAndRuns). AreRuns made r.1) (sym begins.asks)
+        (body_fits made old.log is.volume is.is_slot is.device (record_of recording.point recording.pending.draft) old.cache.areas begins.logged (let none = (fits_as stages.Idle idle).1 in omega (arith, none)))
+
+    pub begun_logging : IsLogging made own_store new
+    begun_logging = subst (λ (m : Machine). IsLogging made own_store m) (sym begins.only) (record {
+      session = is.session;
+      volume = is.volume;
+      devices = is.devices;
+      areas = is.areas;
+      is_slot = is.is_slot;
+      device = is.device;
+      room = let none = (fits_as stages.Idle idle).1 in omega (arith, none);
+      fits = (tt, refl, begins.logged.blocks);
+    })

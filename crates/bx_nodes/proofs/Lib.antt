@@ -1,5 +1,7 @@
 pub mod Answered
 pub mod Caches
+pub mod Fewer
+pub mod GivingUp
 pub mod Joining
 pub mod Letters
 pub mod LettingGo

@@ -3,11 +3,12 @@
 
 mod answers;
 mod asks;
+mod gives;
 mod machine;
 mod nodes;
 mod reads;
 mod turns;
 
 pub use answers::Attempted;
-pub use machine::{Fetch, Machine, Pending, Stage};
+pub use machine::{Fetch, Machine, Mark, Pending, Stage};
 pub use nodes::Nodes;

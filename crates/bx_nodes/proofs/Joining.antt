@@ -1,5 +1,5 @@
 -- A node that may use its parts may do so still.
-use Rattle.std.proofs.Common.{◌≡◌, ◌∙◌, ℕ, Bool, true, false, Option, Some, None, IfSome, IsSome, refl, sym, ap, subst, arith}
+use Rattle.std.proofs.Common.{◌≡◌, ◌∙◌, ℕ, ◌+◌, ◌-◌, ◌*◌, ◌/◌, ◌≤◌, Bool, true, false, Option, Some, None, IfSome, IsSome, refl, sym, ap, subst, arith}
 use Rattle.std.specs.Prelude.{◌==◌, if◌then◌else◌}
 use Rattle.std.proofs.lemmas.Bool.Decides.{nat_tests}
 use Rattle.bx_base.specs.declared.names.Mode.{Mode}
@@ -13,7 +13,7 @@ use Rattle.bx_nodes.specs.Joined.{FitsFetch, IsJoined}
 use Rattle.bx_nodes.specs.declared.machine.Fetch.{Fetch}
 use Rattle.bx_nodes.specs.declared.machine.Fetch.TheVariants as fetches
 use Rattle.bx_nodes.specs.declared.machine.Machine.{Machine}
-use Rattle.bx_places.specs.Places.{IsBlock, is_block}
+use Rattle.bx_places.specs.Places.{IsBlock, IsVolume, block_place, is_block}
 
 -- what fits what was asked fits where nothing is
 pub fits_none : (made areas : ℕ) (asked : Option Asked) (fetch : Fetch) → areas ≡ made → FitsFetch made asked fetch → FitsFetch areas None fetch
@@ -59,3 +59,7 @@ tested areas at is = let area = is.area in let slot = is.slot in grind (arith, n
 pub block_there : (found : Option Kept) (areas made engine at : ℕ) → areas ≡ made → engine ≡ made → IfSome found (λ one. IsBlock areas at) → IfSome found (λ one. is_block engine at ≡ true)
 block_there None areas made engine at same of is = tt
 block_there (Some one) areas made engine at same of is = tested engine at (subst (λ (n : ℕ). IsBlock n at) (same ∙ sym of) is)
+
+-- The nine sectors of a block's home are among a member's.
+pub home_within : (made : Made) (at : ℕ) → IsVolume made.devices made.areas → IsBlock made.areas at → (block_place at made.devices).1 + 9 ≤ 9345 + 8649 * ((made.areas + made.devices - 1) / made.devices)
+home_within made at volume is = grind (arith, nat_tests)

@@ -2,7 +2,9 @@ pub mod Answered
 pub mod Beginning
 pub mod Caches
 pub mod Drafted
+pub mod Fewer
 pub mod Fitting
+pub mod GivingUp
 pub mod Joining
 pub mod Letters
 pub mod LettingGo

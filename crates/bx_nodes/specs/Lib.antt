@@ -1,5 +1,6 @@
 pub mod Asks
 pub mod Changing
+pub mod Gives
 pub mod Going
 pub mod Joined
 pub mod Logging

@@ -1,8 +1,10 @@
-//! The nodes of a cluster, over any register, owners, store and engine: what each has; turns that only answer, records that begin, and the steps of their logs.
+//! The nodes of a cluster, over any register, owners, store and engine: what each has; what it reads, wants and gives back; turns that only answer, records that
+//! begin, and the steps of their logs.
 #![tactic(auto)]
 
 mod answers;
 mod asks;
+mod gives;
 mod logs;
 mod machine;
 mod nodes;
@@ -12,5 +14,5 @@ mod sends;
 mod turns;
 
 pub use answers::Attempted;
-pub use machine::{Fetch, Machine, Pending, Stage};
+pub use machine::{Fetch, Machine, Mark, Pending, Stage};
 pub use nodes::Nodes;

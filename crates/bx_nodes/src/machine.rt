@@ -6,7 +6,7 @@ ghost use Rattle.bx_nodes.specs.declared.machine.Stage.TheVariants.{Idle};
 ghost use Rattle.bx_places.specs.Places.{IsVolume};
 ghost use Rattle.bx_redo.specs.Steps.{closed_log};
 
-use bx_base::{Mode, Raw};
+use bx_base::{CallNo, Mode, Raw};
 use bx_node_cache::Cache;
 use bx_node_tries::Waiting;
 use bx_records::Draft;
@@ -46,6 +46,17 @@ pub enum Fetch {
     Dropped,
 }
 
+/// Since when a block is asked back.
+#[derive(Drop)]
+pub struct Mark {
+    /// The block.
+    pub block: u64,
+    /// The session that asks.
+    pub asking: u64,
+    /// The newest call that waited when that was seen first; 0 where none did.
+    pub last: CallNo,
+}
+
 /// What a node has.
 #[derive(Drop)]
 pub struct Machine {
@@ -61,6 +72,8 @@ pub struct Machine {
     pub fetch: Fetch,
     /// The calls that wait, the oldest first.
     pub calls: Vec<Waiting>,
+    /// Since when the first block is asked back.
+    pub mark: Option<Mark>,
 }
 
 impl Machine {
@@ -71,7 +84,7 @@ impl Machine {
         ensures cache { result.cache ≡ record { devices = devices; areas = areas; kept = []; hinted = [] } }
         ensures log { result.log ≡ closed_log 0 0 }
         ensures idle { (result.stage ≡ Idle) × (result.fetch ≡ Nothing) }
-        ensures calls { result.calls.items ≡ [] }
+        ensures calls { (result.calls.items ≡ []) × (result.mark ≡ None) }
     {
         Machine {
             session: None,
@@ -80,6 +93,7 @@ impl Machine {
             stage: Stage::Idle,
             fetch: Fetch::Nothing,
             calls: Vec::new(alloc),
+            mark: None,
         }
     }
 }

@@ -1,4 +1,4 @@
-use Rattle.std.proofs.Common.{◌≡◌, ◌∙◌, ℕ, Option, Some, IfSome, refl, sym, ap, subst, arith}
+use Rattle.std.proofs.Common.{◌≡◌, ◌∙◌, ℕ, Option, Some, IfSome, refl, sym, ap, subst, arith, ◌+◌, ◌-◌, ◌*◌, ◌/◌, ◌≤◌}
 use Rattle.std.specs.Prelude.{slice_get, slice_set}
 use Rattle.std.proofs.lemmas.Option.{slice_get-get_or}
 use Rattle.bx_base.specs.declared.names.Actor.TheVariants.{Node}
@@ -9,15 +9,29 @@ use Rattle.bx_nodes.specs.Seen.{seen}
 use Rattle.bx_nodes.specs.declared.machine.Fetch.TheVariants.{Block}
 use Rattle.bx_nodes.specs.declared.machine.Machine.{Machine}
 use Rattle.bx_nodes.specs.declared.machine.Stage.TheVariants.{Idle}
-use Rattle.bx_nodes.proofs.Joining.{joined_then}
+use Rattle.bx_nodes.proofs.Joining.{home_within, joined_then}
 use Rattle.bx_nodes.proofs.Machines.{seen_others, seen_there, set_here, set_there}
 use Rattle.bx_nodes.proofs.Readings.{reads}
-use Rattle.bx_places.specs.Places.{block_place}
+use Rattle.bx_places.specs.Places.{IsVolume, block_place}
 use Rattle.bx_nodes.proofs.nodes.Nodes.read.Goals as goal
 
 -- the read of a place is that of the block that stands there
 place_asked : (place block : ℕ × ℕ) → place ≡ block → (let p : Asked = record { device = place.0; place = place.1; count = 9 } in p) ≡ record { device = block.0; place = block.1; count = 9 }
 place_asked place block e = λ i. record { device = (e i).0; place = (e i).1; count = 9 }
+
+pub read-requires-clause-within : goal.read-requires-clause-within
+read-requires-clause-within g c =
+    let items = c.args.self.now.machines.items in
+    let node = c.args.node in
+    let at = c.args.at in
+    let store = c.args.self.now.store in
+    let made = g.S.Store.made store in
+    let before = c.index_mut-machine.result.now in
+    let was : slice_get items node ≡ Some before = slice_get-get_or items node before c.requires.there ∙ ap (λ (m : Machine). Some m) (sym c.index_mut-machine.ensures.value) in
+    let joined = subst (λ (m : Option Machine). IfSome m (IsJoined made (g.E.Engine.areas c.args.self.now.engine) (g.O.Owners.own c.args.self.now.owners node) (g.S.Store.own store node) (g.S.Store.asked store node))) was c.requires.joined in
+    let place : c.place-device.result ≡ block_place at made.devices = c.place-device.ensures.place ∙ ap (λ (d : ℕ). block_place at d) joined.devices in
+    let volume = subst (λ (n : ℕ). IsVolume made.devices n) joined.areas (subst (λ (d : ℕ). IsVolume d before.cache.areas) joined.devices c.place-device.ensures.volume) in
+    subst (λ (n : ℕ). n + 9 ≤ 9345 + 8649 * ((made.areas + made.devices - 1) / made.devices)) (sym (ap (λ (p : ℕ × ℕ). p.1) place)) (home_within made at volume c.requires.is_block)
 
 pub returns-clause-stands : goal.returns-clause-stands
 returns-clause-stands g c = λ x letters clocks course tree session up stands own live mine.

@@ -1,0 +1,34 @@
+-- What a node gives back.
+use Rattle.std.specs.Prelude.{◌≡◌, ◌==◌, ◌&&◌, ◌||◌, not, if◌then◌else◌, ℕ, ◌≤◌, max, nat_le, nat_lt, Bool, false, true, List, [], ◌∷◌, Option, Some, None, IsSomeAnd}
+use Rattle.bx_facts.specs.Holds.{Hold}
+use Rattle.bx_node_tries.specs.declared.round.Waiting.{Waiting}
+use Rattle.bx_nodes.specs.declared.machine.Machine.{Machine}
+use Rattle.bx_nodes.specs.declared.machine.Mark.{Mark}
+
+-- the newest of calls, by its number
+abbrev pub newest : List Waiting → ℕ
+newest [] = 0
+newest (call ∷ calls) = max call.number (newest calls)
+
+-- whether one of these calls is no newer than this one, and is still attempted
+abbrev pub waits_since : ℕ → List Waiting → Bool
+waits_since last [] = false
+waits_since last (call ∷ calls) = (nat_le call.number last && not call.is_over && nat_lt call.inners 200000) || waits_since last calls
+
+-- the newest call that waited when a block was seen first that a session asks back: as it was noted, or the newest that waits now
+abbrev pub since_mark : ℕ → ℕ → List Waiting → Option Mark → ℕ
+since_mark block asking calls None = newest calls
+since_mark block asking calls (Some mark) = if (mark.block == block) && (mark.asking == asking) then mark.last else newest calls
+
+abbrev pub since : ℕ → ℕ → Machine → ℕ
+since block asking machine = since_mark block asking machine.calls.items machine.mark
+
+-- the mark of what is asked back
+abbrev pub marked : Option (ℕ × ℕ) → Machine → Option Mark
+marked None machine = None
+marked (Some asked) machine = Some (record { block = asked.0; asking = asked.1; last = since asked.0 asked.1 machine })
+
+-- A block that is asked back stays: it isn't held; or a session that isn't earlier than this one asks for it, and a call still waits that waited when that was seen first.
+pub data MayKeep (hold : Option Hold) (session : ℕ) (asked : ℕ × ℕ) (machine : Option Machine) : Type 0 where
+  NotHeld : hold ≡ None → MayKeep hold session asked machine
+  Awaited : session ≤ asked.1 → IsSomeAnd machine (λ one. waits_since (since asked.0 asked.1 one) one.calls.items ≡ true) → MayKeep hold session asked machine

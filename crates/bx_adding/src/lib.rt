@@ -2,7 +2,6 @@
 #![tactic(auto)]
 
 mod entering;
-mod keys;
 mod rooms;
 
 pub use entering::enter;

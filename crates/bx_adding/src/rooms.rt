@@ -10,11 +10,11 @@ ghost use Rattle.bx_truth.specs.Keys.{entry_key, name_key};
 ghost use Rattle.bx_adding.specs.Finding.{OnRoomPath, ReadyIn, RoomIn};
 ghost use Rattle.bx_adding.specs.Lacking.{FindsBoth, IfFirst, MakesEither};
 
-use crate::keys::{key_by_name, key_by_number};
 use bx_changes::ChangeError;
 use bx_entries::Known;
 use bx_handles::ChunkHandle;
 use bx_inodes::Stop;
+use bx_keys::{key_by_name, key_by_number};
 use bx_ready::ready;
 use bx_views::View;
 use std::alloc::Global;

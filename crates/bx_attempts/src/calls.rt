@@ -15,7 +15,7 @@ use bx_create::{create, mkdir, symlink};
 use bx_entries::{Removable, remove};
 use bx_model::{Args, Call, Reply};
 use bx_records::Draft;
-use bx_renaming::{link, rename};
+use bx_renaming::{Names, link, rename};
 use bx_rpc::NFS_PROGRAM;
 use bx_sizes::setattr;
 use bx_views::{Attempt, View};
@@ -154,9 +154,13 @@ fn act<V: View>(
         Args::Rename(from, name, to, new_name) => {
             let (from, name) = (from.bytes(), name.bytes());
             let (to, new_name) = (to.bytes(), new_name.bytes());
-            with_no_file(rename(
-                alloc, volume, areas, call, from, name, to, new_name, now, view,
-            ))
+            let names = Names {
+                from,
+                name,
+                to,
+                new_name,
+            };
+            with_no_file(rename(alloc, volume, areas, call, &names, now, view))
         }
         Args::Link(from, at, name) => {
             let (from, at, name) = (from.bytes(), at.bytes(), name.bytes());

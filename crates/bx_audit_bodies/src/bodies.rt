@@ -8,15 +8,12 @@ ghost use Rattle.bx_audit_bodies.specs.Parts.{IsPartWith, IsTornDead, IsTornTree
 ghost use Rattle.bx_audit_bodies.specs.Pieces.{IsPieceEntry};
 ghost use Rattle.bx_audit_bodies.specs.declared.pieces.Piece.{Piece as Part};
 ghost use Rattle.bx_audit_trees.specs.declared.error.AuditError.TheVariants.{Fault as DiskFailed};
-ghost use Rattle.bx_audit_trees.specs.Errors.{IfTorn};
+ghost use Rattle.bx_audit_files.specs.Audits.{CanRead, Chunks, IfTorn, ReadsChunks, Shows, StillShows};
 ghost use Rattle.bx_audit_trees.specs.Leading.{IsLedTo};
-ghost use Rattle.bx_audit_trees.specs.Shown.{Shows};
 ghost use Rattle.bx_layout.specs.Inodes.{IsInode};
 ghost use Rattle.bx_tree_files.specs.declared.file.File.{File as Kept};
-ghost use Rattle.bx_truth.specs.PageTrees.{Chunks, PageTree, IsTree, map_of};
+ghost use Rattle.bx_truth.specs.PageTrees.{PageTree, IsTree, map_of};
 ghost use Rattle.bx_truth.specs.Stored.{Owner};
-ghost use Rattle.bx_audit_trees.specs.Reading.{ReadsChunks, StillShows};
-ghost use Rattle.bx_homes.specs.Reading.{CanRead};
 
 use crate::claims::{Claim, claims_of};
 use crate::contents::read_pieces;

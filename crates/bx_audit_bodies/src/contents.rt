@@ -5,13 +5,9 @@ ghost use Rattle.bx_audit_bodies.specs.Contents.{HasClear, IsClear, PutsPiece, w
 ghost use Rattle.bx_audit_bodies.specs.Parts.{IsFirstPiece, IsOfOne, IsUnclearPiece};
 ghost use Rattle.bx_audit_bodies.specs.Pieces.{AreApart, HasPiece, piece_among};
 ghost use Rattle.bx_audit_files.specs.Inodes.{IsBlockAt};
-ghost use Rattle.bx_audit_trees.specs.Errors.{IfTorn};
-ghost use Rattle.bx_audit_trees.specs.Shown.{Shows};
+ghost use Rattle.bx_audit_files.specs.Audits.{CanRead, Chunks, IfTorn, ReadsChunks, Shows, StillShows};
 ghost use Rattle.bx_layout.specs.declared.block.Block.{Block};
-ghost use Rattle.bx_truth.specs.PageTrees.{Chunks};
 ghost use Rattle.bx_truth.specs.Stored.{AreBytesOf};
-ghost use Rattle.bx_audit_trees.specs.Reading.{ReadsChunks, StillShows};
-ghost use Rattle.bx_homes.specs.Reading.{CanRead};
 
 use crate::pieces::Piece;
 use bx_audit_files::block_at;

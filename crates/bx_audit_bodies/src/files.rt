@@ -5,16 +5,12 @@ ghost use Rattle.bx_audit_bodies.specs.Faults.{HasFault};
 ghost use Rattle.bx_audit_bodies.specs.Outlines.{AreRight, IsFileOutline, IsOutlineAt, IsReadable, IsRight, IsUnreadFile};
 ghost use Rattle.bx_audit_bodies.specs.Parts.{IsPartOf, IsTornDead};
 ghost use Rattle.bx_audit_bodies.specs.Reading.{AreEntriesApart, IsReadAs, IsStored};
-ghost use Rattle.bx_audit_trees.specs.Errors.{IfTorn};
-ghost use Rattle.bx_audit_trees.specs.Shown.{Shows};
+ghost use Rattle.bx_audit_files.specs.Audits.{CanRead, Chunks, IfTorn, ReadsChunks, Shows, StillShows};
 ghost use Rattle.bx_audit_files.specs.Inodes.{IsInodeAt};
 ghost use Rattle.bx_layout.specs.declared.inode.Inode.{Inode};
 ghost use Rattle.bx_tree_files.specs.declared.file.File.{File as Kept};
 ghost use Rattle.bx_tree_files.specs.Files.{IsFile};
-ghost use Rattle.bx_truth.specs.PageTrees.{Chunks};
 ghost use Rattle.bx_truth.specs.Stored.{Owner, Stored};
-ghost use Rattle.bx_audit_trees.specs.Reading.{ReadsChunks, StillShows};
-ghost use Rattle.bx_homes.specs.Reading.{CanRead};
 
 use crate::bodies::{dead_of, directory_of, file_with, link_of, regular_of};
 use crate::contents::{bytes_of, check_pieces};

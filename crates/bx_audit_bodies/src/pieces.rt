@@ -9,9 +9,9 @@ ghost use Rattle.bx_audit_trees.specs.Trees.{tree_of};
 ghost use Rattle.bx_truth.specs.Keys.{content_value};
 ghost use Rattle.bx_truth.specs.PageTrees.{map_of};
 
-use bx_audit_files::{handle_in, number_behind};
 use bx_audit_trees::{AuditError, ReadTree, torn_at};
 use bx_base::OutOfMemory;
+use bx_keys::{handle_in, number_behind};
 use bx_page::{Entry, Page};
 use std::alloc::Global;
 

@@ -1,5 +1,4 @@
 pub mod OfKind
-pub mod NameKeys
 pub mod PairedEntries
 pub mod Rising
 pub mod NamesOfTrees

@@ -1,3 +1,4 @@
+pub mod Audits
 pub mod Inodes
 pub mod Names
 pub mod Lists

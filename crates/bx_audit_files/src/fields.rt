@@ -1,79 +1,14 @@
-//! The numbers and names in the keys and values of a directory's tree.
+//! The names in the keys and values of a directory's tree.
 
-ghost use Rattle.std.specs.Prelude.{◌≡◌, ◌∷◌, ◌++◌, ◌^◌, ◌<◌, ℕ, List, IfOk, IfSome, IfNone};
-ghost use Rattle.std.specs.Int.{w32, w64, to_be_bytes};
+ghost use Rattle.std.specs.Prelude.{◌≡◌, IfOk, IfSome, IfNone};
 ghost use Rattle.bx_audit_files.specs.Names.{Fits, IsByName, IsByNumber};
 ghost use Rattle.bx_tree_files.specs.declared.file.Name.{Name};
-ghost use Rattle.bx_truth.specs.Keys.{name_key, name_value, entry_key, entry_value};
 
 use bx_base::{OutOfMemory, Raw};
-use bx_fields::{u32_at, u64_at};
+use bx_keys::{handle_in, name_in, number_of, place_in};
 use bx_page::Entry;
 use bx_tree_files::Name;
 use std::alloc::Global;
-
-/// What a key begins with that has a name, and one that has a number.
-const BY_NAME: u8 = 1;
-
-const BY_NUMBER: u8 = 2;
-
-/// A number of 32 bits at the front, and the bytes behind it; `None` exactly where there are fewer bytes.
-fn number_in(bytes: &[u8]) -> Option<(u32, &[u8])>
-    ensures some { IfSome result (λ x. bytes.now ≡ to_be_bytes w32 x.0 ++ x.1.now) }
-    ensures none { IfNone result ((number : ℕ) (rest : List ℕ) → number < 2 ^ 32 → bytes.now ≡ to_be_bytes w32 number ++ rest → ⊥) }
-{
-    match u32_at(bytes) {
-        Ok(found) => Some(found),
-        Err(_) => None,
-    }
-}
-
-/// A handle at the front, and the bytes behind it; `None` exactly where there are fewer bytes.
-pub fn handle_in(bytes: &[u8]) -> Option<(u64, &[u8])>
-    ensures some { IfSome result (λ x. bytes.now ≡ to_be_bytes w64 x.0 ++ x.1.now) }
-    ensures none { IfNone result ((handle : ℕ) (rest : List ℕ) → handle < 2 ^ 64 → bytes.now ≡ to_be_bytes w64 handle ++ rest → ⊥) }
-{
-    match u64_at(bytes) {
-        Ok(found) => Some(found),
-        Err(_) => None,
-    }
-}
-
-/// The number of a key that begins with a byte and has four more.
-pub fn number_behind(first: u8, key: &[u8]) -> Option<u32>
-    ensures some { IfSome result (λ number. key.now ≡ first ∷ to_be_bytes w32 number) }
-    ensures none { IfNone result ((number : ℕ) → number < 2 ^ 32 → key.now ≡ first ∷ to_be_bytes w32 number → ⊥) }
-{
-    let (begins, rest) = key.split_first()?;
-    if *begins != first {
-        return None;
-    }
-    let (number, rest) = number_in(rest)?;
-    if rest.is_empty() { Some(number) } else { None }
-}
-
-/// The name of a key by name.
-fn name_in(key: &[u8]) -> Option<&[u8]>
-    ensures some { IfSome result (λ name. key.now ≡ name_key name.now) }
-    ensures none { IfNone result ((name : List ℕ) → key.now ≡ name_key name → ⊥) }
-{
-    let (first, rest) = key.split_first()?;
-    if *first == BY_NAME { Some(rest) } else { None }
-}
-
-/// The number and the handle of a value by name.
-fn parts_of(value: &[u8]) -> Option<(u32, u64)>
-    ensures some { IfSome result (λ x. value.now ≡ name_value x.0 x.1) }
-    ensures none { IfNone result ((number handle : ℕ) → number < 2 ^ 32 → handle < 2 ^ 64 → value.now ≡ name_value number handle → ⊥) }
-{
-    let (number, rest) = number_in(value)?;
-    let (handle, rest) = handle_in(rest)?;
-    if rest.is_empty() {
-        Some((number, handle))
-    } else {
-        None
-    }
-}
 
 /// The name of which an entry is the one by number; `None` exactly where it is no name's.
 pub(crate) fn by_number(alloc: Global, entry: &Entry) -> Result<Option<Name>, OutOfMemory>
@@ -81,18 +16,14 @@ pub(crate) fn by_number(alloc: Global, entry: &Entry) -> Result<Option<Name>, Ou
     ensures fits { IfOk result (λ found. IfSome found Fits) }
     ensures none { IfOk result (λ found. IfNone found ((name : Name) → Fits name → IsByNumber name entry.now → ⊥)) }
 {
-    let Some(number) = number_behind(BY_NUMBER, entry.key.bytes()) else {
+    let Some(number) = number_of(entry.key.bytes()) else {
         return Ok(None);
     };
     let Some((handle, name)) = handle_in(entry.value.bytes()) else {
         return Ok(None);
     };
-    let name = Raw::of(alloc, name)?;
-    Ok(Some(Name {
-        number,
-        name,
-        handle,
-    }))
+    let name = name_with(alloc, number, name, handle)?;
+    Ok(Some(name))
 }
 
 /// The name of which an entry is the one by name; `None` exactly where it is no name's.
@@ -104,53 +35,20 @@ pub(crate) fn by_name(alloc: Global, entry: &Entry) -> Result<Option<Name>, OutO
     let Some(name) = name_in(entry.key.bytes()) else {
         return Ok(None);
     };
-    let Some((number, handle)) = parts_of(entry.value.bytes()) else {
+    let Some((number, handle)) = place_in(entry.value.bytes()) else {
         return Ok(None);
     };
-    let name = Raw::of(alloc, name)?;
-    Ok(Some(Name {
+    let name = name_with(alloc, number, name, handle)?;
+    Ok(Some(name))
+}
+
+/// A name with its number and its handle.
+fn name_with(alloc: Global, number: u32, name: &[u8], handle: u64) -> Result<Name, OutOfMemory>
+    ensures { IfOk result (λ made. made ≡ record { number = number; name = name.now; handle = handle }) }
+{
+    Ok(Name {
         number,
-        name,
+        name: Raw::of(alloc, name)?,
         handle,
-    }))
-}
-
-/// The key of a name by name.
-pub(crate) fn key_by_name(alloc: Global, name: &Raw) -> Result<Raw, OutOfMemory>
-    ensures { IfOk result (λ key. key ≡ name_key name.now) }
-{
-    let mut bytes = Vec::new(alloc);
-    bytes.push(BY_NAME)?;
-    bytes.extend_from_slice(name.bytes())?;
-    Ok(Raw::from(bytes))
-}
-
-/// The value of a name by name.
-pub(crate) fn value_by_name(alloc: Global, number: u32, handle: u64) -> Result<Raw, OutOfMemory>
-    ensures { IfOk result (λ value. value ≡ name_value number handle) }
-{
-    let mut bytes = Vec::new(alloc);
-    bytes.extend_from_slice(&number.to_be_bytes())?;
-    bytes.extend_from_slice(&handle.to_be_bytes())?;
-    Ok(Raw::from(bytes))
-}
-
-/// The key of a name by number.
-pub(crate) fn key_by_number(alloc: Global, number: u32) -> Result<Raw, OutOfMemory>
-    ensures { IfOk result (λ key. key ≡ entry_key number) }
-{
-    let mut bytes = Vec::new(alloc);
-    bytes.push(BY_NUMBER)?;
-    bytes.extend_from_slice(&number.to_be_bytes())?;
-    Ok(Raw::from(bytes))
-}
-
-/// The value of a name by number.
-pub(crate) fn value_by_number(alloc: Global, handle: u64, name: &Raw) -> Result<Raw, OutOfMemory>
-    ensures { IfOk result (λ value. value ≡ entry_value handle name.now) }
-{
-    let mut bytes = Vec::new(alloc);
-    bytes.extend_from_slice(&handle.to_be_bytes())?;
-    bytes.extend_from_slice(name.bytes())?;
-    Ok(Raw::from(bytes))
+    })
 }

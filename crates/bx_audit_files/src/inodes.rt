@@ -2,15 +2,11 @@
 
 ghost use Rattle.std.specs.Prelude.{◌≡◌, IfOk, IfSome, IfNone};
 ghost use Rattle.bx_audit_files.specs.Inodes.{IsBlockAt, IsInodeAt};
-ghost use Rattle.bx_audit_trees.specs.Errors.{IfTorn};
-ghost use Rattle.bx_audit_trees.specs.Shown.{Shows};
+ghost use Rattle.bx_audit_files.specs.Audits.{CanRead, Chunks, IfTorn, ReadsChunks, Shows, StillShows};
 ghost use Rattle.bx_layout.specs.declared.block.Block.{Block};
 ghost use Rattle.bx_layout.specs.declared.inode.Inode.{Inode};
 ghost use Rattle.bx_layout.specs.Inodes.{IsInode};
-ghost use Rattle.bx_truth.specs.PageTrees.{Chunks};
 ghost use Rattle.bx_truth.specs.Stored.{HasInode};
-ghost use Rattle.bx_audit_trees.specs.Reading.{ReadsChunks, StillShows};
-ghost use Rattle.bx_homes.specs.Reading.{CanRead};
 
 use bx_audit_trees::{AuditError, chunk_at, torn_at};
 use bx_base::OutOfMemory;

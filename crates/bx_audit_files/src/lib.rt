@@ -6,6 +6,5 @@ mod inodes;
 mod lists;
 mod names;
 
-pub use fields::{handle_in, number_behind};
 pub use inodes::{block_at, inode_at};
 pub use lists::entries_of;

@@ -9,11 +9,10 @@ ghost use Rattle.bx_truth.specs.Keys.{name_key, name_value, entry_key, entry_val
 ghost use Rattle.bx_truth.specs.PageTrees.{Chunks, IsTree, map_of};
 ghost use Rattle.bx_truth.specs.Stored.{AreNames};
 
-use crate::fields::{
-    by_name, by_number, key_by_name, key_by_number, value_by_name, value_by_number,
-};
+use crate::fields::{by_name, by_number};
 use bx_audit_trees::ReadTree;
 use bx_base::{OutOfMemory, Raw};
+use bx_keys::{key_by_name, key_by_number, value_by_name, value_by_number};
 use bx_page::{Entry, Page};
 use bx_tree_files::Name;
 use std::alloc::Global;
@@ -99,7 +98,7 @@ fn put_name(
 fn is_named(alloc: Global, tree: &ReadTree, name: &Name) -> Result<bool, OutOfMemory>
     ensures { (chunks : Chunks) (root : ℕ) → IsTree chunks root (tree_of tree.now) → IfOk result (λ there. IsTrue there ↔ (value_of (map_of (tree_of tree.now)) (name_key name.now.name) ≡ Some (name_value name.now.number name.now.handle))) }
 {
-    let key = key_by_name(alloc, &name.name)?;
+    let key = key_by_name(alloc, name.name.bytes())?;
     let value = value_by_name(alloc, name.number, name.handle)?;
     Ok(has(tree, &key, &value))
 }
@@ -109,7 +108,7 @@ fn is_numbered(alloc: Global, tree: &ReadTree, name: &Name) -> Result<bool, OutO
     ensures { (chunks : Chunks) (root : ℕ) → IsTree chunks root (tree_of tree.now) → IfOk result (λ there. IsTrue there ↔ (value_of (map_of (tree_of tree.now)) (entry_key name.now.number) ≡ Some (entry_value name.now.handle name.now.name))) }
 {
     let key = key_by_number(alloc, name.number)?;
-    let value = value_by_number(alloc, name.handle, &name.name)?;
+    let value = value_by_number(alloc, name.handle, name.name.bytes())?;
     Ok(has(tree, &key, &value))
 }
 

@@ -1,18 +1,18 @@
 //! The attributes that a client sets, by a file's inode.
 
-ghost use Rattle.std.specs.Prelude.{◌≡◌, ◌||◌, IfOk};
+ghost use Rattle.std.specs.Prelude.{◌≡◌, IfOk};
 ghost use Rattle.bx_inodes.specs.Heads.{head_of as head_by};
 ghost use Rattle.bx_layout.specs.Inodes.{IsInode};
 ghost use Rattle.bx_model.specs.Writing.{is_forbidden as is_forbidden_to};
 ghost use Rattle.bx_tree_files.specs.Changes.{sets_field as sets_a_field};
-ghost use Rattle.bx_tree_files.specs.Times.{is_given as is_given_word};
 ghost use Rattle.bx_changes.specs.Given.{with_given as with_those_given};
 
 use bx_base::OutOfMemory;
+use bx_call_parts::forbids;
 use bx_inodes::head_of;
 use bx_layout::Inode;
-use bx_model::{Call, Sattr, Want, may};
-use bx_tree_files::{File, MODES, given_or, is_given, time_or};
+use bx_model::{Call, Sattr};
+use bx_tree_files::{MODES, given_or, is_given, time_or};
 use std::alloc::Global;
 
 /// Whether any attribute is given.
@@ -62,20 +62,4 @@ pub fn is_forbidden(
 {
     let head = head_of(alloc, handle, inode)?;
     Ok(forbids(call, &head, sattr))
-}
-
-/// The same, by what the inode says of the file.
-fn forbids(call: &Call, head: &File, sattr: &Sattr) -> bool
-    ensures { result ≡ is_forbidden_to call.now head.now sattr.now }
-{
-    sets_mode_or_times(sattr) && !may(call, head, Want::Times)
-        || is_given(sattr.uid) && !may(call, head, Want::Uid(sattr.uid))
-        || is_given(sattr.gid) && !may(call, head, Want::Gid(sattr.gid))
-}
-
-/// Whether the mode or a time is given.
-fn sets_mode_or_times(sattr: &Sattr) -> bool
-    ensures { result ≡ (is_given_word sattr.now.mode || is_given_word sattr.now.atime.0 || is_given_word sattr.now.mtime.0) }
-{
-    is_given(sattr.mode) || is_given(sattr.atime.0) || is_given(sattr.mtime.0)
 }

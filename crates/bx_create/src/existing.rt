@@ -55,12 +55,22 @@ pub(crate) fn create_over<V: View>(
     ensures held { IfOk result (λ made. IsHeldDraft (V.held view.now) made.0) }
     ensures first { HoldsInner (V.held view.now) result }
 {
-    if is_given(sattr.size) {
-        return sized_over(alloc, volume, areas, call, handle, sattr, now, view);
+    if !is_given(sattr.size) {
+        return match told_over(alloc, volume, areas, handle, view) {
+            Err(stop) => Err(stop),
+            Ok(reply) => Ok((Draft::new(alloc), reply)),
+        };
     }
-    match told_over(alloc, volume, areas, handle, view) {
+    let none = Draft::new(alloc);
+    match inode_at(alloc, &none, view, areas, handle, Mode::Exclusive) {
         Err(stop) => Err(stop),
-        Ok(reply) => Ok((Draft::new(alloc), reply)),
+        Ok(inode) => {
+            if inode.kind != REGULAR {
+                return Err(Stop::Status(EXIST));
+            }
+            let volume = (volume, areas);
+            set_over(alloc, volume, call, handle, inode, sattr, now, view)
+        }
     }
 }
 
@@ -91,45 +101,6 @@ fn told_over<V: View>(
                 Err(_) => Err(Stop::OutOfMemory),
                 Ok(reply) => Ok(reply),
             }
-        }
-    }
-}
-
-/// The same with a size: it is set.
-///
-/// `Need` names a block that isn't held: that of its inode, exclusively; and where that is held, one on the path of clearing.
-fn sized_over<V: View>(
-    alloc: Global,
-    volume: u64,
-    areas: u16,
-    call: &Call,
-    handle: u64,
-    sattr: &Sattr,
-    now: (u32, u32),
-    view: &V,
-) -> Result<(Draft, Reply), Stop>
-    requires given { is_given_word sattr.now.size ≡ true }
-    ensures step { (truth : Truth) (tree : Tree) → areas ≤ 64 → IsTruth (V.held view.now) truth → Stands volume areas truth tree → HintsFitAll areas (V.hints view.now) truth
-        → ComesOver volume areas truth tree (create_over_of tree call.now handle sattr.now now) result }
-    ensures hints { (hints : Hints) (truth : Truth) (tree : Tree) → areas ≤ 64 → IsTruth (V.held view.now) truth → Stands volume areas truth tree → HintsFitAll areas (V.hints view.now) truth
-        → HintsFitAll areas hints truth → IfOk result (λ made. HintsFitAll areas hints (with_draft truth made.0)) }
-    ensures lacks { (truth : Truth) (tree : Tree) → areas ≤ 64 → IsTruth (V.held view.now) truth → Stands volume areas truth tree → HintsFitAll areas (V.hints view.now) truth
-        → IfErr result (StopsFirst (λ status. create_over_of tree call.now handle sattr.now now ≡ Err status) (ClearsGiven areas truth handle sattr.now.size)) }
-    ensures ready { (truth : Truth) (tree : Tree) → areas ≤ 64 → IsTruth (V.held view.now) truth → Stands volume areas truth tree → HintsFitAll areas (V.hints view.now) truth
-        → IfOk result (λ made. ReadyToResize areas truth handle sattr.now.size) }
-    ensures need { NeedsOn areas (V.held view.now) (OnFile (V.held view.now) (V.hints view.now) areas sattr.now.size handle) result }
-    ensures held { IfOk result (λ made. IsHeldDraft (V.held view.now) made.0) }
-    ensures first { HoldsInner (V.held view.now) result }
-{
-    let none = Draft::new(alloc);
-    match inode_at(alloc, &none, view, areas, handle, Mode::Exclusive) {
-        Err(stop) => Err(stop),
-        Ok(inode) => {
-            if inode.kind != REGULAR {
-                return Err(Stop::Status(EXIST));
-            }
-            let volume = (volume, areas);
-            set_over(alloc, volume, call, handle, inode, sattr, now, view)
         }
     }
 }

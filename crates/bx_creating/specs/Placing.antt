@@ -7,6 +7,7 @@ use Rattle.bx_changes.specs.declared.error.ChangeError.{ChangeError}
 use Rattle.bx_changes.specs.declared.error.ChangeError.TheVariants.{Stopped, Full}
 use Rattle.bx_chunks.specs.Allocating.{AllocatesAt}
 use Rattle.bx_chunks.specs.Taking.{OnSlots}
+use Rattle.bx_chunks.specs.declared.error.ChunkError.{ChunkError}
 use Rattle.bx_dirs.specs.Changes.{OnAddPath, entry_of}
 use Rattle.bx_handles.specs.Handles.{named, parts_of}
 use Rattle.bx_hints.specs.Fitting.{HintsFitAll}
@@ -35,9 +36,13 @@ MakesNew areas truth tree inode body (Err (Stopped OutOfMemory)) = Unit {0}
 MakesNew areas truth tree inode body (Err (Stopped (Status status))) = ⊥
 MakesNew areas truth tree inode body (Err (Stopped (Inner blocks))) = ⊥
 
+-- a change of a draft makes a file with a tree near an area, or a link
+abbrev pub MadeAt : Held → List Changed → List Changed → Inode → ℕ → ℕ → Result ℕ ChunkError → Type 0
+MadeAt held old new inode near areas result = MakesAt held old new inode near areas result ⊎ LinksAt held old new inode near areas result
+
 -- a draft of its own makes a file near an area, or a link, which then has this handle
 abbrev pub IsMade : Held → ℕ → ℕ → List Changed → ℕ → Type 0
-IsMade held near areas draft made = (inode : Inode) × (MakesAt held [] draft inode near areas (Ok made) ⊎ LinksAt held [] draft inode near areas (Ok made))
+IsMade held near areas draft made = (inode : Inode) × MadeAt held [] draft inode near areas (Ok made)
 
 -- the handle is that of the first slot that is taken near an area
 abbrev pub IsFirstNear : Held → ℕ → ℕ → ℕ → Type 0

@@ -1,18 +1,20 @@
 //! New files in directories.
 
-ghost use Rattle.std.specs.Prelude.{◌≡◌, ◌≤◌, ℕ, [], length, IfErr, IfOk, IsSome};
+ghost use Rattle.std.specs.Prelude.{◌≡◌, ◌≤◌, ℕ, [], length, IfErr, IfOk, IsSome, OnOk};
 ghost use Rattle.bx_adding.specs.Lacking.{FindsBoth, IfFirst, MakesEither};
 ghost use Rattle.bx_changes.specs.Procedures.{Exclusive, HoldsFirst, IfFull, IsHeldDraft, IsInode, IsTruth, NeedsBy, NeverFirst, NoSlots, OnSlots, StandsFor, Tree, Truth, block_at, parts_of};
+ghost use Rattle.bx_chunks.specs.Allocating.{NeedsFairly};
 ghost use Rattle.bx_entries.specs.Finding.{IsDirectoryOf};
+ghost use Rattle.bx_making.specs.Made.{MakesIn};
 ghost use Rattle.bx_tree_files.specs.declared.file.Body.{Body};
-ghost use Rattle.bx_tree_files.specs.declared.file.Body.TheVariants.{Path};
-ghost use Rattle.bx_truth.specs.Making.{IsEmptyBody};
+ghost use Rattle.bx_views.specs.Truths.{with_draft};
 ghost use Rattle.bx_creating.specs.Finding.{IsPlaceFor};
 ghost use Rattle.bx_creating.specs.Inodes.{IsNewBody};
-ghost use Rattle.bx_creating.specs.Placing.{IsFirstNear, IsMade, MakesNew, OnPlacing, PlacesIn};
+ghost use Rattle.bx_creating.specs.Placing.{IsFirstNear, IsMade, MadeAt, MakesNew, OnPlacing, PlacesIn};
 
 use bx_adding::{enter, room_for};
 use bx_changes::ChangeError;
+use bx_chunks::ChunkError;
 use bx_entries::Known;
 use bx_handles::ChunkHandle;
 use bx_layout::Inode;
@@ -87,57 +89,30 @@ fn make_new<V: View>(
     ensures held { IfOk result (λ made. IsHeldDraft (V.held view.now) made.0) }
     ensures few { IfOk result (λ made. length made.0 ≤ 13) }
 {
-    if inode.kind == LINK {
-        return new_link(alloc, view, &inode, near, areas);
-    }
-    new_file(alloc, view, inode, near, areas)
-}
-
-/// The same of a link.
-fn new_link<V: View>(
-    alloc: Global,
-    view: &V,
-    inode: &Inode,
-    near: u16,
-    areas: u16,
-) -> Result<(Draft, u64), ChangeError>
-    requires { IsInode inode.now }
-    ensures step { (truth : Truth) (tree : Tree) → areas ≤ 64 → IsTruth (V.held view.now) truth → StandsFor areas truth tree → inode.now.kind ≡ 5 → inode.now.tree ≡ 0
-        → MakesNew areas truth tree inode.now (Path inode.now.path) result }
-    ensures need { IfErr result (NeedsBy areas (V.held view.now) (OnSlots (V.held view.now) near areas [])) }
-    ensures full { IfErr result (IfFull (NoSlots (V.held view.now) near areas [])) }
-    ensures made { IfOk result (λ made. IsMade (V.held view.now) near areas made.0 made.1) }
-    ensures inner { IfErr result NeverFirst }
-    ensures held { IfOk result (λ made. IsHeldDraft (V.held view.now) made.0) }
-    ensures few { IfOk result (λ made. length made.0 ≤ 13) }
-{
     let mut draft = Draft::new(alloc);
-    match make_link(alloc, &mut draft, view, inode, near, areas) {
+    match make_kind(alloc, view, &mut draft, inode, (near, areas)) {
         Err(error) => Err(ChangeError::of_chunks(error)),
         Ok(handle) => Ok((draft, handle)),
     }
 }
 
-/// The same of a file with a tree.
-fn new_file<V: View>(
+/// The same in a draft: a link, or a file with a tree.
+fn make_kind<V: View>(
     alloc: Global,
     view: &V,
+    draft: &mut Draft,
     inode: Inode,
-    near: u16,
-    areas: u16,
-) -> Result<(Draft, u64), ChangeError>
+    near: (u16, u16),
+) -> Result<u64, ChunkError>
     requires { IsInode inode }
-    ensures step { (truth : Truth) (tree : Tree) (body : Body) → areas ≤ 64 → IsTruth (V.held view.now) truth → StandsFor areas truth tree → IsEmptyBody inode body → MakesNew areas truth tree inode body result }
-    ensures need { IfErr result (NeedsBy areas (V.held view.now) (OnSlots (V.held view.now) near areas [])) }
-    ensures full { IfErr result (IfFull (NoSlots (V.held view.now) near areas [])) }
-    ensures made { IfOk result (λ made. IsMade (V.held view.now) near areas made.0 made.1) }
-    ensures inner { IfErr result NeverFirst }
-    ensures held { IfOk result (λ made. IsHeldDraft (V.held view.now) made.0) }
-    ensures few { IfOk result (λ made. length made.0 ≤ 13) }
+    ensures at { MadeAt (V.held view.now) draft.old draft.new inode near.0 near.1 result }
+    ensures tree { (truth : Truth) (tree : Tree) (body : Body) → near.1 ≤ 64 → IsTruth (V.held view.now) truth → StandsFor near.1 (with_draft truth draft.old) tree → IsNewBody inode body
+        → MakesIn near.1 truth draft.old draft.new tree inode body result }
+    ensures fair { NeedsFairly near.1 (V.held view.now) result }
+    ensures held { IsHeldDraft (V.held view.now) draft.old → OnOk result (IsHeldDraft (V.held view.now) draft.new) }
 {
-    let mut draft = Draft::new(alloc);
-    match make(alloc, &mut draft, view, inode, near, areas) {
-        Err(error) => Err(ChangeError::of_chunks(error)),
-        Ok(handle) => Ok((draft, handle)),
+    if inode.kind == LINK {
+        return make_link(alloc, draft, view, &inode, near.0, near.1);
     }
+    make(alloc, draft, view, inode, near.0, near.1)
 }

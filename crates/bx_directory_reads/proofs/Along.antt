@@ -16,12 +16,13 @@ use Rattle.bx_tree_files.specs.Entries.{above}
 use Rattle.bx_truth.specs.Chunks.{chunks_of}
 use Rattle.bx_views.specs.Truths.{Held, Hints, Truth, with_draft}
 use Rattle.bx_truth.specs.PageTrees.{PageTree, map_of}
-use Rattle.bx_directory_reads.specs.declared.filling.Page.{Page}
+use Rattle.bx_call_parts.specs.declared.pages.Page.{Page}
 use Rattle.bx_directory_reads.specs.declared.filling.Put.{Put}
 use Rattle.bx_directory_reads.specs.declared.filling.Put.TheVariants.{All, Part, Stray}
 use Rattle.bx_directory_reads.specs.Listings.{IsReached, LeadsTo, LeafSo, rightward}
-use Rattle.bx_directory_reads.specs.Pages.{Fills, PutsSo, filled}
-use Rattle.bx_directory_reads.proofs.Filled.{all_fit, some_fit}
+use Rattle.bx_call_parts.specs.Pages.{filled}
+use Rattle.bx_directory_reads.specs.Pages.{Fills, PutsSo}
+use Rattle.bx_call_parts.proofs.Filled.{all_fit, some_fit}
 
 -- ---- a leaf
 

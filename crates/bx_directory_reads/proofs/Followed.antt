@@ -27,8 +27,9 @@ use Rattle.bx_views.specs.Truths.{Held, Hints, IsTruth, Truth}
 use Rattle.bx_reads.specs.Answers.{IsOutcome}
 use Rattle.bx_reads.specs.Files.{IsNamed}
 use Rattle.bx_reads.proofs.Told.{told}
-use Rattle.bx_directory_reads.specs.Listings.{FollowsSo, list_error, listing}
-use Rattle.bx_directory_reads.specs.Pages.{dots}
+use Rattle.bx_directory_reads.specs.Listings.{FollowsSo, listing}
+use Rattle.bx_directory_reads.specs.Lookups.{open_error}
+use Rattle.bx_call_parts.specs.Pages.{dots}
 use Rattle.bx_directory_reads.proofs.LookedUp.{IsFound, found}
 
 pub need_follows : (names : List Name) (number areas at : ℕ) (stop : Stop) → IsNeed areas at stop → is_block areas at ≡ true → FollowsSo names number (Err stop)
@@ -57,8 +58,8 @@ no_tests : (d m : Bool) → first_error d m ≡ None → d ≡ true
 no_tests false m none = absurd cc
 no_tests true m none = refl
 
-error_is : (call : Call) (handle : ℕ) (inode : Inode) (file : File) → HasFields inode file → list_error call (head_of handle inode) ≡ list_error call file
-error_is call handle inode file fields = λ i. list_error call (record file { kind = fields.kind i; mode = fields.mode i; uid = fields.uid i; gid = fields.gid i })
+error_is : (call : Call) (handle : ℕ) (inode : Inode) (file : File) → HasFields inode file → open_error want.List call (head_of handle inode) ≡ open_error want.List call file
+error_is call handle inode file fields = λ i. open_error want.List call (record file { kind = fields.kind i; mode = fields.mode i; uid = fields.uid i; gid = fields.gid i })
 
 -- ---- READDIR
 
@@ -71,16 +72,16 @@ module _ (tree : Tree) (call : Call) (cookie count : ℕ) where
   listed_of directory = refuse (not (is_directory directory)) 20 >> (refuse (not (may call directory want.List)) 13 >> rest directory)
 
   module _ (bytes : List ℕ) (areas handle : ℕ) (truth : Truth) (inode : Inode) (named : IsNamed areas truth tree bytes handle inode) where
-    comes : (error : Option ℕ) → error ≡ list_error call (head_of handle inode) → readdir tree call bytes cookie count ≡ or_error error (rest named.file)
+    comes : (error : Option ℕ) → error ≡ open_error want.List call (head_of handle inode) → readdir tree call bytes cookie count ≡ or_error error (rest named.file)
     comes error is =
         ap (told tree bytes listed_of) named.there ∙ tests (is_directory named.file) (may call named.file want.List) (rest named.file)
         ∙ ap (λ (o : Option ℕ). or_error o (rest named.file)) (sym (is ∙ error_is call handle inode named.file named.fields))
 
-    pub refused : (status : ℕ) (error : Option ℕ) → error ≡ Some status → error ≡ list_error call (head_of handle inode) → readdir tree call bytes cookie count ≡ Err status
+    pub refused : (status : ℕ) (error : Option ℕ) → error ≡ Some status → error ≡ open_error want.List call (head_of handle inode) → readdir tree call bytes cookie count ≡ Err status
     refused status error some is = comes error is ∙ ap (λ (o : Option ℕ). or_error o (rest named.file)) some
 
     module _ (volume : ℕ) (held : Held) (hints : Hints) (few : areas ≤ 64) (same : IsTruth held truth) (s : Stands volume areas truth tree) (fit : HintsFitAll areas hints truth)
-        (none : None ≡ list_error call (head_of handle inode)) where
+        (none : None ≡ open_error want.List call (head_of handle inode)) where
       pub directory : IsFound areas held hints truth inode named.file
       directory = found areas held hints truth tree volume handle bytes inode few same s fit named
           (no_tests (is_directory named.file) (may call named.file want.List) (sym (none ∙ error_is call handle inode named.file named.fields)))

@@ -1,4 +1,3 @@
-pub mod Filled
 pub mod Along
 pub mod Putting
 pub mod Followed

@@ -36,7 +36,7 @@ use Rattle.bx_views.specs.Truths.{Held, Hints, IsTruth, Truth}
 use Rattle.bx_reads.specs.Answers.{IsOutcome}
 use Rattle.bx_reads.specs.Files.{IsNamed}
 use Rattle.bx_reads.proofs.Told.{told}
-use Rattle.bx_directory_reads.specs.Lookups.{MeansIn, search_error, telling}
+use Rattle.bx_directory_reads.specs.Lookups.{MeansIn, open_error, telling}
 
 -- ---- what a name means
 
@@ -93,8 +93,8 @@ no_tests : (d m : Bool) → first_error d m ≡ None → d ≡ true
 no_tests false m none = absurd cc
 no_tests true m none = refl
 
-error_is : (call : Call) (handle : ℕ) (inode : Inode) (file : File) → HasFields inode file → search_error call (head_of handle inode) ≡ search_error call file
-error_is call handle inode file fields = λ i. search_error call (record file { kind = fields.kind i; mode = fields.mode i; uid = fields.uid i; gid = fields.gid i })
+error_is : (call : Call) (handle : ℕ) (inode : Inode) (file : File) → HasFields inode file → open_error want.Search call (head_of handle inode) ≡ open_error want.Search call file
+error_is call handle inode file fields = λ i. open_error want.Search call (record file { kind = fields.kind i; mode = fields.mode i; uid = fields.uid i; gid = fields.gid i })
 
 -- ---- the directory
 
@@ -139,16 +139,16 @@ module _ (tree : Tree) (call : Call) (name : List ℕ) where
   looking directory = refuse (not (is_directory directory)) 20 >> (refuse (not (may call directory want.Search)) 13 >> rest directory)
 
   module _ (bytes : List ℕ) (areas handle : ℕ) (truth : Truth) (inode : Inode) (named : IsNamed areas truth tree bytes handle inode) where
-    comes : (error : Option ℕ) → error ≡ search_error call (head_of handle inode) → lookup tree call bytes name ≡ or_error error (rest named.file)
+    comes : (error : Option ℕ) → error ≡ open_error want.Search call (head_of handle inode) → lookup tree call bytes name ≡ or_error error (rest named.file)
     comes error is =
         ap (told tree bytes looking) named.there ∙ tests (is_directory named.file) (may call named.file want.Search) (rest named.file)
         ∙ ap (λ (o : Option ℕ). or_error o (rest named.file)) (sym (is ∙ error_is call handle inode named.file named.fields))
 
-    pub refused : (status : ℕ) (error : Option ℕ) → error ≡ Some status → error ≡ search_error call (head_of handle inode) → lookup tree call bytes name ≡ Err status
+    pub refused : (status : ℕ) (error : Option ℕ) → error ≡ Some status → error ≡ open_error want.Search call (head_of handle inode) → lookup tree call bytes name ≡ Err status
     refused status error some is = comes error is ∙ ap (λ (o : Option ℕ). or_error o (rest named.file)) some
 
     module _ (volume : ℕ) (held : Held) (hints : Hints) (few : areas ≤ 64) (same : IsTruth held truth) (s : Stands volume areas truth tree) (fit : HintsFitAll areas hints truth)
-        (none : None ≡ search_error call (head_of handle inode)) where
+        (none : None ≡ open_error want.Search call (head_of handle inode)) where
       pub directory : IsFound areas held hints truth inode named.file
       directory = found areas held hints truth tree volume handle bytes inode few same s fit named
           (no_tests (is_directory named.file) (may call named.file want.Search) (sym (none ∙ error_is call handle inode named.file named.fields)))

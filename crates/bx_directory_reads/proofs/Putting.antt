@@ -10,9 +10,9 @@ use Rattle.bx_page.specs.declared.entry.Entry.{Entry}
 use Rattle.bx_page.specs.Contents.{first}
 use Rattle.bx_tree_files.specs.declared.file.Name.{Name}
 use Rattle.bx_truth.specs.Keys.{entry_key, entry_value}
-use Rattle.bx_directory_reads.specs.declared.filling.Page.{Page}
-use Rattle.bx_directory_reads.specs.Pages.{filled, with_listed}
-use Rattle.bx_directory_reads.proofs.Filled.{one_fits, one_stops, same_answer, same_page}
+use Rattle.bx_call_parts.specs.declared.pages.Page.{Page}
+use Rattle.bx_call_parts.specs.Pages.{filled, with_listed}
+use Rattle.bx_call_parts.proofs.Filled.{one_fits, one_stops, same_answer, same_page}
 
 -- those that are left, of entries that are put on a page
 pub record Going (page now : Page) (names : List Name) (left : List Entry) : Type 0 where

@@ -1,5 +1,5 @@
 -- What READDIR comes to by the directory, and what it asks for.
-use Rattle.std.specs.Prelude.{◌≡◌, ℕ, ◌⊎◌, if◌then◌else◌, List, [], ◌∷◌, map, Option, Some, None, Result, Ok, Err}
+use Rattle.std.specs.Prelude.{◌≡◌, ℕ, ◌⊎◌, List, [], ◌∷◌, map, Option, Some, None, Result, Ok, Err}
 use Rattle.bx_base.specs.declared.names.Mode.{Mode}
 use Rattle.bx_base.specs.declared.names.Mode.TheVariants.{Shared}
 use Rattle.bx_blink.specs.Leaves.{EndsAt, IsNextLeaf}
@@ -10,25 +10,16 @@ use Rattle.bx_inodes.specs.declared.stop.Stop.{Stop}
 use Rattle.bx_inodes.specs.declared.stop.Stop.TheVariants.{Need, Inner, Status, OutOfMemory}
 use Rattle.bx_inodes.specs.Stops.{OnInode}
 use Rattle.bx_layout.specs.declared.inode.Inode.{Inode}
-use Rattle.bx_model.specs.declared.call.Call.{Call}
-use Rattle.bx_model.specs.declared.permissions.Want.TheVariants as want
 use Rattle.bx_model.specs.declared.reply.Reply.{Reply}
 use Rattle.bx_model.specs.declared.reply.Reply.TheVariants as replies
 use Rattle.bx_model.specs.Directories.{end_of, listed, page}
-use Rattle.bx_model.specs.Permissions.{may}
 use Rattle.bx_page.specs.Contents.{Contents, from}
 use Rattle.bx_reads.specs.Files.{IsSeen}
-use Rattle.bx_tree_files.specs.declared.file.File.{File}
 use Rattle.bx_tree_files.specs.declared.file.Name.{Name}
 use Rattle.bx_tree_files.specs.Entries.{above}
-use Rattle.bx_tree_files.specs.Files.{is_directory}
 use Rattle.bx_truth.specs.Keys.{entry_key, entry_value}
 use Rattle.bx_truth.specs.PageTrees.{PageTree, map_of}
 use Rattle.bx_views.specs.Truths.{Held, Hints}
-
--- the error that a caller who lists a file meets: NOTDIR (20) where it is no directory, ACCES (13) without the right
-abbrev pub list_error : Call → File → Option ℕ
-list_error call file = if is_directory file then (if may call file want.List then None else Some 13) else Some 20
 
 -- The entry behind a number is told, or that there is none, unless a block is needed first or memory ran out. No status comes.
 abbrev pub FollowsSo : List Name → ℕ → Result (Option Name) Stop → Type 0

@@ -8,7 +8,8 @@ use Rattle.bx_inodes.specs.declared.stop.Stop.TheVariants.{Need, Inner, Status, 
 use Rattle.bx_inodes.specs.Stops.{OnInode}
 use Rattle.bx_layout.specs.declared.inode.Inode.{Inode}
 use Rattle.bx_model.specs.declared.call.Call.{Call}
-use Rattle.bx_model.specs.declared.permissions.Want.TheVariants as want
+use Rattle.bx_model.specs.declared.permissions.Want.{Want}
+use Rattle.bx_model.specs.declared.status.TheConstants.{ACCES, NOTDIR}
 use Rattle.bx_model.specs.declared.tree.Tree.{Tree}
 use Rattle.bx_model.specs.Permissions.{may}
 use Rattle.bx_model.specs.Reading.{handle_reply, meant}
@@ -19,9 +20,9 @@ use Rattle.bx_tree_files.specs.Files.{file_at, is_directory}
 use Rattle.bx_truth.specs.Keys.{name_key, name_value}
 use Rattle.bx_views.specs.Truths.{Held, Hints}
 
--- the error that a caller who looks a name up in a file meets: NOTDIR (20) where it is no directory, ACCES (13) without the right
-abbrev pub search_error : Call → File → Option ℕ
-search_error call file = if is_directory file then (if may call file want.Search then None else Some 13) else Some 20
+-- the error that a caller who looks into a file so, as into a directory, meets: NOTDIR where it is none, ACCES without the right
+abbrev pub open_error : Want → Call → File → Option ℕ
+open_error wanted call file = if is_directory file then (if may call file wanted then None else Some ACCES) else Some NOTDIR
 
 -- What a name means in a directory: the file with a handle; 2 is NOENT, where it means none.
 abbrev pub MeansIn : Tree → File → List ℕ → Result ℕ Stop → Type 0

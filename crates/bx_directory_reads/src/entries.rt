@@ -13,9 +13,10 @@ ghost use Rattle.bx_views.specs.Truths.{Truth};
 ghost use Rattle.bx_directory_reads.specs.Listings.{FindsBehind, FollowsSo, LeadsTo, LeafSo, OnBehind, OnEntries, OnFrom};
 ghost use Rattle.bx_directory_reads.specs.Pages.{Fills};
 
-use crate::filling::{Page, Put};
+use crate::filling::{Put, put_leaf};
 use bx_base::Raw;
 use bx_blink::{BlinkError, leaf_from};
+use bx_call_parts::Page;
 use bx_dirs::key_behind;
 use bx_files::needed;
 use bx_inodes::Stop;
@@ -118,7 +119,7 @@ pub(crate) fn put_entries<V: View>(
         match leaf_behind(alloc, areas, &none, view, handle, key.bytes()) {
             Err(stop) => return Err(stop),
             Ok(None) => return Ok(true),
-            Ok(Some((from, leaf))) => match page.put_leaf(alloc, leaf.from(from.bytes()))? {
+            Ok(Some((from, leaf))) => match put_leaf(page, alloc, leaf.from(from.bytes()))? {
                 Put::Stray => return Err(Stop::Status(STALE)),
                 Put::Part => return Ok(false),
                 Put::All => match leaf.high() {

@@ -1,38 +1,16 @@
-//! A page of a directory that is being filled.
+//! The entries of a leaf, put on a page of a directory.
 
-ghost use Rattle.std.specs.Prelude.{◌≡◌, ◌+◌, ◌-◌, ◌≤◌, ◌∷◌, List, [], IfOk, length, map, min};
+ghost use Rattle.std.specs.Prelude.{◌≡◌, ◌+◌, ◌≤◌, List, IfOk, length, map};
 ghost use Rattle.bx_dirs.specs.Entries.{DoFit, by_number};
-ghost use Rattle.bx_model.specs.Directories.{behind};
 ghost use Rattle.bx_tree_files.specs.declared.file.Name.{Name};
 ghost use Rattle.bx_directory_reads.specs.declared.filling.Put.TheVariants.{All};
-ghost use Rattle.bx_directory_reads.specs.Pages.{PutsSo, dots, filled, spent};
+ghost use Rattle.bx_directory_reads.specs.Pages.{PutsSo};
 
-use bx_base::{OutOfMemory, Raw};
+use bx_base::OutOfMemory;
+use bx_call_parts::Page;
 use bx_dirs::numbered_in;
-use bx_model::{Listed, ListedList};
 use bx_page_bytes::Entries;
-use bx_tree_files::fileid;
 use std::alloc::Global;
-
-/// The most bytes of a page (RFC 1094, section 2.3.9).
-const MOST_DATA: u32 = 8192;
-
-/// How many bytes of a page are no entry's.
-const PAGE_ENDS: u32 = 8;
-
-/// The numbers of the directory itself and of its parent.
-const ITSELF: u32 = 1;
-
-const PARENT: u32 = 2;
-
-/// A page of a directory so far.
-#[derive(Drop)]
-pub(crate) struct Page {
-    /// The entries that it lists.
-    pub(crate) entries: ListedList,
-    /// How many bytes are left for others.
-    pub(crate) room: usize,
-}
 
 /// How the entries of a leaf were put on a page.
 #[derive(Drop)]
@@ -45,91 +23,25 @@ pub(crate) enum Put {
     Stray,
 }
 
-impl Page {
-    /// The page of so many bytes with no entries.
-    pub(crate) fn new(alloc: Global, count: u32) -> Page
-        ensures { result ≡ record { entries = []; room = min count 8192 - 8 } }
-    {
-        Page {
-            entries: ListedList::new(alloc),
-            room: count.min(MOST_DATA).saturating_sub(PAGE_ENDS) as usize,
-        }
-    }
-
-    /// Puts the directory itself and its parent on the page, as far as they are behind the cookie, until one doesn't
-    /// fit; whether both fit.
-    pub(crate) fn put_dots(
-        &mut self,
-        alloc: Global,
-        directory: u64,
-        parent: u64,
-        cookie: u32,
-    ) -> Result<bool, OutOfMemory>
-        ensures { IfOk result (λ all. (all, self.new) ≡ filled self.old (behind cookie (dots directory parent))) }
-    {
-        match cookie {
-            0 => {
-                let fits = self.put(alloc, ITSELF, b".", directory)?;
-                if !fits {
-                    return Ok(false);
-                }
-                self.put(alloc, PARENT, b"..", parent)
-            }
-            1 => self.put(alloc, PARENT, b"..", parent),
-            _ => Ok(true),
-        }
-    }
-
-    /// Puts an entry on the page, if it fits; whether it does.
-    pub(crate) fn put(
-        &mut self,
-        alloc: Global,
-        number: u32,
-        name: &[u8],
-        handle: u64,
-    ) -> Result<bool, OutOfMemory>
-        ensures { IfOk result (λ fits. (fits, self.new) ≡ filled self.old (record { number = number; name = name.now; handle = handle } ∷ [])) }
-    {
-        let cost = cost(name);
-        if cost > self.room {
-            return Ok(false);
-        }
-        self.entries.push(Listed {
-            fileid: fileid(handle),
-            name: Raw::of(alloc, name)?,
-            cookie: number,
-        })?;
-        self.room -= cost;
-        Ok(true)
-    }
-
-    /// Puts the entries of a leaf on the page until one doesn't fit.
-    pub(crate) fn put_leaf(
-        &mut self,
-        alloc: Global,
-        mut entries: Entries,
-    ) -> Result<Put, OutOfMemory>
-        ensures list { (names : List Name) → DoFit names → entries.entry ≡ map by_number names → IfOk result (PutsSo self.old names self.new) }
-        ensures room { IfOk result (λ put. put ≡ All → self.new.room + length entries.entry ≤ self.old.room) }
-    {
-        while let Some(entry) = entries.next() {
-            match numbered_in(entry.key(), entry.value()) {
-                None => return Ok(Put::Stray),
-                Some((number, handle, name)) => {
-                    let fits = self.put(alloc, number, name, handle)?;
-                    if !fits {
-                        return Ok(Put::Part);
-                    }
-                }
-            }
-        }
-        Ok(Put::All)
-    }
-}
-
-/// How many bytes of a page the entry with a name takes.
-fn cost(name: &[u8]) -> usize
-    ensures { result ≡ spent name.now }
+/// Puts the entries of a leaf on a page until one doesn't fit.
+pub(crate) fn put_leaf(
+    page: &mut Page,
+    alloc: Global,
+    mut entries: Entries,
+) -> Result<Put, OutOfMemory>
+    ensures list { (names : List Name) → DoFit names → entries.entry ≡ map by_number names → IfOk result (PutsSo page.old names page.new) }
+    ensures room { IfOk result (λ put. put ≡ All → page.new.room + length entries.entry ≤ page.old.room) }
 {
-    16 + 4 * ((name.len() + 3) / 4)
+    while let Some(entry) = entries.next() {
+        match numbered_in(entry.key(), entry.value()) {
+            None => return Ok(Put::Stray),
+            Some((number, handle, name)) => {
+                let fits = page.put(alloc, number, name, handle)?;
+                if !fits {
+                    return Ok(Put::Part);
+                }
+            }
+        }
+    }
+    Ok(Put::All)
 }

@@ -5,6 +5,7 @@ mod entries;
 mod filling;
 mod listing;
 mod lookups;
+mod opening;
 
 pub use entries::entry_behind;
 pub use listing::readdir;

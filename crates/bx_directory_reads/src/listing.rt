@@ -1,9 +1,8 @@
 //! READDIR.
 
-ghost use Rattle.std.specs.Prelude.{◌≡◌, ◌≤◌, ◌++◌, if◌then◌else◌, List, [], IfOk};
+ghost use Rattle.std.specs.Prelude.{◌≤◌, ◌++◌, List, [], IfOk};
 ghost use Rattle.bx_dirs.specs.Entries.{HasEntries};
 ghost use Rattle.bx_hints.specs.Fitting.{HintsFitAll};
-ghost use Rattle.bx_inodes.specs.Heads.{head_of as head_by};
 ghost use Rattle.bx_inodes.specs.Stands.{Stands};
 ghost use Rattle.bx_inodes.specs.Stops.{NeedsOn, NeverInner};
 ghost use Rattle.bx_files.specs.Reads.{Tells};
@@ -12,17 +11,16 @@ ghost use Rattle.bx_model.specs.Directories.{behind, readdir as readdir_of};
 ghost use Rattle.bx_reads.specs.Answers.{IsOutcome};
 ghost use Rattle.bx_tree_files.specs.declared.file.Name.{Name};
 ghost use Rattle.bx_views.specs.Truths.{IsTruth, Truth};
-ghost use Rattle.bx_directory_reads.specs.Listings.{OnEntries, OnListing, list_error as error_of, listing};
-ghost use Rattle.bx_directory_reads.specs.Pages.{dots};
+ghost use Rattle.bx_call_parts.specs.Pages.{dots};
+ghost use Rattle.bx_directory_reads.specs.Listings.{OnEntries, OnListing, listing};
 
 use crate::entries::put_entries;
-use crate::filling::Page;
-use bx_base::OutOfMemory;
-use bx_inodes::{Stop, head_of};
+use crate::opening::directory_error;
+use bx_call_parts::{Page, end_word};
+use bx_inodes::Stop;
 use bx_layout::Inode;
-use bx_model::{ACCES, Call, NOTDIR, Reply, Want, may};
+use bx_model::{Call, Reply, Want};
 use bx_reads::named_inode;
-use bx_tree_files::DIRECTORY;
 use bx_views::View;
 use std::alloc::Global;
 
@@ -52,31 +50,11 @@ pub fn readdir<V: View>(
     match named_inode(alloc, volume, areas, at, view) {
         Err(stop) => Err(stop),
         Ok((handle, inode)) => {
-            if let Some(status) = list_error(alloc, call, handle, &inode)? {
+            if let Some(status) = directory_error(alloc, call, handle, &inode, Want::List)? {
                 return Err(Stop::Status(status));
             }
             page_behind(alloc, areas, handle, &inode, cookie, count, view)
         }
-    }
-}
-
-/// The error that a caller who lists the file with a handle meets, by its inode; `None` exactly where there is none.
-fn list_error(
-    alloc: Global,
-    call: &Call,
-    handle: u64,
-    inode: &Inode,
-) -> Result<Option<u32>, OutOfMemory>
-    ensures { IfOk result (λ error. error ≡ error_of call.now (head_by handle inode.now)) }
-{
-    if inode.kind != DIRECTORY {
-        return Ok(Some(NOTDIR));
-    }
-    let head = head_of(alloc, handle, inode)?;
-    if may(call, &head, Want::List) {
-        Ok(None)
-    } else {
-        Ok(Some(ACCES))
     }
 }
 
@@ -107,11 +85,4 @@ fn page_behind<V: View>(
         Err(stop) => Err(stop),
         Ok(all_fit) => Ok(Reply::List(page.entries, end_word(all_fit))),
     }
-}
-
-/// What tells whether a page ends with the last entry: 1, or else 0.
-fn end_word(is_end: bool) -> u32
-    ensures { result ≡ (if is_end then 1 else 0) }
-{
-    if is_end { 1 } else { 0 }
 }

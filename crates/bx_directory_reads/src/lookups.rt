@@ -5,7 +5,6 @@ ghost use Rattle.bx_dirs.specs.Entries.{HasEntries};
 ghost use Rattle.bx_files.specs.Paths.{IsBlockOf, OnSearch};
 ghost use Rattle.bx_handles.specs.Handles.{file_text};
 ghost use Rattle.bx_hints.specs.Fitting.{HintsFitAll};
-ghost use Rattle.bx_inodes.specs.Heads.{head_of as head_by};
 ghost use Rattle.bx_inodes.specs.Inodes.{shown_size};
 ghost use Rattle.bx_inodes.specs.Stands.{Stands};
 ghost use Rattle.bx_inodes.specs.Stops.{NeedsOn, NeverInner};
@@ -21,18 +20,18 @@ ghost use Rattle.bx_tree_files.specs.Files.{file_at, size_of};
 ghost use Rattle.bx_truth.specs.Keys.{name_key};
 ghost use Rattle.bx_truth.specs.Stored.{HasFields};
 ghost use Rattle.bx_views.specs.Truths.{IsTruth, Truth};
-ghost use Rattle.bx_directory_reads.specs.Lookups.{MayMean, MeansIn, OnLooking, search_error as error_of, telling};
+ghost use Rattle.bx_directory_reads.specs.Lookups.{MayMean, MeansIn, OnLooking, telling};
 
+use crate::opening::directory_error;
 use bx_base::{Mode, OutOfMemory, Raw};
 use bx_blink::BlinkError;
 use bx_files::needed;
 use bx_handles::file_handle;
-use bx_inodes::{Stop, head_of, inode_at};
+use bx_inodes::{Stop, inode_at};
 use bx_layout::Inode;
-use bx_model::{ACCES, Call, NOENT, NOTDIR, Reply, STALE, Want, may};
+use bx_model::{Call, NOENT, Reply, STALE, Want};
 use bx_reads::{attributes_by, named_inode};
 use bx_records::Draft;
-use bx_tree_files::DIRECTORY;
 use bx_views::View;
 use std::alloc::Global;
 
@@ -60,7 +59,7 @@ pub fn lookup<V: View>(
     match named_inode(alloc, volume, areas, at, view) {
         Err(stop) => Err(stop),
         Ok((handle, inode)) => {
-            if let Some(status) = search_error(alloc, call, handle, &inode)? {
+            if let Some(status) = directory_error(alloc, call, handle, &inode, Want::Search)? {
                 return Err(Stop::Status(status));
             }
             match meant(alloc, areas, handle, &inode, name, view) {
@@ -68,26 +67,6 @@ pub fn lookup<V: View>(
                 Ok(found) => told(alloc, volume, areas, found, view),
             }
         }
-    }
-}
-
-/// The error that a caller who looks a name up in the file with a handle meets, by its inode; `None` exactly where there is none.
-fn search_error(
-    alloc: Global,
-    call: &Call,
-    handle: u64,
-    inode: &Inode,
-) -> Result<Option<u32>, OutOfMemory>
-    ensures { IfOk result (λ error. error ≡ error_of call.now (head_by handle inode.now)) }
-{
-    if inode.kind != DIRECTORY {
-        return Ok(Some(NOTDIR));
-    }
-    let head = head_of(alloc, handle, inode)?;
-    if may(call, &head, Want::Search) {
-        Ok(None)
-    } else {
-        Ok(Some(ACCES))
     }
 }
 

@@ -37,11 +37,6 @@ AddsAt held hints old new root entry (Ok done) = ThenByNumber held hints old roo
 AddsAt held hints old new root entry (Err error) =
     PutsByName held hints old old root entry (Err error) ⊎ ThenByNumber held hints old root entry (λ mid. PutsByNumber held hints mid mid root entry (Err error))
 
--- the same of a draft that is made anew
-abbrev pub AddsTo : Held → Hints → List Changed → ℕ → Name → Result (List Changed) BlinkError → Type 0
-AddsTo held hints old root entry (Ok new) = AddsAt held hints old new root entry (Ok tt)
-AddsTo held hints old root entry (Err error) = AddsAt held hints old old root entry (Err error)
-
 -- What it answers, by the list of entries, where the entry's number is above all. In a directory it is never lost.
 abbrev pub AddsIn : ℕ → Held → Hints → Truth → List Changed → List Changed → ℕ → List Name → Name → Result Unit BlinkError → Type 0
 AddsIn areas held hints truth old new root names entry (Ok done) =
@@ -74,10 +69,6 @@ abbrev pub TakesAt : Held → Hints → List Changed → List Changed → ℕ �
 TakesAt held hints old new root number name (Ok done) = ThenTakes held hints old root name (λ mid. RemovesAt held hints mid new root (entry_key number) (Ok done))
 TakesAt held hints old new root number name (Err error) =
     RemovesAt held hints old old root (name_key name) (Err error) ⊎ ThenTakes held hints old root name (λ mid. RemovesAt held hints mid mid root (entry_key number) (Err error))
-
-abbrev pub TakesTo : Held → Hints → List Changed → ℕ → ℕ → List ℕ → Result (List Changed) BlinkError → Type 0
-TakesTo held hints old root number name (Ok new) = TakesAt held hints old new root number name (Ok tt)
-TakesTo held hints old root number name (Err error) = TakesAt held hints old old root number name (Err error)
 
 -- What it answers, by the list of entries, where the one with the name has the number. In a directory it is never lost, and the entry is there.
 abbrev pub TakesIn : ℕ → Held → Hints → Truth → List Changed → List Changed → ℕ → List Name → List ℕ → Result Unit BlinkError → Type 0

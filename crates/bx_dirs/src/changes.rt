@@ -2,7 +2,6 @@
 
 ghost use Rattle.std.specs.Prelude.{◌≡◌, ◌<◌, ◌≤◌, ℕ, List, length, Contains, Some, OnOk, OnErr};
 ghost use Rattle.bx_model.specs.declared.tree.Tree.{Tree};
-ghost use Rattle.bx_records.specs.Drafts.{IsDraft};
 ghost use Rattle.bx_tree_files.specs.declared.file.File.{File};
 ghost use Rattle.bx_tree_files.specs.declared.file.Name.{Name};
 ghost use Rattle.bx_tree_files.specs.Entries.{entry_named, with_name, without_name};
@@ -11,18 +10,17 @@ ghost use Rattle.bx_views.specs.Attempts.{IsHeldDraft};
 ghost use Rattle.bx_views.specs.Truths.{Truth};
 ghost use Rattle.bx_leaves.specs.Changes.{NeedsUnheld};
 ghost use Rattle.bx_leaves.specs.Leaves.{RemovesAt};
-ghost use Rattle.bx_dirs.specs.Changes.{AddsAt, AddsIn, AddsTo, OnAddPath, OnTakePath, PutsByName, PutsByNumber, TakesAt, TakesIn, TakesTo, entry_of};
+ghost use Rattle.bx_dirs.specs.Changes.{AddsAt, AddsIn, OnAddPath, OnTakePath, PutsByName, PutsByNumber, TakesAt, TakesIn, entry_of};
 ghost use Rattle.bx_dirs.specs.Edits.{EditsDirectory, IsDirectoryUnder};
 ghost use Rattle.bx_dirs.specs.Entries.{HasEntries};
 
-use crate::keys::{key_by_name, key_by_number, value_by_name, value_by_number};
 use bx_blink::BlinkError;
 use bx_chunks::copy_of;
+use bx_keys::{key_by_name, key_by_number, value_by_name, value_by_number};
 use bx_leaves::{insert, remove};
 use bx_records::Draft;
 use bx_views::View;
 use std::alloc::Global;
-use std::mem;
 
 /// Adds an entry to the directory whose tree is under a root, by the root's handle. It changes two pages at most.
 ///
@@ -67,36 +65,19 @@ fn add_entry<V: View>(
     ensures unchanged { OnErr result (draft.new ≡ draft.old) }
     ensures ends { AddsAt (V.held view.now) (V.hints view.now) draft.old draft.new root (entry_of place.0 name.now place.1) result }
 {
-    let kept = mem::replace(draft, Draft::new(alloc));
-    match draft_with(alloc, &kept, view, root, name, place) {
-        Ok(next) => {
+    // for the proof: a draft has at most sixteen blocks, each once
+    let _blocks = draft.blocks();
+    let mut next = copy_of(alloc, draft)?;
+    match put_by_name(alloc, &mut next, view, root, name, place) {
+        Err(error) => return Err(error),
+        Ok(()) => {}
+    }
+    match put_by_number(alloc, &mut next, view, root, name, place) {
+        Err(error) => Err(error),
+        Ok(()) => {
             *draft = next;
             Ok(())
         }
-        Err(error) => {
-            *draft = kept;
-            Err(error)
-        }
-    }
-}
-
-/// The draft with an entry added.
-fn draft_with<V: View>(
-    alloc: Global,
-    draft: &Draft,
-    view: &V,
-    root: u64,
-    name: &[u8],
-    place: (u32, u64),
-) -> Result<Draft, BlinkError>
-    requires { length name.now ≤ 255 }
-    ensures { IsDraft draft.now → AddsTo (V.held view.now) (V.hints view.now) draft.now root (entry_of place.0 name.now place.1) result }
-{
-    let mut next = copy_of(alloc, draft)?;
-    put_by_name(alloc, &mut next, view, root, name, place)?;
-    match put_by_number(alloc, &mut next, view, root, name, place) {
-        Ok(()) => Ok(next),
-        Err(error) => Err(error),
     }
 }
 
@@ -176,34 +157,13 @@ fn take_entry<V: View>(
     ensures unchanged { OnErr result (draft.new ≡ draft.old) }
     ensures ends { TakesAt (V.held view.now) (V.hints view.now) draft.old draft.new root number name.now result }
 {
-    let kept = mem::replace(draft, Draft::new(alloc));
-    match draft_without(alloc, &kept, view, root, number, name) {
-        Ok(next) => {
-            *draft = next;
-            Ok(())
-        }
-        Err(error) => {
-            *draft = kept;
-            Err(error)
-        }
-    }
-}
-
-/// The draft with an entry taken out.
-fn draft_without<V: View>(
-    alloc: Global,
-    draft: &Draft,
-    view: &V,
-    root: u64,
-    number: u32,
-    name: &[u8],
-) -> Result<Draft, BlinkError>
-    ensures { IsDraft draft.now → TakesTo (V.held view.now) (V.hints view.now) draft.now root number name.now result }
-{
+    // for the proof: a draft has at most sixteen blocks, each once
+    let _blocks = draft.blocks();
     let mut next = copy_of(alloc, draft)?;
     take_by_name(alloc, &mut next, view, root, name)?;
     take_by_number(alloc, &mut next, view, root, number)?;
-    Ok(next)
+    *draft = next;
+    Ok(())
 }
 
 /// Takes out what is under a name's key.

@@ -11,8 +11,9 @@ ghost use Rattle.bx_blink.specs.Walks.{reads_with, Ends, start, most, OnPath};
 ghost use Rattle.bx_dirs.specs.Entries.{HasEntries, key_behind as behind};
 ghost use Rattle.bx_dirs.specs.Searches.{FollowsAt, FollowsIn, LooksUpAt, LooksUpIn};
 
-use crate::keys::{entry_in, key_behind, key_by_name, place_in};
+use crate::keys::{entry_in, key_behind};
 use bx_blink::{BlinkError, find, next};
+use bx_keys::{key_by_name, place_in};
 use bx_tree_files::Name;
 use bx_views::View;
 use std::alloc::Global;

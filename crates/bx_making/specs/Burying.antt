@@ -41,10 +41,6 @@ BuriesAt held old new handle inode (Err Stale) = MarksAt held old old handle tru
 BuriesAt held old new handle inode (Err OutOfMemory) = Unit {0}
 BuriesAt held old new handle inode (Err (Full spare)) = ⊥
 
-abbrev pub BuriesTo : Held → List Changed → ℕ → Inode → Result (List Changed) ChunkError → Type 0
-BuriesTo held old handle inode (Ok new) = BuriesAt held old new handle inode (Ok tt)
-BuriesTo held old handle inode (Err error) = BuriesAt held old old handle inode (Err error)
-
 -- a body that a file may have when it dies: of a directory, one without entries
 abbrev pub IsBare : Body → Type 0
 IsBare (Bytes bytes) = Unit {0}

@@ -1,3 +1,4 @@
+pub mod Common
 pub mod Making
 pub mod Made
 pub mod Burying

@@ -25,7 +25,3 @@ pub record TakesOnly (held : Held) (old : List Changed) (near areas : ℕ) : Typ
 abbrev pub LinksAt : Held → List Changed → List Changed → Inode → ℕ → ℕ → Result ℕ ChunkError → Type 0
 LinksAt held old new inode near areas (Ok handle) = LinksOne held old new inode near areas handle
 LinksAt held old new inode near areas (Err error) = AllocatesAt held old old near areas (Err error) ⊎ ((error ≡ Crowded) × TakesOnly held old near areas)
-
-abbrev pub LinksTo : Held → List Changed → Inode → ℕ → ℕ → Result (List Changed × ℕ) ChunkError → Type 0
-LinksTo held old inode near areas (Ok made) = LinksAt held old made.0 inode near areas (Ok made.1)
-LinksTo held old inode near areas (Err error) = LinksAt held old old inode near areas (Err error)

@@ -59,8 +59,3 @@ abbrev pub MakesAt : Held → List Changed → List Changed → Inode → ℕ �
 MakesAt held old new inode near areas (Ok handle) = MakesBoth held old new inode near areas handle
 MakesAt held old new inode near areas (Err error) =
     AllocatesAt held old old near areas (Err error) ⊎ (MissesSecond held old near areas error ⊎ MissesBlocks held old inode near areas error)
-
--- the same of a draft that is made anew
-abbrev pub MakesTo : Held → List Changed → Inode → ℕ → ℕ → Result (List Changed × ℕ) ChunkError → Type 0
-MakesTo held old inode near areas (Ok made) = MakesAt held old made.0 inode near areas (Ok made.1)
-MakesTo held old inode near areas (Err error) = MakesAt held old old inode near areas (Err error)

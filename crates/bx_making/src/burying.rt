@@ -2,20 +2,14 @@
 
 ghost use Rattle.std.specs.Prelude.{◌≡◌, ◌≢◌, ◌<◌, ℕ, IsSome, OnErr, OnOk, Some};
 ghost use Rattle.bx_base.specs.declared.names.Mode.TheVariants.{Exclusive};
-ghost use Rattle.bx_chunks.specs.Allocating.{NeedsFairly};
 ghost use Rattle.bx_handles.specs.Handles.{parts_of};
 ghost use Rattle.bx_inodes.specs.Inodes.{HoldsInode};
-ghost use Rattle.bx_layout.specs.Inodes.{IsInode};
 ghost use Rattle.bx_model.specs.Opening.{root_handle};
-ghost use Rattle.bx_model.specs.declared.tree.Tree.{Tree};
-ghost use Rattle.bx_records.specs.Drafts.{IsDraft};
 ghost use Rattle.bx_tree_files.specs.declared.file.File.{File};
 ghost use Rattle.bx_tree_files.specs.Files.{file_at};
 ghost use Rattle.bx_truth.specs.Chunks.{block_at};
-ghost use Rattle.bx_truth.specs.Stands.{StandsFor};
-ghost use Rattle.bx_views.specs.Attempts.{IsHeldDraft};
-ghost use Rattle.bx_views.specs.Truths.{IsTruth, Truth, with_draft};
-ghost use Rattle.bx_making.specs.Burying.{BuriesAt, BuriesIn, BuriesTo, IsBare};
+ghost use Rattle.bx_making.specs.Common.{IsHeldDraft, IsInode, IsTruth, NeedsFairly, StandsFor, Tree, Truth, with_draft};
+ghost use Rattle.bx_making.specs.Burying.{BuriesAt, BuriesIn, IsBare};
 
 use bx_chunks::{ChunkError, copy_of};
 use bx_inodes::put_inode;
@@ -25,7 +19,6 @@ use bx_places::MOST_BLOCKS;
 use bx_records::Draft;
 use bx_views::View;
 use std::alloc::Global;
-use std::mem;
 
 /// The kind of the inodes of dead files.
 const DEAD: u32 = 0;
@@ -67,31 +60,8 @@ fn bury_file<V: View>(
     ensures at { BuriesAt (V.held view.now) draft.old draft.new handle inode result }
     ensures fair { (areas : ℕ) → (parts_of handle).area < areas → NeedsFairly areas (V.held view.now) result }
 {
-    let kept = mem::replace(draft, Draft::new(alloc));
-    match draft_without(alloc, &kept, view, handle, inode) {
-        Ok(next) => {
-            *draft = next;
-            Ok(())
-        }
-        Err(error) => {
-            *draft = kept;
-            Err(error)
-        }
-    }
-}
-
-/// The draft with a dead file.
-fn draft_without<V: View>(
-    alloc: Global,
-    draft: &Draft,
-    view: &V,
-    handle: u64,
-    inode: Inode,
-) -> Result<Draft, ChunkError>
-    requires { IsInode inode }
-    ensures at { IsDraft draft.now → BuriesTo (V.held view.now) draft.now handle inode result }
-    ensures fair { (areas : ℕ) → (parts_of handle).area < areas → NeedsFairly areas (V.held view.now) result }
-{
+    // for the proof: a draft has at most sixteen blocks, each once
+    let _blocks = draft.blocks();
     let mut next = copy_of(alloc, draft)?;
     match mark_dead(alloc, &mut next, view, handle, true) {
         Err(error) => return Err(error),
@@ -105,5 +75,6 @@ fn draft_without<V: View>(
         ..inode
     };
     put_inode(alloc, &mut next, handle, &dead)?;
-    Ok(next)
+    *draft = next;
+    Ok(())
 }

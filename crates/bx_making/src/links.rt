@@ -1,15 +1,9 @@
 //! Links that are made.
 
 ghost use Rattle.std.specs.Prelude.{◌≡◌, ◌≤◌, OnOk, OnErr};
-ghost use Rattle.bx_chunks.specs.Allocating.{NeedsFairly};
-ghost use Rattle.bx_layout.specs.Inodes.{IsInode};
-ghost use Rattle.bx_model.specs.declared.tree.Tree.{Tree};
-ghost use Rattle.bx_records.specs.Drafts.{IsDraft};
 ghost use Rattle.bx_tree_files.specs.declared.file.Body.TheVariants.{Path};
-ghost use Rattle.bx_truth.specs.Stands.{StandsFor};
-ghost use Rattle.bx_views.specs.Attempts.{IsHeldDraft};
-ghost use Rattle.bx_views.specs.Truths.{IsTruth, Truth, with_draft};
-ghost use Rattle.bx_making.specs.Links.{LinksAt, LinksTo};
+ghost use Rattle.bx_making.specs.Common.{IsHeldDraft, IsInode, IsTruth, NeedsFairly, StandsFor, Tree, Truth, with_draft};
+ghost use Rattle.bx_making.specs.Links.{LinksAt};
 ghost use Rattle.bx_making.specs.Made.{MakesIn};
 
 use bx_chunks::{ChunkError, allocate, copy_of};
@@ -19,7 +13,6 @@ use bx_places::MOST_BLOCKS;
 use bx_records::Draft;
 use bx_views::View;
 use std::alloc::Global;
-use std::mem;
 
 /// Makes a link: it takes a slot near an area for this inode, and gives the number of the link's handle.
 ///
@@ -55,30 +48,8 @@ fn link_seen<V: View>(
     ensures unchanged { OnErr result (draft.new ≡ draft.old) }
     ensures at { LinksAt (V.held view.now) draft.old draft.new inode.now near.0 near.1 result }
 {
-    let kept = mem::replace(draft, Draft::new(alloc));
-    match draft_with(alloc, &kept, view, inode, near) {
-        Ok((next, handle)) => {
-            *draft = next;
-            Ok(handle)
-        }
-        Err(error) => {
-            *draft = kept;
-            Err(error)
-        }
-    }
-}
-
-/// The draft with a link made, and the link's handle.
-fn draft_with<V: View>(
-    alloc: Global,
-    draft: &Draft,
-    view: &V,
-    inode: &Inode,
-    near: (u16, u16),
-) -> Result<(Draft, u64), ChunkError>
-    requires { IsInode inode.now }
-    ensures { IsDraft draft.now → LinksTo (V.held view.now) draft.now inode.now near.0 near.1 result }
-{
+    // for the proof: a draft has at most sixteen blocks, each once
+    let _blocks = draft.blocks();
     let mut next = copy_of(alloc, draft)?;
     let handle = match allocate(alloc, &mut next, view, near.0, near.1) {
         Err(error) => return Err(error),
@@ -88,5 +59,6 @@ fn draft_with<V: View>(
         return Err(ChunkError::Crowded);
     }
     put_inode(alloc, &mut next, handle, inode)?;
-    Ok((next, handle))
+    *draft = next;
+    Ok(handle)
 }

@@ -1,17 +1,11 @@
 //! Files that are made.
 
 ghost use Rattle.std.specs.Prelude.{◌≡◌, ◌≤◌, ℕ, OnOk, OnErr};
-ghost use Rattle.bx_chunks.specs.Allocating.{NeedsFairly};
-ghost use Rattle.bx_layout.specs.Inodes.{IsInode};
-ghost use Rattle.bx_model.specs.declared.tree.Tree.{Tree};
-ghost use Rattle.bx_records.specs.Drafts.{IsDraft};
 ghost use Rattle.bx_tree_files.specs.declared.file.Body.{Body};
 ghost use Rattle.bx_truth.specs.Making.{IsEmptyBody};
-ghost use Rattle.bx_truth.specs.Stands.{StandsFor};
-ghost use Rattle.bx_views.specs.Attempts.{IsHeldDraft};
-ghost use Rattle.bx_views.specs.Truths.{IsTruth, Truth, with_draft};
+ghost use Rattle.bx_making.specs.Common.{IsHeldDraft, IsInode, IsTruth, NeedsFairly, StandsFor, Tree, Truth, with_draft};
 ghost use Rattle.bx_making.specs.Made.{MakesIn};
-ghost use Rattle.bx_making.specs.Making.{FillsAt, MakesAt, MakesTo};
+ghost use Rattle.bx_making.specs.Making.{FillsAt, MakesAt};
 
 use bx_blink::BlinkError;
 use bx_chunks::{ChunkError, allocate, copy_of};
@@ -23,7 +17,6 @@ use bx_places::MOST_BLOCKS;
 use bx_records::Draft;
 use bx_views::View;
 use std::alloc::Global;
-use std::mem;
 
 /// Makes an empty file: it takes two slots near an area, one for its inode, which is this one but for its
 /// root, and one for the page of its tree, and gives the number of the file's handle.
@@ -61,30 +54,8 @@ fn make_file<V: View>(
     ensures unchanged { OnErr result (draft.new ≡ draft.old) }
     ensures at { MakesAt (V.held view.now) draft.old draft.new inode near.0 near.1 result }
 {
-    let kept = mem::replace(draft, Draft::new(alloc));
-    match draft_with(alloc, &kept, view, inode, near) {
-        Ok((next, handle)) => {
-            *draft = next;
-            Ok(handle)
-        }
-        Err(error) => {
-            *draft = kept;
-            Err(error)
-        }
-    }
-}
-
-/// The draft with a file made, and the file's handle.
-fn draft_with<V: View>(
-    alloc: Global,
-    draft: &Draft,
-    view: &V,
-    inode: Inode,
-    near: (u16, u16),
-) -> Result<(Draft, u64), ChunkError>
-    requires { IsInode inode }
-    ensures { IsDraft draft.now → MakesTo (V.held view.now) draft.now inode near.0 near.1 result }
-{
+    // for the proof: a draft has at most sixteen blocks, each once
+    let _blocks = draft.blocks();
     let mut next = copy_of(alloc, draft)?;
     let handle = match allocate(alloc, &mut next, view, near.0, near.1) {
         Err(error) => return Err(error),
@@ -96,7 +67,10 @@ fn draft_with<V: View>(
     };
     match fill(alloc, &mut next, handle, page, inode) {
         Err(error) => Err(error),
-        Ok(()) => Ok((next, handle)),
+        Ok(()) => {
+            *draft = next;
+            Ok(handle)
+        }
     }
 }
 

@@ -18,8 +18,21 @@ use bx_records::Draft;
 use bx_views::View;
 use std::alloc::Global;
 
-/// Takes the entry with a name and its number out of the directory with a handle, which is changed now, in seconds and microseconds: the draft
-/// with that. The directory has a link less where the entry counts as one. Room that its tree has for another entry stays.
+/// Where an entry comes or goes.
+#[derive(Drop)]
+pub struct Place<'a> {
+    /// The handle of the directory.
+    pub directory: u64,
+    /// The name of the entry.
+    pub name: &'a [u8],
+    /// Whether it counts among the directory's links.
+    pub counts: bool,
+    /// When the directory is changed, in seconds and microseconds.
+    pub time: (u32, u32),
+}
+
+/// Takes the entry with a number and its name out of a directory: the draft with that. The directory has a link less where the entry counts as one.
+/// Room that its tree has for another entry stays.
 ///
 /// `Need` names the block of the directory's inode, exclusively, or one on the path of the two changes of its tree over the draft. The status is `STALE`
 /// where there is no such entry: of one that is there it never comes.
@@ -28,33 +41,33 @@ pub fn leave<V: View>(
     draft: Draft,
     view: &V,
     areas: u16,
-    directory: u64,
     number: u32,
-    name: &[u8],
-    counts: bool,
-    now: (u32, u32),
+    place: &Place<'_>,
 ) -> Result<Draft, Stop>
     requires { length draft ≤ 12 }
     ensures step { (truth : Truth) (tree : Tree) (file : File) (parent next : ℕ) (names : List Name) (entry : Name) → Rests areas (V.held view.now) (V.hints view.now) truth draft tree
-        → file_at tree.files directory ≡ Some file → file.body ≡ Names parent next names → file.kind ≡ 2 → entry_named names name.now ≡ Some entry → entry.number ≡ number
-        → EditsTo areas truth draft (changed tree directory (taken_out now name.now counts)) result }
+        → file_at tree.files place.now.directory ≡ Some file → file.body ≡ Names parent next names → file.kind ≡ 2 → entry_named names place.now.name.now ≡ Some entry → entry.number ≡ number
+        → EditsTo areas truth draft (changed tree place.now.directory (taken_out place.now.time place.now.name.now place.now.counts)) result }
     ensures rooms { (truth : Truth) (tree : Tree) (file : File) (parent next : ℕ) (names : List Name) (entry : Name) (other : List ℕ) → Rests areas (V.held view.now) (V.hints view.now) truth draft tree
-        → file_at tree.files directory ≡ Some file → file.body ≡ Names parent next names → file.kind ≡ 2 → entry_named names name.now ≡ Some entry → entry.number ≡ number
-        → HasRoomFor areas (V.held view.now) truth draft directory other → IfOk result (λ new. HasRoomFor areas (V.held view.now) truth new directory other) }
-    ensures need { NeedsOn areas (V.held view.now) (OnLeaving (V.held view.now) (V.hints view.now) areas draft directory number name.now) result }
+        → file_at tree.files place.now.directory ≡ Some file → file.body ≡ Names parent next names → file.kind ≡ 2 → entry_named names place.now.name.now ≡ Some entry → entry.number ≡ number
+        → HasRoomFor areas (V.held view.now) truth draft place.now.directory other → IfOk result (λ new. HasRoomFor areas (V.held view.now) truth new place.now.directory other) }
+    ensures need { NeedsOn areas (V.held view.now) (OnLeaving (V.held view.now) (V.hints view.now) areas draft place.now.directory number place.now.name.now) result }
     ensures inner { NeverInner result }
     ensures held { IsHeldDraft (V.held view.now) draft → IfOk result (IsHeldDraft (V.held view.now)) }
     ensures edits { IsEdited (V.held view.now) (V.hints view.now) areas draft → IfOk result (IsEdited (V.held view.now) (V.hints view.now) areas) }
     ensures few { IfOk result (λ new. length new ≤ length draft + 3) }
 {
-    match inode_at(alloc, &draft, view, areas, directory, Mode::Exclusive) {
+    match inode_at(alloc, &draft, view, areas, place.directory, Mode::Exclusive) {
         Err(stop) => Err(stop),
         Ok(inode) => {
             let known = Known {
-                handle: directory,
+                handle: place.directory,
                 inode,
             };
-            take_entry(alloc, draft, view, areas, known, number, name, counts, now)
+            let (name, counts) = (place.name, place.counts);
+            take_entry(
+                alloc, draft, view, areas, known, number, name, counts, place.time,
+            )
         }
     }
 }

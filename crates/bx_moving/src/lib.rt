@@ -6,7 +6,7 @@ mod entries;
 mod moves;
 mod settling;
 
-pub use edits::{leave, lose};
+pub use edits::{Place, leave, lose};
 pub use entries::come;
 pub use moves::{Moving, Replaced, move_file};
 pub use settling::settle;

@@ -7,7 +7,7 @@ ghost use Rattle.bx_moving.specs.declared.moves.Moving.{Moving as Move};
 ghost use Rattle.bx_moving.specs.Edits.{Comes, EditsTo, GrowsTo, HasRoomFor, IsEdited, Rests};
 ghost use Rattle.bx_moving.specs.Moves.{IsDying, IsMoving, OnBringing, OnClearing, OnDying, OnMoving, OnOver, OnSending, brought, cleared, ended, other_of};
 
-use crate::edits::{leave, lose};
+use crate::edits::{Place, leave, lose};
 use crate::entries::come;
 use crate::settling::settle;
 use bx_changes::ChangeError;
@@ -100,17 +100,15 @@ fn bring<V: View>(
 {
     match clear(alloc, view, areas, moving.target, replaced, name, now) {
         Err(stop) => Err(ChangeError::Stopped(stop)),
-        Ok(draft) => come(
-            alloc,
-            draft,
-            view,
-            areas,
-            moving.target,
-            name,
-            moving.handle,
-            moving.counts,
-            now,
-        ),
+        Ok(draft) => {
+            let place = Place {
+                directory: moving.target,
+                name,
+                counts: moving.counts,
+                time: now,
+            };
+            come(alloc, draft, view, areas, &place, moving.handle)
+        }
     }
 }
 
@@ -137,17 +135,15 @@ fn clear<V: View>(
     let none = Draft::new(alloc);
     match replaced {
         None => Ok(none),
-        Some(other) => leave(
-            alloc,
-            none,
-            view,
-            areas,
-            target,
-            other.number,
-            name,
-            other.is_directory,
-            now,
-        ),
+        Some(other) => {
+            let place = Place {
+                directory: target,
+                name,
+                counts: other.is_directory,
+                time: now,
+            };
+            leave(alloc, none, view, areas, other.number, &place)
+        }
     }
 }
 
@@ -171,18 +167,14 @@ fn send<V: View>(
     ensures inner { NeverInner result }
     ensures held { IsHeldDraft (V.held view.now) draft → IfOk result (IsHeldDraft (V.held view.now)) }
 {
-    let (source, number) = (moving.source, moving.number);
-    match leave(
-        alloc,
-        draft,
-        view,
-        areas,
-        source,
-        number,
+    let number = moving.number;
+    let place = Place {
+        directory: moving.source,
         name,
-        moving.counts,
-        now,
-    ) {
+        counts: moving.counts,
+        time: now,
+    };
+    match leave(alloc, draft, view, areas, number, &place) {
         Err(stop) => Err(stop),
         Ok(draft) => match settle(alloc, draft, view, areas, moving.handle, moving.target, now) {
             Err(stop) => Err(stop),

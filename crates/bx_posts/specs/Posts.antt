@@ -47,11 +47,6 @@ PostsAt held hints old new root handle near areas (Err e) =
     SeparatorAt (reads_with held hints old) handle (Err e)
     ⊎ (LacksParent (reads_with held hints old) root handle e ⊎ PutsThere held (reads_with held hints old) old old root handle near areas (Err e))
 
--- the same of a draft that is made anew
-abbrev pub PostsTo : Held → Hints → List Changed → ℕ → ℕ → ℕ → ℕ → Result (List Changed × Posted) BlinkError → Type 0
-PostsTo held hints old root handle near areas (Ok done) = PostsAt held hints old done.0 root handle near areas (Ok done.1)
-PostsTo held hints old root handle near areas (Err e) = PostsAt held hints old old root handle near areas (Err e)
-
 -- The path of a post: the page's block, shared; what is on the path of the walk to the parent; and what the next slot needs for a new page.
 pub data OnPostPath (held : Held) (hints : Hints) (old : List Changed) (root handle near areas : ℕ) : ℕ → Mode → Type 0 where
   page : OnPostPath held hints old root handle near areas (block_at handle) Shared

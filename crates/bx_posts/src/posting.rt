@@ -1,14 +1,13 @@
 //! The call that posts a separator.
 
 ghost use Rattle.std.specs.Prelude.{◌≡◌, OnOk, OnErr};
-ghost use Rattle.bx_records.specs.Drafts.{IsDraft};
 ghost use Rattle.bx_truth.specs.PageTrees.{Node, PageTree, IsPageOf};
 ghost use Rattle.bx_views.specs.Attempts.{IsHeldDraft};
 ghost use Rattle.bx_views.specs.Truths.{Truth};
 ghost use Rattle.bx_blink.specs.Hints.{Under};
 ghost use Rattle.bx_blink.specs.Walks.{reads_with};
 ghost use Rattle.bx_chunks.specs.Taking.{TakesSlots};
-ghost use Rattle.bx_posts.specs.Posts.{NeedsForPost, PostsAt, PostsIn, PostsTo};
+ghost use Rattle.bx_posts.specs.Posts.{NeedsForPost, PostsAt, PostsIn};
 ghost use Rattle.bx_posts.specs.Separators.{MayPost};
 
 use crate::parents::{parent_of, put_in_parent};
@@ -18,7 +17,6 @@ use bx_chunks::copy_of;
 use bx_records::Draft;
 use bx_views::View;
 use std::alloc::Global;
-use std::mem;
 
 /// What came of posting a separator.
 #[derive(Clone, Copy, PartialEq, Eq)]
@@ -70,36 +68,16 @@ fn post_page<V: View>(
     ensures unchanged { OnErr result (draft.new ≡ draft.old) }
     ensures at { PostsAt (V.held view.now) (V.hints view.now) draft.old draft.new root handle near.0 near.1 result }
 {
-    let kept = mem::replace(draft, Draft::new(alloc));
-    match post_of(alloc, &kept, view, root, handle, near) {
-        Ok((next, posted)) => {
-            *draft = next;
-            Ok(posted)
-        }
-        Err(error) => {
-            *draft = kept;
-            Err(error)
-        }
-    }
-}
-
-/// The draft with a separator posted.
-fn post_of<V: View>(
-    alloc: Global,
-    draft: &Draft,
-    view: &V,
-    root: u64,
-    handle: u64,
-    near: (u16, u16),
-) -> Result<(Draft, Posted), BlinkError>
-    requires { MayPost (reads_with (V.held view.now) (V.hints view.now) draft.now) handle }
-    ensures { IsDraft draft.now → PostsTo (V.held view.now) (V.hints view.now) draft.now root handle near.0 near.1 result }
-{
+    // for the proof: a draft has at most sixteen blocks, each once
+    let _blocks = draft.blocks();
     let separator = separator_of(alloc, draft, view, handle)?;
     let parent = parent_of(alloc, draft, view, root, &separator)?;
     let mut next = copy_of(alloc, draft)?;
     match put_in_parent(alloc, &mut next, view, root, parent, &separator, near) {
-        Ok(posted) => Ok((next, posted)),
         Err(error) => Err(error),
+        Ok(posted) => {
+            *draft = next;
+            Ok(posted)
+        }
     }
 }

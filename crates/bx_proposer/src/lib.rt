@@ -5,5 +5,5 @@ mod letters;
 mod names;
 mod proposer;
 
-pub use names::actor_number;
+pub use names::{actor_number, is_same_machine};
 pub use proposer::Proposer;

@@ -28,7 +28,7 @@ pub fn actor_number(who: Actor) -> u32
 }
 
 /// Whether two names are one machine's.
-fn is_same_machine(one: &Actor, other: &Actor) -> bool
+pub fn is_same_machine(one: &Actor, other: &Actor) -> bool
     ensures { result ≡ is_same one.now other.now }
 {
     match (one, other) {

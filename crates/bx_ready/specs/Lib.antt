@@ -1,3 +1,4 @@
+pub mod Common
 pub mod Descents
 pub mod Spare
 pub mod Separators

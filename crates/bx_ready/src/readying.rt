@@ -1,14 +1,9 @@
 //! The one answer of what is to be written first.
 
 ghost use Rattle.std.specs.Prelude.{[], IfOk, IfSome, IfNone};
-ghost use Rattle.bx_blink.specs.Hints.{Under};
-ghost use Rattle.bx_chunks.specs.Taking.{NoSlots, TakesSlots};
 ghost use Rattle.bx_file_laws.specs.Keeping.{KeepsFiles};
-ghost use Rattle.bx_leaves.specs.Changes.{NeedsUnheld};
 ghost use Rattle.bx_model.specs.declared.tree.Tree.{Tree};
-ghost use Rattle.bx_truth.specs.PageTrees.{PageTree};
-ghost use Rattle.bx_views.specs.Attempts.{IsHeldDraft};
-ghost use Rattle.bx_views.specs.Truths.{Truth};
+ghost use Rattle.bx_ready.specs.Common.{IsHeldDraft, NeedsUnheld, NoSlots, PageTree, TakesSlots, Truth, Under};
 ghost use Rattle.bx_ready.specs.Lacking.{FindsRoom, MakesRoom};
 ghost use Rattle.bx_ready.specs.Ready.{IsFileUnder, OnReadyPath, ReadiesIn};
 ghost use Rattle.bx_ready.specs.Spare.{IfFull};

@@ -1,13 +1,8 @@
 //! Room in leaves.
 
 ghost use Rattle.std.specs.Prelude.{◌≡◌, [], IfOk, IfSome};
-ghost use Rattle.bx_blink.specs.Hints.{Under};
 ghost use Rattle.bx_blink.specs.Walks.{reads_with};
-ghost use Rattle.bx_chunks.specs.Taking.{NoSlots, TakesSlots};
-ghost use Rattle.bx_leaves.specs.Changes.{NeedsUnheld};
-ghost use Rattle.bx_truth.specs.PageTrees.{PageTree};
-ghost use Rattle.bx_views.specs.Attempts.{IsHeldDraft};
-ghost use Rattle.bx_views.specs.Truths.{Truth};
+ghost use Rattle.bx_ready.specs.Common.{IsHeldDraft, NeedsUnheld, NoSlots, PageTree, TakesSlots, Truth, Under};
 ghost use Rattle.bx_ready.specs.Rooms.{FindsFull, OnSplitPath, SplitsForIn};
 ghost use Rattle.bx_ready.specs.Spare.{IfFull};
 

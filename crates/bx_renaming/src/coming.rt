@@ -7,7 +7,7 @@ ghost use Rattle.bx_linking.specs.Drafting.{ComesBy};
 ghost use Rattle.bx_renaming.specs.Path.{OnMove};
 ghost use Rattle.bx_renaming.specs.Renaming.{AreDirectories, IsPassed, coming_in, move_of, other_file, replaced_by};
 
-use crate::places::Places;
+use crate::places::{Between, Places};
 use bx_changes::ChangeError;
 use bx_entries::Known;
 use bx_inodes::Stop;
@@ -30,35 +30,44 @@ pub(crate) fn move_in<V: View>(
     alloc: Global,
     view: &V,
     areas: u16,
-    places: &Places,
+    between: &Between<'_>,
     moving: Moving,
     replaced: Option<Replaced>,
-    name: &[u8],
-    new_name: &[u8],
-    now: (u32, u32),
 ) -> Result<Draft, ChangeError>
-    requires name { length new_name.now ≤ 255 }
+    requires name { length between.now.new_name.now ≤ 255 }
     requires area { IfSome replaced (λ replaced. (parts_of replaced.handle).area < areas) }
-    ensures step { (volume : ℕ) (truth : Truth) (tree : Tree) → (are : AreDirectories volume areas (V.held view.now) (V.hints view.now) truth tree places.now)
-        → (passed : IsPassed tree are.source.file are.target.file moving name.now new_name.now replaced)
-        → ComesBy areas truth (coming_in tree are.source.file name.now are.target.file new_name.now passed.moved (other_file tree are.source.file are.target.file moving name.now new_name.now replaced passed) now) result }
-    ensures lacks { (volume : ℕ) (truth : Truth) (tree : Tree) → AreDirectories volume areas (V.held view.now) (V.hints view.now) truth tree places.now
-        → IfErr result (IfFirst (MakesEither areas (V.held view.now) (V.hints view.now) truth places.now.target.inode.tree new_name.now places.now.target.inode.next)) }
-    ensures finds { (volume : ℕ) (truth : Truth) (tree : Tree) → AreDirectories volume areas (V.held view.now) (V.hints view.now) truth tree places.now
-        → IfOk result (λ made. FindsBoth areas truth places.now.target.inode.tree new_name.now places.now.target.inode.next) }
-    ensures need { IfErr result (NeedsBy areas (V.held view.now) (OnMove (V.held view.now) (V.hints view.now) areas places.now.target moving name.now new_name.now replaced)) }
+    ensures step { (volume : ℕ) (truth : Truth) (tree : Tree) → (are : AreDirectories volume areas (V.held view.now) (V.hints view.now) truth tree between.now.places.now)
+        → (passed : IsPassed tree are.source.file are.target.file moving between.now.name.now between.now.new_name.now replaced)
+        → ComesBy areas truth (coming_in tree are.source.file between.now.name.now are.target.file between.now.new_name.now passed.moved (other_file tree are.source.file are.target.file moving between.now.name.now between.now.new_name.now replaced passed) between.now.time) result }
+    ensures lacks { (volume : ℕ) (truth : Truth) (tree : Tree) → AreDirectories volume areas (V.held view.now) (V.hints view.now) truth tree between.now.places.now
+        → IfErr result (IfFirst (MakesEither areas (V.held view.now) (V.hints view.now) truth between.now.places.now.target.inode.tree between.now.new_name.now between.now.places.now.target.inode.next)) }
+    ensures finds { (volume : ℕ) (truth : Truth) (tree : Tree) → AreDirectories volume areas (V.held view.now) (V.hints view.now) truth tree between.now.places.now
+        → IfOk result (λ made. FindsBoth areas truth between.now.places.now.target.inode.tree between.now.new_name.now between.now.places.now.target.inode.next) }
+    ensures need { IfErr result (NeedsBy areas (V.held view.now) (OnMove (V.held view.now) (V.hints view.now) areas between.now.places.now.target moving between.now.name.now between.now.new_name.now replaced)) }
     ensures first { IfErr result (HoldsFirst (V.held view.now)) }
-    ensures full { IfErr result (IfFull (NoSlots (V.held view.now) (parts_of places.now.target.handle).area areas [])) }
-    ensures wanted { (volume : ℕ) (truth : Truth) (tree : Tree) → AreDirectories volume areas (V.held view.now) (V.hints view.now) truth tree places.now
-        → IfErr result (IfFull (λ spare. FindsBoth areas truth places.now.target.inode.tree new_name.now places.now.target.inode.next → ⊥)) }
+    ensures full { IfErr result (IfFull (NoSlots (V.held view.now) (parts_of between.now.places.now.target.handle).area areas [])) }
+    ensures wanted { (volume : ℕ) (truth : Truth) (tree : Tree) → AreDirectories volume areas (V.held view.now) (V.hints view.now) truth tree between.now.places.now
+        → IfErr result (IfFull (λ spare. FindsBoth areas truth between.now.places.now.target.inode.tree between.now.new_name.now between.now.places.now.target.inode.next → ⊥)) }
     ensures held { IfOk result (IsHeldDraft (V.held view.now)) }
 {
-    if places.target.inode.next >= LAST_NUMBER {
+    if between.places.target.inode.next >= LAST_NUMBER {
         return Err(ChangeError::Stopped(Stop::Status(DQUOT)));
     }
-    match room_for(alloc, view, areas, &places.target, new_name) {
+    match room_for(alloc, view, areas, &between.places.target, between.new_name) {
         Err(error) => Err(error),
-        Ok(()) => move_file(alloc, view, areas, moving, replaced, name, new_name, now),
+        Ok(()) => {
+            let (name, new_name) = (between.name, between.new_name);
+            move_file(
+                alloc,
+                view,
+                areas,
+                moving,
+                replaced,
+                name,
+                new_name,
+                between.time,
+            )
+        }
     }
 }
 

@@ -10,5 +10,5 @@ mod testing;
 
 pub use bx_linking::link;
 pub use finding::{moved_for, other_for};
-pub use places::{Places, places_for};
+pub use places::{Names, Places, places_for};
 pub use renaming::rename;

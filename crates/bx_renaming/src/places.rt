@@ -27,6 +27,36 @@ pub struct Places {
     pub target: Known,
 }
 
+/// What a call asks to be moved, and where.
+#[derive(Drop)]
+pub struct Names<'a> {
+    /// The file handle of the directory that the file leaves.
+    pub from: &'a [u8],
+    /// The name that it has there.
+    pub name: &'a [u8],
+    /// The file handle of the directory that it comes into.
+    pub to: &'a [u8],
+    /// The name that it gets there.
+    pub new_name: &'a [u8],
+}
+
+/// A move of a file from one directory to another.
+#[derive(Drop)]
+pub(crate) struct Between<'a> {
+    /// The two directories.
+    pub(crate) places: &'a Places,
+    /// The number of the entry that the file has in the first one.
+    pub(crate) number: u32,
+    /// The file.
+    pub(crate) moved: &'a Known,
+    /// The name that it has there.
+    pub(crate) name: &'a [u8],
+    /// The name that it gets in the second one.
+    pub(crate) new_name: &'a [u8],
+    /// The time, in seconds and microseconds.
+    pub(crate) time: (u32, u32),
+}
+
 /// The directories that two file handles of a volume name, between which a caller may move a file from one name to another.
 ///
 /// `Need` names the block of the first one's inode, exclusively, which isn't held so, or, where that is held, of the second one's. The status is `STALE`,
@@ -37,19 +67,16 @@ pub fn places_for<V: View>(
     volume: u64,
     areas: u16,
     call: &Call,
-    from: &[u8],
-    name: &[u8],
-    to: &[u8],
-    new_name: &[u8],
+    names: &Names<'_>,
     view: &V,
 ) -> Result<Places, Stop>
     ensures step { (truth : Truth) (tree : Tree) → IsTruth (V.held view.now) truth → Stands volume areas truth tree
-        → PlacesFor areas truth tree (move_places tree call.now from.now name.now to.now new_name.now) result }
-    ensures live { IfOk result (λ places. AreHeld (V.held view.now) (V.hints view.now) volume areas from.now to.now places.source.handle places.target.handle places.source.inode places.target.inode) }
-    ensures need { NeedsOn areas (V.held view.now) (λ at mode. OnInode volume from.now Exclusive at mode ⊎ OnTarget (V.held view.now) (V.hints view.now) volume areas from.now to.now at mode) result }
+        → PlacesFor areas truth tree (move_places tree call.now names.now.from.now names.now.name.now names.now.to.now names.now.new_name.now) result }
+    ensures live { IfOk result (λ places. AreHeld (V.held view.now) (V.hints view.now) volume areas names.now.from.now names.now.to.now places.source.handle places.target.handle places.source.inode places.target.inode) }
+    ensures need { NeedsOn areas (V.held view.now) (λ at mode. OnInode volume names.now.from.now Exclusive at mode ⊎ OnTarget (V.held view.now) (V.hints view.now) volume areas names.now.from.now names.now.to.now at mode) result }
     ensures inner { NeverInner result }
 {
-    let Some(handle) = named_handle(volume, from) else {
+    let Some(handle) = named_handle(volume, names.from) else {
         return Err(Stop::Status(STALE));
     };
     let none = Draft::new(alloc);
@@ -57,7 +84,7 @@ pub fn places_for<V: View>(
         Err(stop) => Err(stop),
         Ok(inode) => {
             let source = Known { handle, inode };
-            target_for(alloc, volume, areas, call, source, name, to, new_name, view)
+            target_for(alloc, volume, areas, call, source, names, view)
         }
     }
 }
@@ -69,20 +96,18 @@ fn target_for<V: View>(
     areas: u16,
     call: &Call,
     source: Known,
-    name: &[u8],
-    to: &[u8],
-    new_name: &[u8],
+    names: &Names<'_>,
     view: &V,
 ) -> Result<Places, Stop>
     ensures step { (truth : Truth) (tree : Tree) → IsTruth (V.held view.now) truth → Stands volume areas truth tree → (is : IsInodeOf areas truth tree source.handle source.inode)
-        → PlacesFor areas truth tree (places_from call.now name.now new_name.now is.file (named_file tree to.now)) result }
+        → PlacesFor areas truth tree (places_from call.now names.now.name.now names.now.new_name.now is.file (named_file tree names.now.to.now)) result }
     ensures same { IfOk result (λ places. places.source ≡ source) }
     ensures live { IfOk result (λ places. LiveAt (reads_with (V.held view.now) (V.hints view.now) []) areas places.target.handle Exclusive places.target.inode) }
-    ensures named { IfOk result (λ places. named_as volume to.now ≡ Some places.target.handle) }
-    ensures need { NeedsOn areas (V.held view.now) (OnInode volume to.now Exclusive) result }
+    ensures named { IfOk result (λ places. named_as volume names.now.to.now ≡ Some places.target.handle) }
+    ensures need { NeedsOn areas (V.held view.now) (OnInode volume names.now.to.now Exclusive) result }
     ensures inner { NeverInner result }
 {
-    let Some(handle) = named_handle(volume, to) else {
+    let Some(handle) = named_handle(volume, names.to) else {
         return Err(Stop::Status(STALE));
     };
     let none = Draft::new(alloc);
@@ -90,7 +115,7 @@ fn target_for<V: View>(
         Err(stop) => Err(stop),
         Ok(inode) => {
             let target = Known { handle, inode };
-            match place_error(alloc, call, name, new_name, &source, &target) {
+            match place_error(alloc, call, names.name, names.new_name, &source, &target) {
                 Err(_) => Err(Stop::OutOfMemory),
                 Ok(Some(status)) => Err(Stop::Status(status)),
                 Ok(None) => Ok(Places { source, target }),

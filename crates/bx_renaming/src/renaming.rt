@@ -12,7 +12,7 @@ ghost use Rattle.bx_renaming.specs.Renaming.{AreDirectories};
 
 use crate::finding::moved_for;
 use crate::onto::move_onto;
-use crate::places::{Places, places_for};
+use crate::places::{Between, Names, Places, places_for};
 use bx_changes::ChangeError;
 use bx_model::{Call, NFS_OK, Reply};
 use bx_records::Draft;
@@ -36,29 +36,27 @@ pub fn rename<V: View>(
     volume: u64,
     areas: u16,
     call: &Call,
-    from: &[u8],
-    name: &[u8],
-    to: &[u8],
-    new_name: &[u8],
+    names: &Names<'_>,
     now: (u32, u32),
     view: &V,
 ) -> Result<(Draft, Reply), ChangeError>
     requires few { areas ≤ 64 }
-    requires name { length new_name.now ≤ 255 }
+    requires name { length names.now.new_name.now ≤ 255 }
     ensures step { OnVolume volume areas (V.held view.now) (V.hints view.now)
-        (λ truth tree. IsChangeBy volume areas truth (λ spare. rename_of tree call.now from.now name.now to.now new_name.now now spare) result) }
+        (λ truth tree. IsChangeBy volume areas truth (λ spare. rename_of tree call.now names.now.from.now names.now.name.now names.now.to.now names.now.new_name.now now spare) result) }
     ensures hints { KeepsHints volume areas (V.held view.now) (V.hints view.now) result }
     ensures lacks { OnVolume volume areas (V.held view.now) (V.hints view.now)
-        (λ truth tree. IfErr result (ComesFirst (λ status. rename_of tree call.now from.now name.now to.now new_name.now now 8 ≡ Err status) (PreparesMove volume areas (V.held view.now) (V.hints view.now) truth tree from.now name.now to.now new_name.now))) }
-    ensures ready { OnVolume volume areas (V.held view.now) (V.hints view.now) (λ truth tree. IfOk result (λ made. ReadyToMove volume areas truth tree from.now name.now to.now new_name.now)) }
-    ensures need { IfErr result (NeedsBy areas (V.held view.now) (OnRename (V.held view.now) (V.hints view.now) volume areas from.now name.now to.now new_name.now)) }
+        (λ truth tree. IfErr result (ComesFirst (λ status. rename_of tree call.now names.now.from.now names.now.name.now names.now.to.now names.now.new_name.now now 8 ≡ Err status) (PreparesMove volume areas (V.held view.now) (V.hints view.now) truth tree names.now.from.now names.now.name.now names.now.to.now names.now.new_name.now))) }
+    ensures ready { OnVolume volume areas (V.held view.now) (V.hints view.now) (λ truth tree. IfOk result (λ made. ReadyToMove volume areas truth tree names.now.from.now names.now.name.now names.now.to.now names.now.new_name.now)) }
+    ensures need { IfErr result (NeedsBy areas (V.held view.now) (OnRename (V.held view.now) (V.hints view.now) volume areas names.now.from.now names.now.name.now names.now.to.now names.now.new_name.now)) }
     ensures first { IfErr result (HoldsFirst (V.held view.now)) }
-    ensures full { IfErr result (IfFull (NoSlotsNear volume areas (V.held view.now) to.now)) }
+    ensures full { IfErr result (IfFull (NoSlotsNear volume areas (V.held view.now) names.now.to.now)) }
     ensures wanted { OnVolume volume areas (V.held view.now) (V.hints view.now)
-        (λ truth tree. IfErr result (IfFull (λ spare. ReadyToMove volume areas truth tree from.now name.now to.now new_name.now → ⊥))) }
+        (λ truth tree. IfErr result (IfFull (λ spare. ReadyToMove volume areas truth tree names.now.from.now names.now.name.now names.now.to.now names.now.new_name.now → ⊥))) }
     ensures held { IfOk result (λ made. IsHeldDraft (V.held view.now) made.0) }
 {
-    match places_for(alloc, volume, areas, call, from, name, to, new_name, view) {
+    let (name, new_name) = (names.name, names.new_name);
+    match places_for(alloc, volume, areas, call, names, view) {
         Err(stop) => Err(ChangeError::Stopped(stop)),
         Ok(places) => match move_between(alloc, view, areas, &places, name, new_name, now) {
             Err(error) => Err(error),
@@ -93,8 +91,16 @@ fn move_between<V: View>(
 {
     match moved_for(alloc, view, areas, &places.source, name) {
         Err(stop) => Err(ChangeError::Stopped(stop)),
-        Ok((number, moved)) => move_onto(
-            alloc, view, areas, places, number, &moved, name, new_name, now,
-        ),
+        Ok((number, moved)) => {
+            let between = Between {
+                places,
+                number,
+                moved: &moved,
+                name,
+                new_name,
+                time: now,
+            };
+            move_onto(alloc, view, areas, &between)
+        }
     }
 }

@@ -14,17 +14,14 @@ ghost use Rattle.bx_sizes.specs.Lengths.{grows_over as grows_over_to, with_lengt
 
 use crate::clearing::clear;
 use bx_base::OutOfMemory;
+use bx_call_parts::resize_error;
 use bx_changes::with_given;
 use bx_inodes::{Stop, head_of, put_inode};
 use bx_layout::Inode;
-use bx_model::{ACCES, Call, FBIG, ISDIR, NXIO, Sattr, Want, may};
+use bx_model::{Call, Sattr};
 use bx_records::Draft;
-use bx_tree_files::{DIRECTORY, File, LINK, is_given};
 use bx_views::View;
 use std::alloc::Global;
-
-/// The most bytes that a file has.
-const MOST_BYTES: u32 = 2147483647;
 
 /// Sets the size of the regular file with a handle, by its inode, and what else is given: the block that it changes, and the inode then.
 /// New bytes are zeros. Cut bytes stay in their pieces, behind the end, and the tail tells how far; exactly where the file would grow over them,
@@ -100,26 +97,4 @@ pub fn size_error(
 {
     let head = head_of(alloc, handle, inode)?;
     Ok(resize_error(call, &head, size))
-}
-
-/// The same, by what the inode says of the file.
-fn resize_error(call: &Call, head: &File, size: u32) -> Option<u32>
-    ensures { MatchOption result (resize_errors call.now head.now size ≡ Ok tt) (λ status. resize_errors call.now head.now size ≡ Err status) }
-{
-    if !is_given(size) {
-        return None;
-    }
-    if head.kind == DIRECTORY {
-        return Some(ISDIR);
-    }
-    if head.kind == LINK {
-        return Some(NXIO);
-    }
-    if !may(call, head, Want::Write) {
-        return Some(ACCES);
-    }
-    if size > MOST_BYTES {
-        return Some(FBIG);
-    }
-    None
 }

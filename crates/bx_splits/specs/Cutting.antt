@@ -166,11 +166,6 @@ abbrev pub SplitsAt : Held → Hints → List Changed → List Changed → ℕ �
 SplitsAt held hints old new root handle near areas (Ok done) = CutsOwned held hints old new root handle near areas (Ok done)
 SplitsAt held hints old new root handle near areas (Err e) = OwnsAt (reads_with held hints old) handle (Err e) ⊎ CutsOwned held hints old old root handle near areas (Err e)
 
--- the same of a draft that is made anew
-abbrev pub SplitsTo : Held → Hints → List Changed → ℕ → ℕ → ℕ → ℕ → Result (List Changed) BlinkError → Type 0
-SplitsTo held hints old root handle near areas (Ok new) = SplitsAt held hints old new root handle near areas (Ok tt)
-SplitsTo held hints old root handle near areas (Err e) = SplitsAt held hints old old root handle near areas (Err e)
-
 -- What a split needs isn't held in that mode, and is the page's block, exclusively, or what the next slot needs for a new page. It is full only
 -- where that slot isn't there.
 abbrev pub NeedsForSplit : Held → ℕ → ℕ → List Changed → ℕ → Result Unit BlinkError → Type 0

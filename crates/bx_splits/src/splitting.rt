@@ -7,10 +7,9 @@ ghost use Rattle.bx_views.specs.Truths.{Truth};
 ghost use Rattle.bx_blink.specs.Hints.{Under};
 ghost use Rattle.bx_chunks.specs.Taking.{TakesSlots};
 ghost use Rattle.bx_splits.specs.Splits.{SplitsIn};
-ghost use Rattle.bx_records.specs.Drafts.{IsDraft};
 ghost use Rattle.bx_page.specs.Contents.{Contents, size};
 ghost use Rattle.bx_blink.specs.Walks.{reads_with};
-ghost use Rattle.bx_splits.specs.Cutting.{IsOwned, NeedsForSplit, SplitsAt, SplitsTo};
+ghost use Rattle.bx_splits.specs.Cutting.{IsOwned, NeedsForSplit, SplitsAt};
 
 use crate::halves::put_halves;
 use crate::steps::owned_page;
@@ -19,7 +18,6 @@ use bx_chunks::copy_of;
 use bx_records::Draft;
 use bx_views::View;
 use std::alloc::Global;
-use std::mem;
 
 /// Splits a page of the tree under a root, by their handles: half of its entries go to a new page on its right, near an area. The root
 /// keeps its handle, rises one level, and gets an entry for each of two new pages.
@@ -60,33 +58,11 @@ fn split_page<V: View>(
     ensures unchanged { OnErr result (draft.new ≡ draft.old) }
     ensures at { SplitsAt (V.held view.now) (V.hints view.now) draft.old draft.new root handle near.0 near.1 result }
 {
-    let kept = mem::replace(draft, Draft::new(alloc));
-    match split_of(alloc, &kept, view, root, handle, near) {
-        Ok(next) => {
-            *draft = next;
-            Ok(())
-        }
-        Err(error) => {
-            *draft = kept;
-            Err(error)
-        }
-    }
-}
-
-/// The draft with a page split.
-fn split_of<V: View>(
-    alloc: Global,
-    draft: &Draft,
-    view: &V,
-    root: u64,
-    handle: u64,
-    near: (u16, u16),
-) -> Result<Draft, BlinkError>
-    requires { (contents : Contents) → IsOwned (reads_with (V.held view.now) (V.hints view.now) draft.now) handle contents → 4096 < size contents + 544 }
-    ensures { IsDraft draft.now → SplitsTo (V.held view.now) (V.hints view.now) draft.now root handle near.0 near.1 result }
-{
+    // for the proof: a draft has at most sixteen blocks, each once
+    let _blocks = draft.blocks();
     let page = owned_page(alloc, draft, view, handle)?;
     let mut next = copy_of(alloc, draft)?;
     put_halves(alloc, &mut next, view, root, handle, page, near)?;
-    Ok(next)
+    *draft = next;
+    Ok(())
 }

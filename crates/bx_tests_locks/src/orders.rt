@@ -81,6 +81,20 @@ const A_WANT_OVERTAKES_A_RELEASE: [Step; 19] = [
     Holds(1, Shared, 9),
 ];
 
+/// The server renews its lease, by a clock that reads 5000.
+const RENEWS: Change = Change::Renew {
+    by: 0,
+    boot: 0,
+    reading: 5000,
+};
+
+/// The server lets session 1 expire, by the same clock.
+const EXPIRES: Change = Change::Expire {
+    session: 1,
+    term: 1,
+    reading: 5000,
+};
+
 /// Session 1 is closed behind the server's back, which asked for its expiry: its release is passed over, and the next grant has the index of the
 /// Close.
 const A_LATE_RELEASE: [Step; 31] = [
@@ -88,37 +102,15 @@ const A_LATE_RELEASE: [Step; 31] = [
     Pass(N0, L0),
     Pass(L0, N0),
     Reads(5000),
-    Ticks(
-        L0,
-        Some(Change::Renew {
-            by: 0,
-            boot: 0,
-            reading: 5000,
-        }),
-    ),
-    Decides(Change::Renew {
-        by: 0,
-        boot: 0,
-        reading: 5000,
-    }),
+    Ticks(L0, Some(RENEWS)),
+    Decides(RENEWS),
     Learns(L0),
     Learns(N1),
     Ticks(N1, None),
     Pass(N1, L0),
     Pass(L0, N1),
-    Ticks(
-        L0,
-        Some(Change::Expire {
-            session: 1,
-            term: 1,
-            reading: 5000,
-        }),
-    ),
-    Decides(Change::Expire {
-        session: 1,
-        term: 1,
-        reading: 5000,
-    }),
+    Ticks(L0, Some(EXPIRES)),
+    Decides(EXPIRES),
     Decides(Change::Claim { dead: 1, by: 2 }),
     Decides(Change::Close { dead: 1, by: 2 }),
     Wants(1, Shared),

@@ -33,7 +33,7 @@ const CASES: [Case; 7] = [
     Case(
         "without a cell one is silent",
         Disk::Blank,
-        &[Life(Origin::Made, &NO_CELL)],
+        &[Life(Origin::Made, &NO_ASK), Life(Origin::Made, &NO_ANSWER)],
     ),
     Case(
         "states that have no index behind them are passed over",
@@ -102,19 +102,6 @@ const APART: [Step; 6] = [
     Answers(Sent(3, 4, 0, 1), Told::Nothing),
 ];
 
-/// A packet of each kind, and of kinds that aren't for an acceptor, or are no message.
-const NO_CELL: [Step; 9] = [
-    Starts,
-    Answers(Sent(1, 0, 0, 0), Told::Nothing),
-    Answers(Sent(2, 0, 0, 5), Told::Nothing),
-    Answers(Sent(3, 1, 0, 1), Told::Nothing),
-    Answers(Sent(4, 1, 0, 1), Told::Nothing),
-    Answers(Sent(5, 1, 0, 2), Told::Nothing),
-    Answers(Sent(6, 1, 0, 2), Told::Nothing),
-    Answers(Sent(8, 1, 0, 2), Told::Nothing),
-    Knows(1),
-];
-
 const LAST_INDEX: [Step; 4] = [
     Starts,
     Answers(Sent(2, 0, 0, u64::MAX), Told::Nothing),
@@ -122,7 +109,7 @@ const LAST_INDEX: [Step; 4] = [
     Knows(1),
 ];
 
-/// All of these but the ask.
+/// A packet of each kind but the ask, and of kinds that aren't for an acceptor, or are no message.
 const NO_ASK: [Step; 8] = [
     Starts,
     Answers(Sent(2, 0, 0, 5), Told::Nothing),
@@ -133,6 +120,8 @@ const NO_ASK: [Step; 8] = [
     Answers(Sent(8, 1, 0, 2), Told::Nothing),
     Knows(1),
 ];
+
+const NO_ANSWER: [Step; 3] = [Starts, Answers(Sent(1, 0, 0, 0), Told::Nothing), Knows(1)];
 
 const ASK: [Step; 2] = [Starts, Answers(Sent(1, 0, 0, 0), Told::Decided(1))];
 

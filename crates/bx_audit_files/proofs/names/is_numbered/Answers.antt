@@ -1,4 +1,4 @@
-use Rattle.std.proofs.Common.{◌≡◌, List, ℕ, Some, subst}
+use Rattle.std.proofs.Common.{◌≡◌, List, ℕ, Some, ap, ◌∙◌, subst}
 use Rattle.std.specs.Prelude.{IsTrue, ◌↔◌}
 use Rattle.bx_audit_trees.specs.Trees.{tree_of}
 use Rattle.bx_page.specs.Contents.{value_of}
@@ -10,4 +10,4 @@ pub returns : goal.returns
 returns c = λ chunks root is.
     let map = map_of (tree_of c.args.tree.now) in
     subst (λ (k : List ℕ). IsTrue c.has.result ↔ (value_of map k ≡ Some (entry_value c.args.name.now.handle c.args.name.now.name))) c.in_ok-key.ensures
-    (subst (λ (v : List ℕ). IsTrue c.has.result ↔ (value_of map c.in_ok-key.key ≡ Some v)) c.in_ok-value.ensures (c.has.ensures chunks root is))
+    (subst (λ (v : List ℕ). IsTrue c.has.result ↔ (value_of map c.in_ok-key.key ≡ Some v)) (c.in_ok-value.ensures ∙ ap (entry_value c.args.name.now.handle) c.bytes.ensures) (c.has.ensures chunks root is))

@@ -1,6 +1,6 @@
 use Rattle.std.proofs.Common.{◌∙◌, ap}
-use Rattle.bx_directory_reads.proofs.Filled.{both_listed}
-use Rattle.bx_directory_reads.specs.Pages.{dots}
+use Rattle.bx_call_parts.proofs.Filled.{both_listed}
+use Rattle.bx_call_parts.specs.Pages.{dots}
 use Rattle.bx_model.specs.declared.reply.Reply.TheVariants as Reply
 use Rattle.bx_directory_reads.proofs.listing.page_behind.Goals as goal
 

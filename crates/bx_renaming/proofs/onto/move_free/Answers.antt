@@ -10,22 +10,22 @@ use Rattle.bx_renaming.proofs.onto.move_free.Goals as goal
 
 pub returns-in-Err-clause-step : goal.returns-in-Err-clause-step
 returns-in-Err-clause-step g c = λ volume truth tree are is nobody.
-    stopped_so c.args.areas truth (moving_so tree are.source.file c.args.name.now are.target.file c.args.new_name.now is.at.file None c.args.now) (depth_errors tree are.source.file are.target.file is.at.file) c.in-Err.stop
+    stopped_so c.args.areas truth (moving_so tree are.source.file c.args.between.now.name.now are.target.file c.args.between.now.new_name.now is.at.file None c.args.between.now.time) (depth_errors tree are.source.file are.target.file is.at.file) c.in-Err.stop
     (c.in-Err.ensures.step volume truth tree are is.at)
 
 pub returns-in-Ok-Some-clause-step : goal.returns-in-Ok-Some-clause-step
 returns-in-Ok-Some-clause-step g c = λ volume truth tree are is nobody.
-    free_fails tree are.source.file c.args.name.now are.target.file c.args.new_name.now is.at.file c.args.now c.in-Ok-Some.status c.in-Ok-Some.field-0 c.in-Ok-Some.field-0-is (c.in-Ok-Some.ensures.step volume truth tree are is.at)
+    free_fails tree are.source.file c.args.between.now.name.now are.target.file c.args.between.now.new_name.now is.at.file c.args.between.now.time c.in-Ok-Some.status c.in-Ok-Some.field-0 c.in-Ok-Some.field-0-is (c.in-Ok-Some.ensures.step volume truth tree are is.at)
 
 pub returns-in-Ok-None-clause-step : goal.returns-in-Ok-None-clause-step
 returns-in-Ok-None-clause-step g c = λ volume truth tree are is nobody.
     let none = subst (λ (o : Option ℕ). TellsError (depth_errors tree are.source.file are.target.file is.at.file) (Ok o)) c.in-Ok-None.field-0-is (c.in-Ok-None.ensures.step volume truth tree are is.at) in
-    free_passes tree are.source.file c.args.name.now are.target.file c.args.new_name.now is.at.file c.args.now c.args.areas truth none c.move_in.result
-    (free_comes volume c.args.areas (g.V.View.held c.args.view.now) (g.V.View.hints c.args.view.now) truth tree c.args.places.now are c.args.name.now c.args.number c.args.moved.now is none c.moving_of-moving.result c.moving_of-moving.ensures c.args.new_name.now nobody c.args.now c.move_in.result
-    (c.move_in.ensures.step volume truth tree are (free volume c.args.areas (g.V.View.held c.args.view.now) (g.V.View.hints c.args.view.now) truth tree c.args.places.now are c.args.name.now c.args.number c.args.moved.now is none c.moving_of-moving.result c.moving_of-moving.ensures c.args.new_name.now nobody)))
+    free_passes tree are.source.file c.args.between.now.name.now are.target.file c.args.between.now.new_name.now is.at.file c.args.between.now.time c.args.areas truth none c.move_in.result
+    (free_comes volume c.args.areas (g.V.View.held c.args.view.now) (g.V.View.hints c.args.view.now) truth tree c.args.between.now.places.now are c.args.between.now.name.now c.args.between.now.number c.args.between.now.moved.now is none c.moving_of-moving.result c.moving_of-moving.ensures c.args.between.now.new_name.now nobody c.args.between.now.time c.move_in.result
+    (c.move_in.ensures.step volume truth tree are (free volume c.args.areas (g.V.View.held c.args.view.now) (g.V.View.hints c.args.view.now) truth tree c.args.between.now.places.now are c.args.between.now.name.now c.args.between.now.number c.args.between.now.moved.now is none c.moving_of-moving.result c.moving_of-moving.ensures c.args.between.now.new_name.now nobody)))
 
 pub returns-in-Err-clause-lacks : goal.returns-in-Err-clause-lacks
-returns-in-Err-clause-lacks g c = λ volume truth tree are. stop_first (Option ℕ) (MakesEither c.args.areas (g.V.View.held c.args.view.now) (g.V.View.hints c.args.view.now) truth c.args.places.now.target.inode.tree c.args.new_name.now c.args.places.now.target.inode.next) c.in-Err.stop c.in-Err.ensures.inner
+returns-in-Err-clause-lacks g c = λ volume truth tree are. stop_first (Option ℕ) (MakesEither c.args.areas (g.V.View.held c.args.view.now) (g.V.View.hints c.args.view.now) truth c.args.between.now.places.now.target.inode.tree c.args.between.now.new_name.now c.args.between.now.places.now.target.inode.next) c.in-Err.stop c.in-Err.ensures.inner
 
 pub returns-in-Ok-None-clause-lacks : goal.returns-in-Ok-None-clause-lacks
 returns-in-Ok-None-clause-lacks g c = λ volume truth tree are. c.move_in.ensures.lacks volume truth tree are

@@ -8,17 +8,17 @@ use Rattle.bx_renaming.proofs.Placed.{no_name, no_target, placed, refused}
 use Rattle.bx_renaming.proofs.places.target_for.Goals as goal
 
 pub returns-in_default-clause-step : goal.returns-in_default-clause-step
-returns-in_default-clause-step g c = λ truth tree same s is. no_name tree c.args.call.now c.args.name.now c.args.new_name.now c.args.volume s.volume_is c.args.areas truth is.file c.args.to.now c.in_default.ensures
+returns-in_default-clause-step g c = λ truth tree same s is. no_name tree c.args.call.now c.args.names.now.name.now c.args.names.now.new_name.now c.args.volume s.volume_is c.args.areas truth is.file c.args.names.now.to.now c.in_default.ensures
 
 pub returns-in-Err-clause-step : goal.returns-in-Err-clause-step
 returns-in-Err-clause-step g c = λ truth tree same s is.
-    no_target tree c.args.call.now c.args.name.now c.args.new_name.now c.args.volume s.volume_is c.args.areas truth is.file c.args.to.now c.in-Some.handle c.in-Some.ensures c.in-Err.stop
+    no_target tree c.args.call.now c.args.names.now.name.now c.args.names.now.new_name.now c.args.volume s.volume_is c.args.areas truth is.file c.args.names.now.to.now c.in-Some.handle c.in-Some.ensures c.in-Err.stop
     (subst (λ (d : List Changed). FileAt c.args.areas (with_draft truth d) tree c.in-Some.handle (Err c.in-Err.stop)) c.new-none.ensures
     (c.in-Err.ensures.tree truth tree same (over_none c.args.areas truth tree c.new-none.result c.new-none.ensures s.is)))
 
 pub returns-in-Ok-Some-clause-step : goal.returns-in-Ok-Some-clause-step
 returns-in-Ok-Some-clause-step g c = λ truth tree same s is.
-    refused tree c.args.call.now c.args.name.now c.args.new_name.now c.args.volume s.volume_is c.args.areas truth is.file c.args.to.now c.in-Some.handle c.in-Some.ensures c.args.source.handle c.args.source.inode c.in-Ok.inode is.fields
+    refused tree c.args.call.now c.args.names.now.name.now c.args.names.now.new_name.now c.args.volume s.volume_is c.args.areas truth is.file c.args.names.now.to.now c.in-Some.handle c.in-Some.ensures c.args.source.handle c.args.source.inode c.in-Ok.inode is.fields
     (subst (λ (d : List Changed). IsInodeOf c.args.areas (with_draft truth d) tree c.in-Some.handle c.in-Ok.inode) c.new-none.ensures
     (c.in-Ok.ensures.tree truth tree same (over_none c.args.areas truth tree c.new-none.result c.new-none.ensures s.is))) c.in-Ok-Some.status c.in-Ok-Some.field-0 c.in-Ok-Some.field-0-is c.in-Ok-Some.ensures
 
@@ -26,4 +26,4 @@ pub returns-in-Ok-None-clause-step : goal.returns-in-Ok-None-clause-step
 returns-in-Ok-None-clause-step g c = λ truth tree same s is.
     let f = (subst (λ (d : List Changed). IsInodeOf c.args.areas (with_draft truth d) tree c.in-Some.handle c.in-Ok.inode) c.new-none.ensures
     (c.in-Ok.ensures.tree truth tree same (over_none c.args.areas truth tree c.new-none.result c.new-none.ensures s.is))) in
-    record { source = is; target = f; comes_to = placed tree c.args.call.now c.args.name.now c.args.new_name.now c.args.volume s.volume_is c.args.areas truth is.file c.args.to.now c.in-Some.handle c.in-Some.ensures c.args.source.handle c.args.source.inode c.in-Ok.inode is.fields f c.in-Ok-None.field-0 c.in-Ok-None.field-0-is c.in-Ok-None.ensures }
+    record { source = is; target = f; comes_to = placed tree c.args.call.now c.args.names.now.name.now c.args.names.now.new_name.now c.args.volume s.volume_is c.args.areas truth is.file c.args.names.now.to.now c.in-Some.handle c.in-Some.ensures c.args.source.handle c.args.source.inode c.in-Ok.inode is.fields f c.in-Ok-None.field-0 c.in-Ok-None.field-0-is c.in-Ok-None.ensures }

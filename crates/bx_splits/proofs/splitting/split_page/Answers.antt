@@ -1,6 +1,6 @@
 use Rattle.bx_blink.specs.Walks.{reads_with}
 use Rattle.bx_splits.proofs.Enough.{enough}
-use Rattle.bx_splits.proofs.splitting.split_of.Goals as goal
+use Rattle.bx_splits.proofs.splitting.split_page.Goals as goal
 
 pub put_halves-requires : goal.put_halves-requires
 put_halves-requires g c =

@@ -5,7 +5,7 @@ use Rattle.bx_records.specs.Drafts.{Changed}
 use Rattle.bx_blink.specs.Walks.{Reads, reads_with, most, start}
 use Rattle.bx_blink.proofs.Landings.{landing}
 use Rattle.bx_posts.specs.Parents.{PutsInParent}
-use Rattle.bx_posts.proofs.posting.post_of.Goals as goal
+use Rattle.bx_posts.proofs.posting.post_page.Goals as goal
 
 pub put_in_parent-requires-clause-below : goal.put_in_parent-requires-clause-below
 put_in_parent-requires-clause-below g c =
@@ -19,8 +19,8 @@ put_in_parent-requires-clause-page g c =
     let s = c.in_ok-separator.separator in
     (landing reads s.level Exclusive s.key most (start c.args.root Exclusive) c.in_ok-parent.parent.0 c.in_ok-parent.parent.1 c.in_ok-parent.ensures.end).has.spells.is
 
-pub returns : goal.returns
-returns g c = λ is_draft.
+pub returns-in-Err-clause-at : goal.returns-in-Err-clause-at
+returns-in-Err-clause-at g c =
     inr (inr (record {
       separator = c.in_ok-separator.separator;
       parent = c.in_ok-parent.parent.0;
@@ -28,5 +28,5 @@ returns g c = λ is_draft.
       finds = record { shows = c.in_ok-separator.ensures; found = c.in_ok-parent.ensures };
       puts = subst
           (λ (d : List Changed). PutsInParent (g.V.View.held c.args.view.now) d d c.args.root c.in_ok-parent.parent.0 c.in_ok-parent.parent.1 c.in_ok-separator.separator c.args.near.0 c.args.near.1 (Err c.in-Err.error))
-          (c.in_ok-next.ensures is_draft) c.in-Err.ensures;
+          (c.in_ok-next.ensures c.blocks-blocks.ensures.draft) c.in-Err.ensures;
     }))

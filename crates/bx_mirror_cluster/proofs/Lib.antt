@@ -52,3 +52,8 @@ pub mod NodeSteps
 pub mod NodeTakes
 pub mod NodeStops
 pub mod Promised
+pub mod StreamsGo
+pub mod Ended
+pub mod MemberFaults
+pub mod MemberKeeps
+pub mod MemberFaulted

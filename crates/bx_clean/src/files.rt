@@ -1,7 +1,7 @@
 //! A dead file, which loses its tree and then its inode.
 
 ghost use Rattle.bx_changes.specs.Procedures.{IsInode};
-ghost use Rattle.bx_clean.specs.Trees.{CleansFile, CleansTree, FreesFile, FreesTree};
+ghost use Rattle.bx_clean.specs.Trees.{CleansFile, CleansTree, FreesFile};
 
 use crate::held::{dead_inode_at, page_at};
 use crate::pages::cut;
@@ -34,7 +34,7 @@ pub(crate) fn clean_file<V: View>(
     }
 }
 
-/// A step at the tree of a dead inode.
+/// A step at the tree of a dead inode. Where no entry is left the inode loses it, and its root is freed.
 fn clean_tree<V: View>(
     alloc: Global,
     view: &V,
@@ -54,26 +54,12 @@ fn clean_tree<V: View>(
             if page.len() > 0 {
                 return cut(alloc, view, areas, inode.tree, page);
             }
-            free_tree(alloc, view, areas, handle, inode)
+            let root = inode.tree;
+            let bare = Inode { tree: 0, ..inode };
+            let draft = inode_put(alloc, handle, &bare)?;
+            freed(alloc, draft, view, areas, root)
         }
     }
-}
-
-/// Puts a dead inode without its tree, whose root is freed.
-fn free_tree<V: View>(
-    alloc: Global,
-    view: &V,
-    areas: u16,
-    handle: u64,
-    inode: Inode,
-) -> Result<Draft, ChunkError>
-    requires { IsInode inode }
-    ensures { FreesTree (V.held view.now) areas handle inode result }
-{
-    let root = inode.tree;
-    let bare = Inode { tree: 0, ..inode };
-    let draft = inode_put(alloc, handle, &bare)?;
-    freed(alloc, draft, view, areas, root)
 }
 
 /// Frees the slot of a dead inode, which is marked no more.

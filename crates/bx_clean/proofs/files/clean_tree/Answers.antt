@@ -1,5 +1,5 @@
-use Rattle.std.proofs.Common.{ap, arith, length, refl}
-use Rattle.bx_clean.specs.Trees.{cuts_root, ends, no_page, shrinks}
+use Rattle.std.proofs.Common.{ap, arith, length, refl, rules}
+use Rattle.bx_clean.specs.Trees.{cuts_root, ends, frees_tree, no_page, no_room, shrinks}
 use Rattle.bx_clean.proofs.Firsts.{none_there}
 use Rattle.bx_clean.proofs.files.clean_tree.Goals as goal
 
@@ -13,7 +13,13 @@ returns-then-len-gt0 g c = cuts_root c.in-Ok.page c.in-Ok.ensures (let l = c.lev
 pub returns-in-Err : goal.returns-in-Err
 returns-in-Err g c = no_page c.in-Err.error c.in-Err.ensures refl
 
-pub returns-else-len-gt0 : goal.returns-else-len-gt0
-returns-else-len-gt0 g c =
+pub returns-in_err-draft-in-Ok : goal.returns-in_err-draft-in-Ok
+returns-in_err-draft-in-Ok g c =
     ends c.in-Ok.page c.in-Ok.ensures (let l = c.level.ensures in let f = c.if-level-gt0.false in omega (arith, l, f))
-    (none_there c.in-Ok.page.entries (let n = c.len.ensures in let f = c.if-len-gt0.false in omega (arith, n, f))) c.free_tree.ensures
+    (none_there c.in-Ok.page.entries (let n = c.len.ensures in let f = c.if-len-gt0.false in omega (arith, n, f))) (no_room (search rules))
+
+pub returns-in_ok-draft-in-Ok : goal.returns-in_ok-draft-in-Ok
+returns-in_ok-draft-in-Ok g c =
+    ends c.in-Ok.page c.in-Ok.ensures (let l = c.level.ensures in let f = c.if-level-gt0.false in omega (arith, l, f))
+    (none_there c.in-Ok.page.entries (let n = c.len.ensures in let f = c.if-len-gt0.false in omega (arith, n, f)))
+    (frees_tree c.in_ok-draft-in-Ok.draft c.in_ok-draft-in-Ok.ensures c.freed.ensures)

@@ -87,7 +87,7 @@ pub record Offered {G : Type 0} (g : register.Ghosts G) (old new : G) (z : Disks
   pub keeps : (past : RegisterPast) → g.keeps old z (register_with past box) → past.down who ≡ false → g.keeps new z (register_with (record past { proposed = with_change proposal past.proposed }) box_then)
   pub is_offered : (change : Change) → proposal ≡ Some change → offer ≡ Some change
   pub knows : (other : Actor) → g.knows new other ≡ g.knows old other
-  pub sent : SendsOnly IsRegisters box box_then
+  pub sent : (past : RegisterPast) → g.keeps old z (register_with past box) → SendsOnly IsRegisters box box_then
 
 -- the change that is offered: that of the owners, or else that of the store
 abbrev pub first_of : Option Change → Option Change → Option Change
@@ -198,13 +198,22 @@ module _ {G O S T : Type 0} (g : register.Ghosts G) (o : owners.Ghosts O) (st : 
     may_take : MayTake (lettered c (letters ++ heard_box)).store.told (g.knows register_heard who) who input
     may_take = taken.may_store g o st Stands Step register_heard owners_are store_is y (letters ++ heard_box) clocks machines (lettered c (letters ++ heard_box)) tree who input at up place steady comes
 
+    register_served : g.keeps register_heard z (record c.register { letters = letters ++ served_box })
+    register_served = laws.registers_lose register_heard z (record c.register { letters = letters ++ heard_box }) (letters ++ served_box)
+        (laws.registers_elsewhere register_heard y z (record c.register { letters = letters ++ heard_box }) register_keeps (same_lengths y z store_took.sizes) store_took.replicas store_took.labels)
+        (among_both IsRegisters (letters ++ served_box) (letters ++ tended_box) (letters ++ heard_box) (none_new IsRegisters IsOwners owners_not_registers letters heard_box tended_box owners_took.sent)
+        (none_new IsRegisters IsStores stores_not_registers letters tended_box served_box store_took.sent))
+
+    sent_last : SendsOnly IsRegisters served_box last_box
+    sent_last = offered.sent (record c.register { letters = letters }) register_served
+
     takes_owners : TakesOwners o owners_are owners_then (lettered c (letters ++ heard_box)).owners (g.knows register_heard who) who input change (letters ++ last_box)
     takes_owners = owners_taken o owners_are owners_then (record c.owners { told = record c.owners.told { letters = letters } }) heard_box tended_box last_box (g.knows register_heard who) who input change
         (λ may. owners_took.keeps (record c.owners { told = record c.owners.told { letters = letters } }) at.parts.owners_keep may)
         (λ node may same. owners_took.session (record c.owners { told = record c.owners.told { letters = letters } }) node at.parts.owners_keep may same)
         owners_took.others (λ one some keeps among. laws.owners_lose owners_then one some keeps among)
         (among_both IsOwners (letters ++ last_box) (letters ++ served_box) (letters ++ tended_box) (none_new IsOwners IsStores stores_not_owners letters tended_box served_box store_took.sent)
-        (none_new IsOwners IsRegisters registers_not_owners letters served_box last_box offered.sent))
+        (none_new IsOwners IsRegisters registers_not_owners letters served_box last_box sent_last))
 
     takes_store : TakesStore st store_is store_then y z (lettered c (letters ++ heard_box)).store (g.knows register_heard who) who input shift (letters ++ last_box)
     takes_store = store_taken st store_is store_then y z (record c.store { told = record c.store.told { letters = letters } }) heard_box tended_box served_box last_box (g.knows register_heard who) who input shift
@@ -216,15 +225,10 @@ module _ {G O S T : Type 0} (g : register.Ghosts G) (o : owners.Ghosts O) (st : 
         (λ node keeps may same. store_took.session (record c.store { told = record c.store.told { letters = letters } }) node keeps may same)
         store_took.others store_took.new_session store_took.out store_took.asked store_took.made
         (λ one some keeps among. laws.stores_lose store_then z one some keeps among)
-        (none_new IsStores IsRegisters registers_not_stores letters served_box last_box offered.sent)
+        (none_new IsStores IsRegisters registers_not_stores letters served_box last_box sent_last)
 
     register_last : g.keeps register_then z (record c.register { letters = letters ++ last_box; proposed = with_change proposal c.register.proposed })
-    register_last = offered.keeps (record c.register { letters = letters })
-        (laws.registers_lose register_heard z (record c.register { letters = letters ++ heard_box }) (letters ++ served_box)
-        (laws.registers_elsewhere register_heard y z (record c.register { letters = letters ++ heard_box }) register_keeps (same_lengths y z store_took.sizes) store_took.replicas store_took.labels)
-        (among_both IsRegisters (letters ++ served_box) (letters ++ tended_box) (letters ++ heard_box) (none_new IsRegisters IsOwners owners_not_registers letters heard_box tended_box owners_took.sent)
-        (none_new IsRegisters IsStores stores_not_registers letters tended_box served_box store_took.sent)))
-        (at.pasts.down who ∙ up)
+    register_last = offered.keeps (record c.register { letters = letters }) register_served (at.pasts.down who ∙ up)
 
     pub finished : (later : Course) × (later.register.chain ≡ c.register.chain) × NodesStand g o st Stands Step register_then owners_then store_then z (letters ++ last_box) (heard_clocks clocks input) machines later tree
     finished = taken.takes g o st Stands Step register_heard register_then owners_are owners_then store_is store_then y z (letters ++ heard_box) (letters ++ last_box) clocks machines (lettered c (letters ++ heard_box)) tree

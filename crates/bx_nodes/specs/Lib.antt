@@ -5,4 +5,5 @@ pub mod Going
 pub mod Joined
 pub mod Logging
 pub mod Seen
+pub mod Taking
 pub mod Turns

@@ -11,6 +11,7 @@ mod nodes;
 mod reads;
 mod recording;
 mod sends;
+mod takes;
 mod turns;
 
 pub use answers::Attempted;

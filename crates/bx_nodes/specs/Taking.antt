@@ -1,0 +1,24 @@
+-- What a machine makes of an input that it is handed.
+use Rattle.std.specs.Prelude.{◌≡◌, Option, Some}
+use Rattle.bx_facts.specs.Chains.{GrowsBy}
+use Rattle.bx_facts.specs.Inputs.{greatest_with}
+use Rattle.bx_facts.specs.declared.input.Input.{Input}
+use Rattle.bx_global.specs.declared.change.Change.{Change}
+use Rattle.bx_world_standing.specs.Parts.{Clocks}
+use Rattle.bx_world_standing.specs.Standing.{Course}
+
+-- the clocks, with the reading of an input
+abbrev pub with_reading : Clocks → Input → Clocks
+with_reading clocks input = record clocks { greatest = greatest_with clocks.greatest input }
+
+-- A change that was offered is proposed, or it isn't, and none is where none was offered; then this holds.
+pub record Proposes (offer : Option Change) (Holds_then : Option Change → Type 0) : Type 0 where
+  pub proposal : Option Change
+  pub is_offered : (change : Change) → proposal ≡ Some change → offer ≡ Some change
+  pub holds : Holds_then proposal
+
+-- There is a later course, whose chain is as it was or grew by a change that was proposed before, and what stands stands for it.
+pub record Hears (Stands_then : Course → Type 0) (c : Course) : Type 0 where
+  pub later : Course
+  pub grows : GrowsBy c.register.proposed c.register.chain later.register.chain
+  pub stands : Stands_then later

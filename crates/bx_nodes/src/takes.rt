@@ -1,0 +1,85 @@
+//! What machines are handed.
+
+ghost use Rattle.std.specs.Prelude.{◌≡◌, ◌≢◌, ℕ, ◌++◌, ◌≤◌, false, List, OnOk, IsErrOf};
+ghost use Rattle.bx_base.specs.declared.names.Actor.{Actor};
+ghost use Rattle.bx_base.specs.declared.names.Actor.TheVariants.{Node};
+ghost use Rattle.bx_disk.specs.Disks.{Disks};
+ghost use Rattle.bx_disk.specs.Kept.{Counted};
+ghost use Rattle.bx_facts.specs.Chains.{with_change};
+ghost use Rattle.bx_facts.specs.Disks.{HasRoom, NeedsNoMore};
+ghost use Rattle.bx_facts.specs.Inputs.{IsComing, IsRegisters, IsSteady, SendsOnly};
+ghost use Rattle.bx_facts.specs.Machines.{IsMachine, OnlyAt};
+ghost use Rattle.bx_facts.specs.Pasts.{RegisterPast, register_with};
+ghost use Rattle.bx_facts.specs.declared.input.FactError.TheVariants.{Disk as DiskFails};
+ghost use Rattle.bx_node_machines.specs.Nodes.{NodesStand};
+ghost use Rattle.bx_nodes.specs.Seen.{seen};
+ghost use Rattle.bx_nodes.specs.Taking.{Hears, Proposes, with_reading};
+ghost use Rattle.bx_post.specs.declared.packets.Letter.{Letter};
+ghost use Rattle.bx_world_standing.specs.Parts.{Clocks};
+ghost use Rattle.bx_world_standing.specs.Standing.{Course};
+
+use crate::nodes::Nodes;
+use bx_base::Actor;
+use bx_disk::Rack;
+use bx_facts::{FactError, Input, ProposeError, Register, Store};
+use bx_global::Change;
+use bx_owners::Owners;
+use bx_post::Outbox;
+use bx_views::Engine;
+
+impl<G: Register, O: Owners, S: Store, E: Engine> Nodes<G, O, S, E> {
+    /// Hands an input to a machine that is up: to its register, and with the state that it knows by now to the owners and the store. The change that one of
+    /// these hands back is proposed, the owners' first. At a disk fault nothing of it is sent, and the machine is to be stopped.
+    pub fn take<R: Rack>(
+        &mut self,
+        rack: &mut R,
+        at: Actor,
+        input: &Input,
+        out: &mut Outbox,
+    ) -> Result<(), FactError>
+        requires there { IsMachine (G.nodes self.old.register) at × IsMachine (O.nodes self.old.owners) at × IsMachine ((S.made self.old.store).nodes) at }
+        requires room { HasRoom (G.needs self.old.register) (R.state rack.old).sizes × HasRoom (S.needs self.old.store) (R.state rack.old).sizes }
+        ensures stands { (letters : List Letter) (clocks : Clocks) (c : Course) (tree : E.Tree) → R.tells rack.old → clocks.down at ≡ false → IsSteady clocks.greatest input.now → IsComing (letters ++ out.old) input.now
+            → NodesStand G.Register O.Owners S.Store (E.stands self.old.engine) (E.step self.old.engine) self.old.register self.old.owners self.old.store (R.state rack.old) (letters ++ out.old) clocks (seen self.old.machines.items) c tree
+            → OnOk result (Hears (λ later. NodesStand G.Register O.Owners S.Store (E.stands self.new.engine) (E.step self.new.engine) self.new.register self.new.owners self.new.store (R.state rack.new) (letters ++ out.new) (with_reading clocks input.now) (seen self.new.machines.items) later tree) c) }
+        ensures machines { (self.new.machines ≡ self.old.machines) × (self.new.engine ≡ self.old.engine) }
+        ensures knows { OnlyAt at (G.knows self.old.register) (G.knows self.new.register) }
+        ensures rises { (who : Actor) → (G.knows self.old.register who).index ≤ (G.knows self.new.register who).index }
+        ensures own { (node : ℕ) → at ≢ Node node → (O.own self.new.owners node ≡ O.own self.old.owners node) × (S.own self.new.store node ≡ S.own self.old.store node) }
+        ensures needs { NeedsNoMore (G.needs self.old.register) (G.needs self.new.register) × NeedsNoMore (S.needs self.old.store) (S.needs self.new.store) }
+        ensures made { (G.made self.new.register ≡ G.made self.old.register) × (G.nodes self.new.register ≡ G.nodes self.old.register) × (O.nodes self.new.owners ≡ O.nodes self.old.owners) × (S.made self.new.store ≡ S.made self.old.store) }
+        ensures rack { Counted R.Rack rack.old rack.new result DiskFails }
+    {
+        self.register.take(rack, at, input, out)?;
+        let known = self.register.known(at);
+        let change = self.owners.take(known, at, input, out)?;
+        let shift = self.store.take(rack, known, at, input, out)?;
+        self.offer(at, change.or(shift), out)
+    }
+
+    /// Offers a change, where there is one, to the register: one that isn't legal on what the machine knows, or while another of it is out, is let go, as
+    /// whoever wants it will tell of it again.
+    fn offer(
+        &mut self,
+        at: Actor,
+        change: Option<Change>,
+        out: &mut Outbox,
+    ) -> Result<(), FactError>
+        requires there { IsMachine (G.nodes self.old.register) at }
+        ensures proposes { OnOk result (Proposes change (λ proposal. (x : Disks) (past : RegisterPast) → G.keeps self.old.register x (register_with past out.old) → past.down at ≡ false → G.keeps self.new.register x (register_with (record past { proposed = with_change proposal past.proposed }) out.new))) }
+        ensures knows { (other : Actor) → G.knows self.new.register other ≡ G.knows self.old.register other }
+        ensures sent { (x : Disks) (past : RegisterPast) → G.keeps self.old.register x (register_with past out.old) → OnOk result (SendsOnly IsRegisters out.old out.new) }
+        ensures needs { NeedsNoMore (G.needs self.old.register) (G.needs self.new.register) }
+        ensures parts { (self.new.owners ≡ self.old.owners) × (self.new.store ≡ self.old.store) × (self.new.engine ≡ self.old.engine) × (self.new.machines ≡ self.old.machines) }
+        ensures made { (G.made self.new.register ≡ G.made self.old.register) × (G.nodes self.new.register ≡ G.nodes self.old.register) }
+        ensures no_fault { IsErrOf result DiskFails → ⊥ }
+    {
+        let Some(change) = change else {
+            return Ok(());
+        };
+        match self.register.propose(at, &change, out) {
+            Ok(()) | Err(ProposeError::NotLegal | ProposeError::Busy) => Ok(()),
+            Err(ProposeError::OutOfMemory) => Err(FactError::OutOfMemory),
+        }
+    }
+}

@@ -7,11 +7,13 @@ use Rattle.bx_model.specs.declared.call.Args.TheVariants as args
 use Rattle.bx_model.specs.declared.call.Call.{Call}
 use Rattle.bx_model.specs.declared.reply.Reply.{Reply}
 use Rattle.bx_model.specs.declared.tree.Tree.{Tree}
-use Rattle.bx_model.specs.Act.{act, given}
+use Rattle.bx_model.specs.Act.{given}
 use Rattle.bx_model.specs.Steps.{plainly}
 use Rattle.bx_nfs.proofs.Reading.{reads_once}
 use Rattle.bx_nfs.specs.Wire.{ReadsAs}
 use Rattle.bx_steps.specs.Steps.{Step}
+use Rattle.bx_service.specs.AtOnce as services
+use Rattle.bx_service.specs.AtOnce.{TouchesNoBlock}
 use Rattle.bx_tree_files.specs.Times.{Time, time_of}
 use Rattle.bx_views.specs.Attempts.{Deed}
 
@@ -46,3 +48,7 @@ step_stays tree next deed xid call reads none step =
     let same : call ≡ step.call = (reads_once deed.call xid step.xid call step.call reads step.reads).1 in
     let stays : next ≡ tree = given_stays tree next step.call (time_of deed.moment) deed.spare deed.made step.call.args step.reply (subst IsAtOnce same none) step.acts in
     subst (Step tree deed) stays step
+
+-- a datagram that is a call which touches blocks is none that touches none
+pub not_at_once : (bytes : List ℕ) (xid : ℕ) (call : Call) → ReadsAs bytes xid call → (TouchesNoBlock call → ⊥) → services.IsAtOnce bytes → ⊥
+not_at_once bytes xid call reads touches is = touches (subst TouchesNoBlock (reads_once bytes is.xid xid is.call call is.reads reads).1 is.free)

@@ -7,7 +7,8 @@ ghost use Rattle.bx_model.specs.declared.tree.Tree.{Tree};
 ghost use Rattle.bx_nfs.specs.Asked.{IsAsked};
 ghost use Rattle.bx_service.specs.AtOnce.{IsAtOnce, TouchesNoBlock};
 ghost use Rattle.bx_steps.specs.Steps.{Step};
-ghost use Rattle.bx_views.specs.Attempts.{deed_of};
+ghost use Rattle.bx_views.specs.Attempts.{IsAnswer, deed_of};
+ghost use Rattle.bx_views.specs.declared.attempt.Attempt.TheVariants.{Answer};
 ghost use Rattle.bx_views.specs.Truths.{Truth};
 
 use bx_base::OutOfMemory;
@@ -40,11 +41,21 @@ pub(crate) fn act_at_once(
     }
     let engine = BoxFs { volume, areas: 1 };
     let nothing = Cache::new(alloc);
-    let Some(Attempt::Answer(done)) = engine.attempt(alloc, client, datagram, moment, &nothing)?
-    else {
+    let Some(attempt) = engine.attempt(alloc, client, datagram, moment, &nothing)? else {
         unreachable!();
     };
-    Ok(Some(done))
+    Ok(Some(done_in(attempt)))
+}
+
+/// What an answer did.
+fn done_in(attempt: Attempt) -> Done
+    requires answer { IsAnswer attempt }
+    ensures { attempt ≡ Answer result }
+{
+    match attempt {
+        Attempt::Answer(done) => done,
+        Attempt::Need(_) | Attempt::Change(_, _) | Attempt::Inner(_) => unreachable!(),
+    }
 }
 
 /// Whether a call touches no block, by its arguments.

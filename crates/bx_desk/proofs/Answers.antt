@@ -1,9 +1,8 @@
 -- The answer that is kept to a call, looked for from the oldest on and from the newest on.
-use Rattle.std.proofs.Common.{◌≡◌, ℕ, zero, suc, ◌-◌, Bool, true, false, cond, eqb, List, [], ◌∷◌, ◌++◌, length, take, drop, Option, Some, None, refl, sym, ap, ◌∙◌}
-use Rattle.std.specs.Prelude.{◌&&◌, ◌==◌, not, filter, if◌then◌else◌, map, reverse}
+use Rattle.std.proofs.Common.{◌≡◌, ℕ, zero, suc, ◌-◌, Bool, true, false, cond, List, [], ◌∷◌, ◌++◌, length, drop, Some, None, refl, sym, ap, ◌∙◌}
+use Rattle.std.specs.Prelude.{◌&&◌, ◌==◌, not, if◌then◌else◌, map, reverse}
 use Rattle.std.specs.List.{AllByRecursion, find}
 use Rattle.std.specs.Str.{bytes_eq}
-use Rattle.std.specs.Option.{option_or}
 use Rattle.std.proofs.lemmas.Bool.{and_from, and_parts, eq-eqb, eqb-true}
 use Rattle.std.proofs.lemmas.List.{reverse-append, map-append}
 use Rattle.std.proofs.lemmas.List.Folds.{find-append}
@@ -12,8 +11,6 @@ use Rattle.std.proofs.lemmas.Slice.Eq.{bytes_eq-Decides}
 use Rattle.bx_history.specs.Trace as traces
 use Rattle.bx_replies.specs.Answers.{Answer, IsApart, is_to, newest, reply_of, to_others, with_answer}
 use Rattle.bx_desk.specs.Nodes.{sent_at}
-use Rattle.bx_desk.specs.Desks.{is_from}
-use Rattle.bx_desk.specs.declared.desk.Asked.{Asked}
 
 -- ---- a call is the same whichever is said first
 

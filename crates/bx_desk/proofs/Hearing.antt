@@ -1,5 +1,5 @@
 -- What comes of a datagram at a node, by its desk: whether it is taken, and what is sent again.
-use Rattle.std.proofs.Common.{◌≡◌, ℕ, Bool, true, false, List, [], ◌∷◌, length, Option, Some, None, inl, inr, refl, ap, ◌∙◌, arith}
+use Rattle.std.proofs.Common.{◌≡◌, ℕ, Bool, true, false, List, [], ◌∷◌, length, Some, None, inl, inr, refl, ap, ◌∙◌, arith}
 use Rattle.std.specs.Prelude.{◌&&◌, ◌==◌, ◌⊎◌, is_none, nat_le, nat_lt, not, reverse}
 use Rattle.std.specs.List.{find, list_any}
 use Rattle.std.specs.Str.{bytes_eq}
@@ -14,7 +14,7 @@ use Rattle.bx_history.specs.Account.{IsSplit, answers_at}
 use Rattle.bx_replies.specs.Answers.{IsApart, reply_of}
 use Rattle.bx_desk.specs.Desks.{AtDesk, is_from}
 use Rattle.bx_desk.specs.Nodes.{IsDeskOf, sent_at, taking_at}
-use Rattle.bx_desk.proofs.Answers.{FindsReply, asks, find_none, find_reply}
+use Rattle.bx_desk.proofs.Answers.{asks, find_none, find_reply}
 use Rattle.bx_desk.proofs.Lists.{any_first, any_mapped, any_reversed, found_any}
 
 -- it isn't taken, and nothing is sent again

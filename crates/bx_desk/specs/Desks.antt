@@ -19,6 +19,10 @@ is_from client bytes asked = (asked.client == client) && bytes_eq asked.bytes by
 abbrev pub with_call : AtDesk → Asked → AtDesk
 with_call desk asked = record { waits = desk.waits ++ asked ∷ []; kept = desk.kept }
 
+-- once an answer is kept to a call that never waited
+abbrev pub with_kept : AtDesk → Answer → AtDesk
+with_kept desk answer = record { waits = desk.waits; kept = with_answer desk.kept answer }
+
 -- once the oldest of these is answered
 abbrev pub answer_oldest : List Asked → List Answer → List ℕ → AtDesk
 answer_oldest [] kept reply = record { waits = []; kept = kept }

@@ -1,11 +1,11 @@
 -- What a desk is by the parts of a run at a node.
-use Rattle.std.specs.Prelude.{◌≡◌, ℕ, Bool, false, List, [], ◌∷◌, map, reverse, None}
+use Rattle.std.specs.Prelude.{◌≡◌, ℕ, false, List, [], ◌∷◌, map, reverse, None}
 use Rattle.std.specs.List.{AllByRecursion}
 use Rattle.bx_desk.specs.declared.desk.Asked.{Asked}
 use Rattle.bx_desk.specs.Desks.{AtDesk, is_from}
 use Rattle.bx_history.specs.Trace as traces
 use Rattle.bx_history.specs.Parts.{Part, kept_at, waiting}
-use Rattle.bx_replies.specs.Answers.{Answer, IsApart, reply_of}
+use Rattle.bx_replies.specs.Answers.{Answer, reply_of}
 
 -- a call that waits, as one that was taken at a node
 abbrev pub taking_at : ℕ → Asked → traces.Taking

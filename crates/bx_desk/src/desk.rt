@@ -3,7 +3,7 @@
 ghost use Rattle.std.specs.Prelude.{◌≡◌, ◌++◌, ◌∷◌, length, nat_le, IfOk, OnErr, OnOk};
 ghost use Rattle.std.specs.List.{list_any};
 ghost use Rattle.std.specs.Option.{option_copied};
-ghost use Rattle.bx_desk.specs.Desks.{answered, empty_desk, is_from, with_call};
+ghost use Rattle.bx_desk.specs.Desks.{answered, empty_desk, is_from, with_call, with_kept};
 ghost use Rattle.bx_replies.specs.Answers.{IsApart, reply_of};
 
 use bx_base::{CallNo, OutOfMemory, Raw};
@@ -106,6 +106,13 @@ impl Desk {
             return Ok(());
         };
         self.replies.keep(asked.client, asked.bytes, reply)
+    }
+
+    /// A call is answered that never waited: the answer is kept, and what waits waits on. After an error the desk isn't used again.
+    pub fn keep(&mut self, client: u32, datagram: Raw, reply: Raw) -> Result<(), OutOfMemory>
+        ensures { OnOk result (self.new ≡ with_kept self.old (record { client = client; call = datagram; reply = reply })) }
+    {
+        self.replies.keep(client, datagram, reply)
     }
 
     /// Forgets the calls and the answers. It takes no memory.

@@ -1,6 +1,6 @@
 -- What the definitions must accept and must not, in small cases: nothing runs most of them yet.
 use Rattle.std.proofs.Common.{◌≡◌, ℕ, suc, true, false, List, [], ◌∷◌, Some, None, refl, inl, inr, arith}
-use Rattle.std.specs.Prelude.{nat_le, zero}
+use Rattle.std.specs.Prelude.{◌≤◌, zero}
 use Rattle.bx_script.specs.declared.trace_line.TraceLine.{TraceLine}
 use Rattle.bx_script.specs.declared.trace_line.TraceLine.TheVariants.{Took, Acted, Reply}
 use Rattle.bx_history.specs.Trace.{Taking, IsSentBefore}
@@ -10,7 +10,7 @@ use Rattle.bx_history.specs.Along.{none_ends}
 
 -- all bytes are calls, none is answered at once, and a node keeps two answers
 abbrev rules : Rules
-rules = record { is_call = λ _. true; is_immediate = λ _ _. false; is_prompt = λ _. false; is_wary = true; kept = 2 }
+rules = record { is_call = λ _. true; IsImmediate = λ _ _. ⊥; is_prompt = λ _. false; is_wary = true; kept = 2 }
 
 -- a client's datagram of one byte, at node 0
 abbrev from : ℕ → ℕ → Arrival
@@ -84,7 +84,7 @@ what_waits_is_not_taken = refl
 
 -- a stage that takes each call
 abbrev each : Rules
-each = record { is_call = λ _. true; is_immediate = λ _ _. false; is_prompt = λ _. false; is_wary = false; kept = 2 }
+each = record { is_call = λ _. true; IsImmediate = λ _ _. ⊥; is_prompt = λ _. false; is_wary = false; kept = 2 }
 
 pub what_waits_is_taken_by_such : taken_by each (waits 1 10 5 7 ∷ []) (Some (from 5 7)) ≡ from 5 7 ∷ []
 what_waits_is_taken_by_such = refl
@@ -128,7 +128,7 @@ never_at_no_reading h = elim h [ inl e ↦ cc | inr r ↦ elim r.1 [ inl e ↦ c
 -- ---- what is answered at once
 
 abbrev at_once : Rules
-at_once = record { is_call = λ _. true; is_immediate = λ reading _. nat_le reading 4000; is_prompt = λ _. true; is_wary = true; kept = 2 }
+at_once = record { is_call = λ _. true; IsImmediate = λ reading _. reading ≤ 4000; is_prompt = λ _. true; is_wary = true; kept = 2 }
 
 abbrev first : Taking
 first = record { call = 1; node = 0; client = 5; bytes = 7 ∷ [] }
@@ -137,10 +137,10 @@ pub answered_at_once : IsAnsweredAtOnce at_once [] (answered 1 10 5 7) first
 answered_at_once early alive = (refl, refl)
 
 pub never_left_waiting : IsAnsweredAtOnce at_once [] (waits 1 4000 5 7) first → ⊥
-never_left_waiting h = let e = (h refl refl).1 in cc
+never_left_waiting h = let e = (h (omega arith) refl).1 in cc
 
 pub maybe_late : IsAnsweredAtOnce at_once [] (waits 1 4001 5 7) first
-maybe_late early alive = absurd cc
+maybe_late early alive = absurd (omega (arith, early))
 
 pub maybe_after_a_crash : IsAnsweredAtOnce at_once (crash ∷ []) (waits 1 10 5 7) first
 maybe_after_a_crash early alive = absurd cc

@@ -1,17 +1,18 @@
 -- An account goes on where nodes end, and where it is found later that a call acted which has no reply.
-use Rattle.std.proofs.Common.{◌≡◌, ℕ, Bool, true, false, List, [], ◌∷◌, Option, Some, None, refl, sym}
+use Rattle.std.proofs.Common.{◌≡◌, ℕ, Bool, false, List, [], ◌∷◌, Option, None, refl, sym}
 use Rattle.std.specs.Prelude.{◌≢◌}
 use Rattle.std.specs.List.{AllByRecursion}
-use Rattle.std.proofs.lemmas.Bool.{ne_eqb, or_from}
+use Rattle.std.proofs.lemmas.Bool.{ne_eqb, or_from, or_right}
 use Rattle.bx_base.specs.declared.names.Point.{Point}
 use Rattle.bx_script.specs.declared.trace_line.TraceLine.{TraceLine}
 use Rattle.bx_script.specs.declared.trace_line.TraceLine.TheVariants.{Acted}
 use Rattle.bx_history.specs.Trace.{Entry, Taking, takings}
 use Rattle.bx_history.specs.Parts.{Part, trace_of}
-use Rattle.bx_history.specs.Placed.{Rules, HasReadingSince, IsAnsweredAtOnce, is_immediate_at}
+use Rattle.bx_history.specs.Placed.{Rules, HasReadingSince, IsAnsweredAtOnce}
 use Rattle.bx_history.specs.Along.{all_end}
 use Rattle.bx_history.specs.Account.{AwaitsNewest, IsPatient, IsPending, LacksPoint, answers_at, entry_for}
-use Rattle.bx_history.proofs.Waiting.{all_of, no_prompt}
+use Rattle.bx_history.proofs.Lists.{all_mapped}
+use Rattle.bx_history.proofs.Waiting.{no_prompt}
 
 module _ {Tree : Type 0} (Step : Tree → Entry → Tree → Type 0) (rules : Rules) (patient : IsPatient rules) where
   -- ---- all nodes end: no call waits any more
@@ -59,12 +60,8 @@ module _ {Tree : Type 0} (Step : Tree → Entry → Tree → Type 0) (rules : Ru
         waits_on node calls apart.1 pending.1,
       )
 
-      never : (t : Taking) → IsAnsweredAtOnce rules older part_after t
-      never t at_once alive = absurd (by reading at_once)
-        where
-          by : (r : Option ℕ) → is_immediate_at rules r t.bytes ≡ true → ⊥
-          by None is = cc
-          by (Some r) is = let never_is : rules.is_immediate r t.bytes ≡ false = patient.not_at_once r t.bytes in cc
+      still_answered : (t : Taking) → IsAnsweredAtOnce rules older part_before t → IsAnsweredAtOnce rules older part_after t
+      still_answered t was at_once alive = let answered = was at_once alive in (or_right _ _ answered.0, answered.1)
 
       pub found_point : AwaitsNewest Step rules first (part_after ∷ older) (entry_for taking point reply ∷ history) next waits
       found_point = record {
@@ -77,7 +74,7 @@ module _ {Tree : Type 0} (Step : Tree → Entry → Tree → Type 0) (rules : Ru
           record {
             takes = so_far.placed.0.takes;
             repeats = so_far.placed.0.repeats;
-            immediate = all_of _ (takings lines) never;
+            immediate = all_mapped _ _ (takings lines) still_answered so_far.placed.0.immediate;
             prompt = λ is. absurd (no_prompt Step rules patient _ is);
             moments = (moment, so_far.placed.0.moments);
           },

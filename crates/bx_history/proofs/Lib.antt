@@ -1,6 +1,9 @@
 pub mod Numbering
 pub mod Since
+pub mod Lists
+pub mod Unanswered
 pub mod Waiting
+pub mod Taking
 pub mod Whole
 pub mod Spelled
 pub mod Once

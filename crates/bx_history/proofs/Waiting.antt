@@ -1,55 +1,19 @@
--- An account goes on by a part, in a stage in which calls wait: nothing arrives, or what isn't taken; an answer is sent again; a call is taken; the oldest
--- is answered.
-use Rattle.std.proofs.Common.{◌≡◌, ℕ, suc, ◌+◌, ◌<◌, Bool, true, false, cond, List, [], ◌∷◌, ◌++◌, Option, Some, None, refl, sym, ap, subst, ◌∙◌, arith, eqb}
-use Rattle.std.specs.Prelude.{◌≢◌, ◌||◌, ◌&&◌, not, filter, ◌==◌, if◌then◌else◌}
+-- An account goes on by a part, in a stage in which calls wait: nothing arrives, or what isn't taken; an answer is sent again; the oldest call is answered.
+use Rattle.std.proofs.Common.{◌≡◌, ℕ, ◌<◌, Bool, true, false, List, [], ◌∷◌, ◌++◌, Option, Some, None, refl, sym, ap, subst, ◌∙◌, eqb}
+use Rattle.std.specs.Prelude.{◌≢◌, not, filter, ◌==◌, if◌then◌else◌}
 use Rattle.std.specs.List.{AllByRecursion}
-use Rattle.std.proofs.lemmas.Bool.{eq-eqb, eqb-true, ne_eqb, not-true, or_from, or_parts}
+use Rattle.std.proofs.lemmas.Bool.{eq-eqb, eqb-true, ne_eqb, not-true, or_from, or_right}
 use Rattle.bx_base.specs.declared.names.Point.{Point}
 use Rattle.bx_script.specs.declared.trace_line.TraceLine.{TraceLine}
-use Rattle.bx_script.specs.declared.trace_line.TraceLine.TheVariants.{Took, Acted, Reply, Again}
-use Rattle.bx_history.specs.Trace.{Answer, Entry, IsSentBefore, Taking, answers, takings, taken_count, taking_of, has_point, has_reply, with_answer}
+use Rattle.bx_script.specs.declared.trace_line.TraceLine.TheVariants.{Acted, Again, Reply}
+use Rattle.bx_history.specs.Trace.{Answer, Entry, IsSentBefore, Taking, answers, takings, taking_of, with_answer}
 use Rattle.bx_history.specs.Parts.{Arrival, Happening, Part, trace_of, trace_since, waiting}
-use Rattle.bx_history.specs.Placed.{Rules, HasReadingSince, IsAnsweredAtOnce, again_by, is_immediate_at, taken_by}
+use Rattle.bx_history.specs.Placed.{Rules, HasReadingSince, IsAnsweredAtOnce, again_by, taken_by}
 use Rattle.bx_history.specs.Along.{none_ends}
-use Rattle.bx_history.specs.Account.{AreNewestFirst, AwaitsNewest, IsPatient, IsPending, IsSplit, answers_at, entry_for, waits_but, waits_with}
+use Rattle.bx_history.specs.Account.{AreNewestFirst, AwaitsNewest, IsPatient, IsPending, IsSplit, answers_at, entry_for, waits_but}
+use Rattle.bx_history.proofs.Lists.{all_front, all_mapped, filter_all, filter_last}
 use Rattle.bx_history.proofs.Since.{IsIn, found_whole, in_filter, in_last, taken_since}
-use Rattle.bx_history.proofs.Numbering.{next_has_no_point, next_has_no_reply, taking_bound}
-
-same : (n : ℕ) → eqb n n ≡ true
-same n = eq-eqb n n refl
-
--- ---- lists
-
-pub all_mapped : {X : Type 0} (P Q : X → Type 0) (xs : List X) → ((x : X) → P x → Q x) → AllByRecursion P xs → AllByRecursion Q xs
-all_mapped P Q [] gives all = tt
-all_mapped P Q (x ∷ xs) gives all = (gives x all.0, all_mapped P Q xs gives all.1)
-
-pub all_of : {X : Type 0} (P : X → Type 0) (xs : List X) → ((x : X) → P x) → AllByRecursion P xs
-all_of P [] gives = tt
-all_of P (x ∷ xs) gives = (gives x, all_of P xs gives)
-
--- what passes a stronger test is what passes both
-filter_step : {X : Type 0} (p q : Bool) (x : X) (ps qs : List X) (r : X → Bool) → r x ≡ q → filter r ps ≡ qs → cond (p && q) (x ∷ qs) qs ≡ filter r (cond p (x ∷ ps) ps)
-filter_step true true x ps qs r is rest = rw (is, rest) refl
-filter_step true false x ps qs r is rest = rw (is, rest) refl
-filter_step false q x ps qs r is rest = sym rest
-
-filter_both : {X : Type 0} (p q r : X → Bool) (xs : List X) → ((x : X) → r x ≡ (p x && q x)) → filter r xs ≡ filter q (filter p xs)
-filter_both p q r [] is = refl
-filter_both p q r (x ∷ xs) is = rw (is x) (filter_step (p x) (q x) x (filter p xs) (filter r xs) q refl (sym (filter_both p q r xs is)))
-
-filter_all : {X : Type 0} (p : X → Bool) (xs : List X) → AllByRecursion (λ x. p x ≡ true) xs → filter p xs ≡ xs
-filter_all p [] all = refl
-filter_all {X = X} p (x ∷ xs) all = rw (all.0) (ap (λ (l : List X). x ∷ l) (filter_all p xs all.1))
-
--- the last one alone fails the test
-filter_last : {X : Type 0} (p : X → Bool) (front : List X) (last : X) → AllByRecursion (λ x. p x ≡ true) front → p last ≡ false → filter p (front ++ last ∷ []) ≡ front
-filter_last p [] last all fails = rw fails refl
-filter_last {X = X} p (x ∷ front) last all fails = rw (all.0) (ap (λ (l : List X). x ∷ l) (filter_last p front last all.1 fails))
-
-pub all_front : {X : Type 0} (P : X → Type 0) (front : List X) (last : X) → AllByRecursion P (front ++ last ∷ []) → AllByRecursion P front × P last
-all_front P [] last all = (tt, all.0)
-all_front P (x ∷ front) last all = let rest = all_front P front last all.1 in ((all.0, rest.0), rest.1)
+use Rattle.bx_history.proofs.Unanswered.{fewer, other_number, same}
 
 -- all that came before the last one were taken after it
 above_last : (front : List Taking) (last : Taking) → AreNewestFirst (front ++ last ∷ []) → AllByRecursion (λ t. last.call < t.call) front × AreNewestFirst front
@@ -58,30 +22,6 @@ above_last (t ∷ front) last order =
     let rest = above_last front last order.1 in
     let first = all_front (λ other. other.call < t.call) front last order.0 in
     ((first.1, rest.0), (first.0, rest.1))
-
-other_number : (a b : ℕ) → a < b → not (eqb a b) ≡ true
-other_number a b less = ap not (ne_eqb a b (λ is. omega (arith, less, is)))
-
--- ---- a call without a reply has none since a node ended
-
-behind : (lines trace other : List TraceLine) (call : ℕ) → (has_reply trace call ≡ false → has_reply other call ≡ false) → has_reply (lines ++ trace) call ≡ false → has_reply (lines ++ other) call ≡ false
-behind [] trace other call gives none = gives none
-behind (Took number at client bytes ∷ lines) trace other call gives none = behind lines trace other call gives none
-behind (Acted point ∷ lines) trace other call gives none = behind lines trace other call gives none
-behind (Reply number reply ∷ lines) trace other call gives none =
-    let halves = or_parts (number == call) (has_reply (lines ++ trace) call) none in
-    or_from _ _ halves.0 (behind lines trace other call gives halves.1)
-behind (Again at client reply ∷ lines) trace other call gives none = behind lines trace other call gives none
-
-unless_ended : (b : Bool) (trace : List TraceLine) (call : ℕ) → has_reply trace call ≡ false → has_reply (if b then [] else trace) call ≡ false
-unless_ended true trace call none = refl
-unless_ended false trace call none = none
-
-no_reply_since : (parts : List Part) (node call : ℕ) → has_reply (trace_of parts) call ≡ false → has_reply (trace_since parts node) call ≡ false
-no_reply_since [] node call none = refl
-no_reply_since (part ∷ older) node call none =
-    behind part.lines (trace_of older) (if part.what.ends node then [] else trace_since older node) call
-    (λ without. unless_ended (part.what.ends node) (trace_since older node) call (no_reply_since older node call without)) none
 
 module _ {Tree : Type 0} (Step : Tree → Entry → Tree → Type 0) (rules : Rules) (patient : IsPatient rules) where
   pub no_prompt : (all : List Happening) → rules.is_prompt all ≡ true → ⊥
@@ -157,97 +97,6 @@ module _ {Tree : Type 0} (Step : Tree → Entry → Tree → Type 0) (rules : Ru
       still_pending : (node : ℕ) (other : Taking) → IsPending (trace_of parts) node other → IsPending (Again arrival.node arrival.client reply ∷ trace_of parts) node other
       still_pending node other pending = record { taken = pending.taken; at = pending.at; no_point = pending.no_point; no_reply = pending.no_reply }
 
-  -- ---- a call that is taken
-
-  -- the test for a call that isn't the one that was taken
-  not_this : (here : Bool) (taking : Taking) (found : Option Taking) → here ≡ false → (if here then Some taking else found) ≡ found
-  not_this false taking found is = refl
-  not_this true taking found is = absurd cc
-
-  module _ (first : Tree) (parts : List Part) (history : List Entry) (last : Tree) (waits : ℕ → List Taking) (reading : ℕ) (taking : Taking)
-      (is_taken : taken_by rules parts (Some (record { node = taking.node; client = taking.client; bytes = taking.bytes })) ≡ record { node = taking.node; client = taking.client; bytes = taking.bytes } ∷ [])
-      (no_repeat : again_by rules parts (Some (record { node = taking.node; client = taking.client; bytes = taking.bytes })) ≡ []) (number : taking.call ≡ taken_count (trace_of parts) + 1)
-      (so_far : AwaitsNewest Step rules first parts history last waits) where
-    abbrev taken_part : Part
-    taken_part = record {
-      what = record { arrives = Some (record { node = taking.node; client = taking.client; bytes = taking.bytes }); reading = Some reading; ends = none_ends; runs = false };
-      lines = Took taking.call taking.node taking.client taking.bytes ∷ [];
-    }
-
-    next_number : taking.call ≡ suc (taken_count (trace_of parts))
-    next_number = omega (arith, number)
-
-    no_point : has_point (trace_of parts) taking.call ≡ false
-    no_point = rw next_number (next_has_no_point rules.kept (trace_of parts) history so_far.fits)
-
-    no_reply : has_reply (trace_of parts) taking.call ≡ false
-    no_reply = rw next_number (next_has_no_reply rules.kept (trace_of parts) history so_far.fits)
-
-    older : (node : ℕ) (other : Taking) → IsPending (trace_of parts) node other → other.call < taking.call
-    older node other pending = omega (arith, number, taking_bound rules.kept (trace_of parts) history other.call other so_far.fits pending.taken)
-
-    -- a call that waited does so still
-    goes_on : (node : ℕ) (other : Taking) → IsPending (trace_of parts) node other → IsPending (trace_of (taken_part ∷ parts)) node other
-    goes_on node other pending = record {
-      taken = not_this (eqb taking.call other.call) taking (taking_of (trace_of parts) other.call) (ne_eqb taking.call other.call (λ is. omega (arith, older node other pending, is))) ∙ pending.taken;
-      at = pending.at;
-      no_point = pending.no_point;
-      no_reply = pending.no_reply;
-    }
-
-    new_is : IsPending (trace_of (taken_part ∷ parts)) taking.node taking
-    new_is = record { taken = rw (same taking.call) refl; at = refl; no_point = no_point; no_reply = no_reply }
-
-    since_no_reply : (node : ℕ) → has_reply (trace_since parts node) taking.call ≡ false
-    since_no_reply node = no_reply_since parts node taking.call no_reply
-
-    waiting_now : (node : ℕ) → waiting (taken_part ∷ parts) node ≡ waits_with taking waits node
-    waiting_now node = by (taking.node == node) refl
-      where
-        by : (b : Bool) → (taking.node == node) ≡ b → waiting (taken_part ∷ parts) node ≡ (if b then taking ∷ waits node else waits node)
-        by true is = rw (is, since_no_reply node) (ap (λ (l : List Taking). taking ∷ l) (so_far.waiting_are node))
-        by false is = rw is (so_far.waiting_are node)
-
-    pending_now : (node : ℕ) → AllByRecursion (IsPending (trace_of (taken_part ∷ parts)) node) (waits_with taking waits node)
-    pending_now node = by (taking.node == node) refl
-      where
-        old : AllByRecursion (IsPending (trace_of (taken_part ∷ parts)) node) (waits node)
-        old = all_mapped _ _ (waits node) (goes_on node) (so_far.pending node)
-
-        by : (b : Bool) → (taking.node == node) ≡ b → AllByRecursion (IsPending (trace_of (taken_part ∷ parts)) node) (if b then taking ∷ waits node else waits node)
-        by true is = (subst (λ (n : ℕ). IsPending (trace_of (taken_part ∷ parts)) n taking) (eqb-true taking.node node is) new_is, old)
-        by false is = old
-
-    order_now : (node : ℕ) → AreNewestFirst (waits_with taking waits node)
-    order_now node = by (taking.node == node)
-      where
-        by : (b : Bool) → AreNewestFirst (if b then taking ∷ waits node else waits node)
-        by true = (all_mapped _ _ (waits node) (older node) (so_far.pending node), so_far.in_order node)
-        by false = so_far.in_order node
-
-    late : IsAnsweredAtOnce rules parts taken_part taking
-    late at_once alive = let never : rules.is_immediate reading taking.bytes ≡ false = patient.not_at_once reading taking.bytes in absurd cc
-
-    pub taken_call : AwaitsNewest Step rules first (taken_part ∷ parts) history last (waits_with taking waits)
-    taken_call = record {
-      fits = (number, so_far.fits);
-      leads = so_far.leads;
-      placed = (
-        record {
-          takes = sym is_taken;
-          repeats = sym no_repeat;
-          immediate = (late, tt);
-          prompt = λ is. absurd (no_prompt _ is);
-          moments = (tt, tt);
-        },
-        so_far.placed,
-      );
-      waiting_are = waiting_now;
-      pending = pending_now;
-      in_order = order_now;
-      split = so_far.split;
-    }
-
   -- ---- the oldest call is answered, in a run
 
   module _ (first : Tree) (older : List Part) (history : List Entry) (last next : Tree) (waits : ℕ → List Taking) (reading : Option ℕ) (lines : List TraceLine)
@@ -285,21 +134,11 @@ module _ {Tree : Type 0} (Step : Tree → Entry → Tree → Type 0) (rules : Ru
         no_reply = or_from _ _ (not-true _ apart) pending.no_reply;
       }
 
-      fewer : (at : ℕ) → waiting (run_after ∷ older) at ≡ filter (λ t. not (eqb point.call t.call)) (waits at)
-      fewer at = filter_both (λ t. (t.node == at) && not (has_reply (trace_since (run_before ∷ older) at) t.call)) (λ t. not (eqb point.call t.call))
-          (λ t. (t.node == at) && not (eqb point.call t.call || has_reply (trace_since (run_before ∷ older) at) t.call)) (takings (trace_since (run_before ∷ older) at))
-          (λ t. three (t.node == at) (eqb point.call t.call) (has_reply (trace_since (run_before ∷ older) at) t.call))
-          ∙ ap (filter (λ t. not (eqb point.call t.call))) (so_far.waiting_are at)
-        where
-          three : (a b c : Bool) → (a && not (b || c)) ≡ ((a && not c) && not b)
-          three true true true = refl
-          three true true false = refl
-          three true false true = refl
-          three true false false = refl
-          three false b c = refl
+      fewer_wait : (at : ℕ) → waiting (run_after ∷ older) at ≡ filter (λ t. not (eqb point.call t.call)) (waits at)
+      fewer_wait at = fewer (trace_since (run_before ∷ older) at) at point.call ∙ ap (filter (λ t. not (eqb point.call t.call))) (so_far.waiting_are at)
 
       waiting_then : (at : ℕ) → waiting (run_after ∷ older) at ≡ waits_but node front waits at
-      waiting_then at = fewer at ∙ by (node == at) refl
+      waiting_then at = fewer_wait at ∙ by (node == at) refl
         where
           by : (b : Bool) → (node == at) ≡ b → filter (λ t. not (eqb point.call t.call)) (waits at) ≡ (if b then front else waits at)
           by true is = ap (λ (n : ℕ). filter (λ t. not (eqb point.call t.call)) (waits n)) (sym (eqb-true node at is)) ∙ ap (filter (λ t. not (eqb point.call t.call))) oldest
@@ -382,7 +221,7 @@ module _ {Tree : Type 0} (Step : Tree → Entry → Tree → Type 0) (rules : Ru
           record {
             takes = so_far.placed.0.takes;
             repeats = so_far.placed.0.repeats;
-            immediate = all_of _ (takings lines) never;
+            immediate = all_mapped _ _ (takings lines) still_answered so_far.placed.0.immediate;
             prompt = λ is. absurd (no_prompt _ is);
             moments = (tt, (moment, so_far.placed.0.moments));
           },
@@ -394,9 +233,5 @@ module _ {Tree : Type 0} (Step : Tree → Entry → Tree → Type 0) (rules : Ru
         split = split_then;
       }
         where
-          never : (t : Taking) → IsAnsweredAtOnce rules older run_after t
-          never t at_once alive = absurd (by reading at_once)
-            where
-              by : (r : Option ℕ) → is_immediate_at rules r t.bytes ≡ true → ⊥
-              by None is = cc
-              by (Some r) is = let never_is : rules.is_immediate r t.bytes ≡ false = patient.not_at_once r t.bytes in cc
+          still_answered : (t : Taking) → IsAnsweredAtOnce rules older run_before t → IsAnsweredAtOnce rules older run_after t
+          still_answered t was at_once alive = let answered = was at_once alive in (or_right _ _ answered.0, or_right _ _ answered.1)

@@ -60,9 +60,8 @@ waits_with taking waits node = if taking.node == node then taking ∷ waits node
 abbrev pub waits_but : ℕ → List Taking → (ℕ → List Taking) → ℕ → List Taking
 waits_but home left waits node = if home == node then left else waits node
 
--- A stage in which nothing is promised of when a call is answered.
+-- A stage in which nothing is promised of what waits behind a run, nor of blocks.
 pub record IsPatient (rules : Rules) : Type 0 where
-  pub not_at_once : (reading : ℕ) (bytes : List ℕ) → rules.is_immediate reading bytes ≡ false
   pub not_prompt : (all : List Happening) → rules.is_prompt all ≡ false
 
 -- ---- the whole

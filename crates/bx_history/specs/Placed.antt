@@ -7,12 +7,12 @@ use Rattle.bx_script.specs.declared.trace_line.TraceLine.TheVariants.{Took, Acte
 use Rattle.bx_history.specs.Trace.{Taking, Answer, takings, taking_of, has_point, has_reply}
 use Rattle.bx_history.specs.Parts.{Arrival, Happening, Part, happenings, has_ended, waiting, kept_at}
 
--- What a stage sets: which bytes are a call; which call is answered at once, by the clock's reading and its bytes, at a node that
+-- What a stage sets: which bytes are a call; which calls are answered at once, by the clock's reading and their bytes, at a node that
 -- never ended; whether, by all that has happened (the newest first), nothing waits behind a run and no block is wanting; whether a node
 -- takes a call only where few wait and it is no repeat, or each; and how many answers a node keeps for repeats.
-pub record Rules : Type 0 where
+pub record Rules : Type 1 where
   pub is_call : List ℕ → Bool
-  pub is_immediate : ℕ → List ℕ → Bool
+  pub IsImmediate : ℕ → List ℕ → Type 0
   pub is_prompt : List Happening → Bool
   pub is_wary : Bool
   pub kept : ℕ
@@ -84,15 +84,15 @@ again_in (Again node client reply ∷ older) = record { node = node; client = cl
 abbrev pub IsAnsweredIn : List TraceLine → Taking → Type 0
 IsAnsweredIn lines taking = (has_point lines taking.call ≡ true) × (has_reply lines taking.call ≡ true)
 
--- whether a call is answered at once, by the reading where there is one
-abbrev pub is_immediate_at : Rules → Option ℕ → List ℕ → Bool
-is_immediate_at rules None bytes = false
-is_immediate_at rules (Some reading) bytes = rules.is_immediate reading bytes
+-- a call is answered at once, by the reading where there is one
+abbrev pub IsImmediateAt : Rules → Option ℕ → List ℕ → Type 0
+IsImmediateAt rules None bytes = ⊥
+IsImmediateAt rules (Some reading) bytes = rules.IsImmediate reading bytes
 
--- a call that was taken in a part is answered in it, if it is one that is answered at once and its node never ended before
+-- A call that was taken in a part is answered in it, if it is one that is answered at once and its node never ended before.
 abbrev pub IsAnsweredAtOnce : Rules → List Part → Part → Taking → Type 0
 IsAnsweredAtOnce rules older part taking =
-    is_immediate_at rules part.what.reading taking.bytes ≡ true → has_ended older taking.node ≡ false → IsAnsweredIn part.lines taking
+    IsImmediateAt rules part.what.reading taking.bytes → has_ended older taking.node ≡ false → IsAnsweredIn part.lines taking
 
 -- a point, where the line is one, had blocks enough
 abbrev pub HasSpare : TraceLine → Type 0

@@ -45,7 +45,12 @@ pub fn front_leads<S: Steps>()
         → (middle : S.Tree) × LeadsNewest S.step first earlier middle }
 {}
 
+/// What a stage promises: any rules.
+pub trait Stage {
+    ghost rules: { Rules };
+}
+
 /// The older parts of a run that is placed are placed.
-pub fn front_placed()
-    ensures { (rules : Rules) (newer older : List Part) → PlacedNewest rules (newer ++ older) → PlacedNewest rules older }
+pub fn front_placed<S: Stage>()
+    ensures { (newer older : List Part) → PlacedNewest S.rules (newer ++ older) → PlacedNewest S.rules older }
 {}

@@ -1,5 +1,7 @@
+mod AtOnce
 mod Cleaning
 pub mod Queues
 pub mod Rounding
 pub mod Stopping
 pub mod Back
+mod Bare

@@ -1,5 +1,6 @@
 //! The service.
 
+use crate::at_once::act_at_once;
 use crate::returning::{Left, left_by, rejoin};
 use crate::tidying::tidy;
 use bx_base::{CallNo, OutOfMemory, Point, Raw};
@@ -152,6 +153,29 @@ impl Service for LoneService {
             }
             Stage::Down(_) => Ok(()),
         }
+    }
+
+    fn answer(
+        &self,
+        call: CallNo,
+        client: u32,
+        datagram: &[u8],
+        moment: u64,
+    ) -> Result<Option<Acted>, OutOfMemory> {
+        let volume = left_by(&self.stage).volume;
+        let Some(done) = act_at_once(self.alloc, volume, client, datagram, moment)? else {
+            return Ok(None);
+        };
+        let point = Point {
+            call,
+            moment,
+            spare: done.spare,
+            made: done.made,
+        };
+        Ok(Some(Acted {
+            point,
+            reply: done.reply,
+        }))
     }
 
     fn tick(&mut self) {

@@ -16,7 +16,7 @@ use Rattle.bx_desk.specs.declared.desk.Asked.{Asked}
 use Rattle.bx_desk.proofs.Going.{desk_answered, desk_stays}
 use Rattle.bx_replies.specs.Answers.{Answer}
 use Rattle.bx_history.specs.Trace as traces
-use Rattle.bx_history.specs.Parts.{Part, trace_of, trace_since, waiting}
+use Rattle.bx_history.specs.Parts.{trace_of, trace_since, waiting}
 use Rattle.bx_history.specs.Placed.{HasReadingSince}
 use Rattle.bx_history.specs.Along.{Done, none_ends, parts_of, schedule_of}
 use Rattle.bx_history.specs.Account.{AwaitsNewest, IsPending, LacksPoint, answers_at, entry_for, waits_but}

@@ -9,7 +9,7 @@ use Rattle.bx_stops.specs.declared.stop.Reason.{Reason}
 use Rattle.bx_stops.specs.declared.stop.Reason.TheVariants.{Grammar, NoMachine, ClockBack, Down}
 use Rattle.bx_stops.specs.declared.stop.Stop.{Stop}
 use Rattle.bx_stops.specs.declared.stop.Stop.TheVariants as stops
-use Rattle.bx_replay.specs.Headline.{IsHeard, IsSteady, IsThere, Machines, after_line, greatest_with, machines_at, up_after}
+use Rattle.bx_replay.specs.Headline.{IsHeard, IsSteady, IsThere, Machines, greatest_with, machines_at, up_after}
 use Rattle.bx_replay.specs.Outcome.{IsBackBy, IsRefusedLine}
 use Rattle.bx_replay.specs.Replay.{DoesLine, HasStepCause, Hears, HearsUp, IsKeptOut}
 

@@ -1,5 +1,5 @@
 -- What a replay leaves, by what stopped it.
-use Rattle.std.proofs.Common.{◌≡◌, ℕ, Bool, ◌+◌, ◌<◌, ◌==◌, List, [], Option, Result, Ok, Err, inl, inr}
+use Rattle.std.proofs.Common.{◌≡◌, ℕ, ◌+◌, ◌<◌, ◌==◌, List, [], Option, Result, Ok, Err, inl, inr}
 use Rattle.std.specs.Prelude.{IfErr, ◌⊎◌}
 use Rattle.bx_base.specs.Text.{BeginsWith}
 use Rattle.bx_model.specs.declared.tree.Tree.{Tree}

@@ -6,6 +6,7 @@ pub mod TraceTexts
 pub mod OneHistory
 pub mod Standing
 pub mod Answered
+pub mod AtOnce
 pub mod Printing
 pub mod Rounding
 pub mod Headlines

@@ -13,19 +13,22 @@ use Rattle.bx_script.specs.TraceText.{InTraceRange, trace_text}
 use Rattle.bx_desk.specs.Desks.{AtDesk, empty_desk, is_from, with_call}
 use Rattle.bx_desk.specs.Nodes.{IsDeskOf, taking_at}
 use Rattle.bx_desk.proofs.Going.{desk_opened, desk_stays, desk_taken}
-use Rattle.bx_desk.proofs.Hearing.{IsNew, IsPassed, IsRepeated, is_new}
+use Rattle.bx_desk.proofs.Hearing.{IsPassed, IsRepeated, is_new}
 use Rattle.bx_history.specs.Trace as traces
 use Rattle.bx_history.specs.Parts.{Part, trace_of}
 use Rattle.bx_history.specs.Along.{Done, parts_of, schedule_of}
 use Rattle.bx_history.specs.Account.{AreNewestFirst, AwaitsNewest, IsPatient, IsPending, LacksPoint, waits_with}
 use Rattle.bx_history.proofs.Ended.{ended_part}
+use Rattle.bx_history.proofs.Lists.{all_front}
 use Rattle.bx_history.proofs.Numbering.{taking_bound}
-use Rattle.bx_history.proofs.Waiting.{all_front, passed_part, quiet_part, repeated_part, taken_call}
+use Rattle.bx_history.proofs.Taking.{taken_call}
+use Rattle.bx_history.proofs.Waiting.{passed_part, quiet_part, repeated_part}
 use Rattle.bx_model.specs.declared.tree.Tree.{Tree}
 use Rattle.bx_replies.specs.Answers.{reply_of}
 use Rattle.bx_rpc.specs.Message.{is_message}
+use Rattle.bx_service.specs.AtOnce.{IsAtOnce}
 use Rattle.bx_service.specs.Rounds.{Doubt}
-use Rattle.bx_replay.specs.Headline.{IsHeard, IsInPlace, IsSteady, Machines, rules, opening_of, Step, after_line, after_lines}
+use Rattle.bx_replay.specs.Headline.{IsHeard, IsInPlace, Machines, rules, opening_of, Step, after_line, after_lines}
 use Rattle.bx_replay.specs.Replay.{IsDoubted, Stands, waits_at}
 use Rattle.bx_replay.proofs.Allowed.{done_push}
 use Rattle.bx_replay.proofs.TraceTexts.{trace_text-append}
@@ -52,9 +55,9 @@ opening_of-append (Tick reading node ∷ lines) more some = refl
 pub length_schedule : (done : List Done) → length (schedule_of done) ≡ length done
 length_schedule done = length-reverse (map (λ (d : Done). d.line) done) ∙ length-map done (λ (d : Done). d.line)
 
--- nothing is promised of when a call is answered
+-- nothing is promised of what waits behind a run
 pub patient : IsPatient rules
-patient = record { not_at_once = λ reading bytes. refl; not_prompt = λ all. refl }
+patient = record { not_prompt = λ all. refl }
 
 -- what waits at each node, said in two ways
 pub awaits_same : (first : Tree) (done : List Done) (history : List traces.Entry) (tree : Tree) (a b : ℕ → List traces.Taking) → ((node : ℕ) → a node ≡ b node)
@@ -75,7 +78,7 @@ machines_more : (machines machines_then : Machines) (line : Line) (lines : List 
 machines_more machines machines_then line lines done was then_is =
     then_is ∙ ap (after_line line) was ∙ sym (ap (λ (l : List Line). after_lines (reverse l)) (schedule_of-cons line lines done) ∙ ap after_lines (reverse-append (schedule_of done) (line ∷ [])))
 
-extended : (tree next : Tree) (machines machines_then : Machines) (waits waits_then : List traces.Taking) (desk desk_then : AtDesk) (doubt doubt_then : Option Doubt) (calls calls_then : ℕ) (line : Line) (lines : List TraceLine) (done : List Done) (start written text : List ℕ) (history : List traces.Entry)
+pub extended : (tree next : Tree) (machines machines_then : Machines) (waits waits_then : List traces.Taking) (desk desk_then : AtDesk) (doubt doubt_then : Option Doubt) (calls calls_then : ℕ) (line : Line) (lines : List TraceLine) (done : List Done) (start written text : List ℕ) (history : List traces.Entry)
     → length done < 4294967295 → IsInPlace false line → IsHeard machines line → machines_then ≡ after_line line machines → (stands : Stands tree machines waits desk doubt calls done start written)
     → AwaitsNewest Step rules (opening_of (schedule_of done)) (parts_of (record { line = line; lines = lines } ∷ done)) history next (waits_at waits_then)
     → IsDeskOf 0 (parts_of (record { line = line; lines = lines } ∷ done)) desk_then → waits_then ≡ map (taking_at 0) desk_then.waits
@@ -150,6 +153,13 @@ none_wait node = by (0 == node)
     by true = refl
     by false = refl
 
+-- of a call with another number a taking says nothing
+pub not_taken : (taking : traces.Taking) (call : ℕ) → call ≢ taking.call → is_some (if taking.call == call then Some taking else None) ≡ false
+not_taken taking call other = rw (ne_eqb taking.call call (λ is. other (sym is))) refl
+
+pub taken_before : (taking : traces.Taking) (call : ℕ) (found : Option traces.Taking) → call ≢ taking.call → (if taking.call == call then Some taking else found) ≡ found
+taken_before taking call found other = rw (ne_eqb taking.call call (λ is. other (sym is))) refl
+
 module _ (tree : Tree) (machines : Machines) (waits : List traces.Taking) (desk : AtDesk) (doubt : Option Doubt) (calls : ℕ) (done : List Done) (start written : List ℕ) (room : length done < 4294967295)
     (stands : Stands tree machines waits desk doubt calls done start written) where
   -- what is in doubt is so behind a line at which nothing is told
@@ -204,16 +214,16 @@ module _ (tree : Tree) (machines : Machines) (waits : List traces.Taking) (desk 
 
   -- ---- a call that is taken
 
-  pub stands_taken : (reading client : ℕ) (datagram text : List ℕ) → IsHeard machines (Call reading 0 client datagram) → is_message datagram ≡ true
+  pub stands_taken : (reading client : ℕ) (datagram text : List ℕ) → IsHeard machines (Call reading 0 client datagram) → is_message datagram ≡ true → (IsAtOnce datagram → ⊥)
       → list_any (is_from client datagram) desk.waits ≡ false → reply_of desk.kept client datagram ≡ None → nat_le 64 (length desk.waits) ≡ false → IsInPlace false (Call reading 0 client datagram)
       → AllByRecursion InTraceRange (Took (calls + 1) 0 client datagram ∷ []) → text ≡ trace_text (Took (calls + 1) 0 client datagram ∷ [])
       → Stands tree (after_line (Call reading 0 client datagram) machines) (waits ++ record { call = calls + 1; node = 0; client = client; bytes = datagram } ∷ []) (with_call desk (record { call = calls + 1; client = client; bytes = datagram })) doubt (calls + 1)
       (record { line = Call reading 0 client datagram; lines = Took (calls + 1) 0 client datagram ∷ [] } ∷ done) start (written ++ text)
-  stands_taken reading client datagram text heard message not_waiting none_kept few place in_range text-is =
+  stands_taken reading client datagram text heard message late not_waiting none_kept few place in_range text-is =
       let taking : traces.Taking = record { call = calls + 1; node = 0; client = client; bytes = datagram } in
       let number : calls + 1 ≡ traces.taken_count (trace_of (parts_of done)) + 1 = ap (λ (n : ℕ). n + 1) stands.counted in
       let new = is_new rules refl refl 0 (parts_of done) desk stands.desk_is client datagram message not_waiting none_kept few in
-      let taken = taken_call Step rules patient (opening_of (schedule_of done)) (parts_of done) stands.history tree (waits_at waits) reading taking new.is_taken new.no_repeat number stands.accounts in
+      let taken = taken_call Step rules patient (opening_of (schedule_of done)) (parts_of done) stands.history tree (waits_at waits) reading taking new.is_taken new.no_repeat number stands.accounts (λ at_once alive. late at_once.1) in
       let accounts = awaits_same (opening_of (schedule_of done)) (record { line = Call reading 0 client datagram; lines = Took (calls + 1) 0 client datagram ∷ [] } ∷ done) stands.history tree _ _ more_wait taken in
       extended tree tree machines (after_line (Call reading 0 client datagram) machines) waits _ desk _ doubt doubt calls (calls + 1) (Call reading 0 client datagram) _ done start written text stands.history room place heard refl stands accounts
       (desk_taken 0 (parts_of done) (parts_of (record { line = Call reading 0 client datagram; lines = Took (calls + 1) 0 client datagram ∷ [] } ∷ done)) desk (record { call = calls + 1; client = client; bytes = datagram }) stands.desk_is
@@ -230,12 +240,6 @@ module _ (tree : Tree) (machines : Machines) (waits : List traces.Taking) (desk 
           by true = sym (reverse-append waits (record { call = calls + 1; node = 0; client = client; bytes = datagram } ∷ []))
           by false = refl
 
-      not_taken : (taking : traces.Taking) (call : ℕ) → call ≢ taking.call → is_some (if taking.call == call then Some taking else None) ≡ false
-      not_taken taking call other = rw (ne_eqb taking.call call (λ is. other (sym is))) refl
-
-      taken_before : (taking : traces.Taking) (call : ℕ) (found : Option traces.Taking) → call ≢ taking.call → (if taking.call == call then Some taking else found) ≡ found
-      taken_before taking call found other = rw (ne_eqb taking.call call (λ is. other (sym is))) refl
-
       doubted_then : (of : Doubt) → doubt ≡ Some of → IsDoubted (record { line = Call reading 0 client datagram; lines = Took (calls + 1) 0 client datagram ∷ [] } ∷ done) of
       doubted_then of is =
           let was = stands.doubted of is in
@@ -251,7 +255,7 @@ module _ (tree : Tree) (machines : Machines) (waits : List traces.Taking) (desk 
 
   -- the same at a node that is 0
   abbrev TakesAt : ℕ → Type 0
-  TakesAt node = (reading client : ℕ) (datagram text : List ℕ) → IsHeard machines (Call reading node client datagram) → is_message datagram ≡ true
+  TakesAt node = (reading client : ℕ) (datagram text : List ℕ) → IsHeard machines (Call reading node client datagram) → is_message datagram ≡ true → (IsAtOnce datagram → ⊥)
       → list_any (is_from client datagram) desk.waits ≡ false → reply_of desk.kept client datagram ≡ None → nat_le 64 (length desk.waits) ≡ false → IsInPlace false (Call reading node client datagram)
       → AllByRecursion InTraceRange (Took (calls + 1) node client datagram ∷ []) → text ≡ trace_text (Took (calls + 1) node client datagram ∷ [])
       → Stands tree (after_line (Call reading node client datagram) machines) (waits ++ record { call = calls + 1; node = 0; client = client; bytes = datagram } ∷ []) (with_call desk (record { call = calls + 1; client = client; bytes = datagram })) doubt (calls + 1)

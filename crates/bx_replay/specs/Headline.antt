@@ -1,5 +1,5 @@
 -- The headline: what a trace along a schedule says of the file tree.
-use Rattle.std.specs.Prelude.{◌≡◌, ℕ, max, Bool, true, false, List, [], ◌∷◌, ◌++◌, Option, Some, None, IfSome, IsSome}
+use Rattle.std.specs.Prelude.{◌≡◌, ◌≤◌, ℕ, max, Bool, true, false, List, [], ◌∷◌, ◌++◌, Option, Some, None, IfSome, IsSome}
 use Rattle.std.specs.List.{AllByRecursion}
 use Rattle.bx_script.specs.declared.line.Line.{Line}
 use Rattle.bx_script.specs.declared.line.Line.TheVariants.{Heading, Call, Run, Crash, Restart, Tick}
@@ -17,11 +17,13 @@ use Rattle.bx_model.specs.Opening.{opening}
 use Rattle.bx_model.specs.History.{IsStep}
 use Rattle.bx_nfs.specs.Wire.{ReadsAs, reply_text}
 use Rattle.bx_rpc.specs.Message.{is_message}
+use Rattle.bx_service.specs.AtOnce.{IsAtOnce}
 
 -- A datagram that is a call is taken where fewer than 64 wait at its node, and it repeats none that waits and none of the last 256 that the node
--- answered; for a repeat of such a call the answer is sent again. Nothing is promised of when a call is answered.
+-- answered; for a repeat of such a call the answer is sent again. A call that touches no block is answered where it is taken, if the clock reads
+-- 4000 at most there and its node never ended. Nothing else is promised of when a call is answered.
 abbrev pub rules : Rules
-rules = record { is_call = is_message; is_immediate = λ _ _. false; is_prompt = λ _. false; is_wary = true; kept = 256 }
+rules = record { is_call = is_message; IsImmediate = λ reading bytes. (reading ≤ 4000) × IsAtOnce bytes; is_prompt = λ _. false; is_wary = true; kept = 256 }
 
 -- the tree that a schedule begins with: the opening tree of the heading's volume, with its areas
 abbrev pub opening_of : List Line → Tree

@@ -3,6 +3,7 @@
 
 mod admitting;
 mod bench;
+mod calls;
 mod crashes;
 mod ends;
 mod laws;

@@ -1,29 +1,22 @@
 //! What the lines of a schedule do.
 
-ghost use Rattle.std.specs.Prelude.{◌≡◌, ◌≤◌, ◌<◌, ◌+◌, ◌^◌, [], List, ℕ, length, max, nat_le, IfErr, None, OnOk, Option, true, false};
-ghost use Rattle.std.specs.List.{list_any};
-ghost use Rattle.bx_desk.specs.Desks.{is_from};
-ghost use Rattle.bx_disk.specs.Disks.{Disks};
+ghost use Rattle.std.specs.Prelude.{◌≡◌, ◌≤◌, ◌<◌, ◌+◌, ◌^◌, [], List, ℕ, length, IfErr, OnOk, Option, true, false};
 ghost use Rattle.bx_history.specs.Along.{Done};
 ghost use Rattle.bx_model.specs.declared.tree.Tree.{Tree};
-ghost use Rattle.bx_script.specs.declared.line.Line.TheVariants.{Call as CallLine, Tick as TickLine};
+ghost use Rattle.bx_script.specs.declared.line.Line.TheVariants.{Tick as TickLine};
 ghost use Rattle.bx_script.specs.Schedule.{reading_of};
 ghost use Rattle.bx_replay.specs.Course.{Moves};
 ghost use Rattle.bx_replay.specs.Headline.{IsInPlace, IsSteady, IsThere, greatest_with, machines_at};
-ghost use Rattle.bx_replay.specs.Replay.{DoesLine, HasPrintCause, HasStepCause, Hears, HearsUp, Stands, StandsAfter, UnlessWrite};
-ghost use Rattle.bx_replies.specs.Answers.{reply_of};
-ghost use Rattle.bx_rpc.specs.Message.{is_message as is_call};
+ghost use Rattle.bx_replay.specs.Replay.{DoesLine, HasStepCause, Hears, HearsUp, Stands, StandsAfter, UnlessWrite};
 ghost use Rattle.bx_service.specs.Rounds.{Doubt};
 
-use crate::print::print_lines;
+use crate::calls::Incoming;
 use crate::state::Replay;
-use bx_base::Raw;
 use bx_disk::{CrashRack, Rack};
 use bx_outside::Sink;
-use bx_rpc::is_message;
-use bx_script::{Line, TraceLine};
+use bx_script::Line;
 use bx_service::Service;
-use bx_stops::{Reason, Stop};
+use bx_stops::Stop;
 use std::alloc::Global;
 
 impl<M: Service> Replay<M> {
@@ -38,14 +31,14 @@ impl<M: Service> Replay<M> {
     ) -> Result<(), Stop>
         requires in_place { IsInPlace false line }
         requires few { self.old.calls < 2 ^ 32 }
-        requires latest { M.latest self.old.service ≡ self.old.calls }
+        requires latest { M.latest self.old.service ≤ self.old.calls }
         requires ready { M.ready self.old.service (B.state bench.old).sizes }
 
         ensures does { (tree : Tree) (doubt : Option Doubt) (done : List Done) (start : List ℕ) → K.tells out.old → B.tells bench.old → M.holds self.old.service (B.state bench.old) tree doubt → length done < 4294967295
             → Stands tree (machines_at (M.up self.old.service) self.old.clock) (M.waits self.old.service) self.old.desk doubt self.old.calls done start (K.written out.old)
             → DoesLine result (StandsAfter (M.holds self.new.service (B.state bench.new)) (machines_at (M.up self.new.service) self.new.clock) (M.waits self.new.service) self.new.desk self.new.calls line done start (K.written out.new)) line done start (K.written out.old) (K.written out.new) }
         ensures holds { (tree : Tree) (doubt : Option Doubt) → B.tells bench.old → M.holds self.old.service (B.state bench.old) tree doubt → OnOk result ((next : Tree) × (now : Option Doubt) × M.holds self.new.service (B.state bench.new) next now) }
-        ensures latest { OnOk result (M.latest self.new.service ≡ self.new.calls) }
+        ensures latest { OnOk result (M.latest self.new.service ≤ self.new.calls) }
         ensures ready { OnOk result (M.ready self.new.service (B.state bench.new).sizes) }
         ensures hears { Hears result (machines_at (M.up self.old.service) self.old.clock) (machines_at (M.up self.new.service) self.new.clock) line }
         ensures moves { (tree : Tree) (doubt : Option Doubt) → B.tells bench.old → M.holds self.old.service (B.state bench.old) tree doubt
@@ -65,8 +58,8 @@ impl<M: Service> Replay<M> {
         Ok(())
     }
 
-    /// Does a line whose node is there, and whose reading doesn't lie too far back: a call is taken, and a datagram that is none is passed over; a run
-    /// does rounds; all crash, or come back; a clock ticks.
+    /// Does a line whose node is there, and whose reading doesn't lie too far back: a datagram arrives; a run does rounds; all
+    /// crash, or come back; a clock ticks.
     fn act<K: Sink, B: CrashRack>(
         &mut self,
         alloc: Global,
@@ -78,14 +71,14 @@ impl<M: Service> Replay<M> {
         requires in_place { IsInPlace false line }
         requires there { IsThere line }
         requires few { self.old.calls < 2 ^ 32 }
-        requires latest { M.latest self.old.service ≡ self.old.calls }
+        requires latest { M.latest self.old.service ≤ self.old.calls }
         requires ready { M.ready self.old.service (B.state bench.old).sizes }
 
         ensures does { (tree : Tree) (doubt : Option Doubt) (greatest : ℕ) (done : List Done) (start : List ℕ) → K.tells out.old → B.tells bench.old → M.holds self.old.service (B.state bench.old) tree doubt → length done < 4294967295
             → IsSteady greatest line → Stands tree (machines_at (M.up self.old.service) greatest) (M.waits self.old.service) self.old.desk doubt self.old.calls done start (K.written out.old)
             → DoesLine result (StandsAfter (M.holds self.new.service (B.state bench.new)) (machines_at (M.up self.new.service) (greatest_with (reading_of line) greatest)) (M.waits self.new.service) self.new.desk self.new.calls line done start (K.written out.new)) line done start (K.written out.old) (K.written out.new) }
         ensures holds { (tree : Tree) (doubt : Option Doubt) → B.tells bench.old → M.holds self.old.service (B.state bench.old) tree doubt → OnOk result ((next : Tree) × (now : Option Doubt) × M.holds self.new.service (B.state bench.new) next now) }
-        ensures latest { OnOk result (M.latest self.new.service ≡ self.new.calls) }
+        ensures latest { OnOk result (M.latest self.new.service ≤ self.new.calls) }
         ensures ready { OnOk result (M.ready self.new.service (B.state bench.new).sizes) }
         ensures hears { HearsUp result (M.up self.old.service) (M.up self.new.service) line }
         ensures moves { (tree : Tree) (doubt : Option Doubt) → B.tells bench.old → M.holds self.old.service (B.state bench.old) tree doubt
@@ -101,11 +94,19 @@ impl<M: Service> Replay<M> {
     {
         match line {
             Line::Call {
-                reading: _,
+                reading,
                 node,
                 client,
                 datagram,
-            } => self.call(alloc, number, node, client, datagram, out),
+            } => {
+                let incoming = Incoming {
+                    reading,
+                    node,
+                    client,
+                    datagram,
+                };
+                self.call(alloc, number, incoming, out)
+            }
             Line::Run { reading, limit } => self.run(alloc, reading, limit, bench, out),
             Line::Crash { noise } => self.crash(noise, bench),
             Line::Restart { reading: _ } => self.restart(bench, out),
@@ -115,136 +116,5 @@ impl<M: Service> Replay<M> {
             } => self.tick(number),
             Line::Heading { .. } => Ok(()),
         }
-    }
-
-    /// A datagram arrives: a call is taken, and what is none is passed over.
-    fn call<K: Sink>(
-        &mut self,
-        alloc: Global,
-        number: u64,
-        node: u32,
-        client: u32,
-        datagram: Raw,
-        out: &mut K,
-    ) -> Result<(), Stop>
-        requires node { node ≡ 0 }
-        requires few { self.old.calls < 2 ^ 32 }
-        requires latest { M.latest self.old.service ≡ self.old.calls }
-        ensures latest { OnOk result (M.latest self.new.service ≡ self.new.calls) }
-        ensures ready { (sizes : List ℕ) → M.ready self.old.service sizes → OnOk result (M.ready self.new.service sizes) }
-        ensures does { (greatest reading : ℕ) (x : Disks) (tree : Tree) (doubt : Option Doubt) (done : List Done) (start : List ℕ) → K.tells out.old → M.ready self.old.service x.sizes → M.holds self.old.service x tree doubt → length done < 4294967295
-            → IsInPlace false (CallLine reading node client datagram) → IsSteady greatest (CallLine reading node client datagram)
-            → Stands tree (machines_at (M.up self.old.service) greatest) (M.waits self.old.service) self.old.desk doubt self.old.calls done start (K.written out.old)
-            → DoesLine result (StandsAfter (M.holds self.new.service x) (machines_at (M.up self.new.service) (max greatest reading)) (M.waits self.new.service) self.new.desk self.new.calls (CallLine reading node client datagram) done start (K.written out.new)) (CallLine reading node client datagram) done start (K.written out.old) (K.written out.new) }
-        ensures holds { (x : Disks) (tree : Tree) (doubt : Option Doubt) → M.ready self.old.service x.sizes → M.holds self.old.service x tree doubt → OnOk result (M.holds self.new.service x tree doubt) }
-        ensures hears { (reading : ℕ) → HearsUp result (M.up self.old.service) (M.up self.new.service) (CallLine reading node client datagram) }
-        ensures cause { IfErr result (λ stop. HasStepCause stop number (K.faults out.old) (K.faults out.new)) }
-        ensures first { UnlessWrite result (K.faults out.new ≡ K.faults out.old) }
-        ensures calls { self.new.calls ≤ self.old.calls + 1 }
-        ensures later { K.faults out.old ≤ K.faults out.new }
-        ensures keeps_telling { K.tells out.old → K.tells out.new }
-    {
-        if !self.service.is_up() {
-            return Err(Stop::Refused(number, Reason::Down));
-        }
-        self.hear(alloc, node, client, datagram, out)
-    }
-
-    /// A datagram is heard: a call that is new is taken; for one that was answered lately the answer is sent again; and what is no call, or waits
-    /// already, or comes where as many wait as may, is passed over.
-    fn hear<K: Sink>(
-        &mut self,
-        alloc: Global,
-        node: u32,
-        client: u32,
-        datagram: Raw,
-        out: &mut K,
-    ) -> Result<(), Stop>
-        requires up { M.up self.old.service ≡ true }
-        requires node { node ≡ 0 }
-        requires few { self.old.calls < 2 ^ 32 }
-        requires latest { M.latest self.old.service ≡ self.old.calls }
-        ensures latest { OnOk result (M.latest self.new.service ≡ self.new.calls) }
-        ensures ready { (sizes : List ℕ) → M.ready self.old.service sizes → OnOk result (M.ready self.new.service sizes) }
-        ensures up { OnOk result (M.up self.new.service ≡ true) }
-        ensures hears { (greatest reading : ℕ) (x : Disks) (tree : Tree) (doubt : Option Doubt) (done : List Done) (start : List ℕ) → K.tells out.old → M.ready self.old.service x.sizes → M.holds self.old.service x tree doubt → length done < 4294967295
-            → IsInPlace false (CallLine reading node client datagram) → IsSteady greatest (CallLine reading node client datagram)
-            → Stands tree (machines_at (M.up self.old.service) greatest) (M.waits self.old.service) self.old.desk doubt self.old.calls done start (K.written out.old)
-            → DoesLine result (StandsAfter (M.holds self.new.service x) (machines_at (M.up self.new.service) (max greatest reading)) (M.waits self.new.service) self.new.desk self.new.calls (CallLine reading node client datagram) done start (K.written out.new)) (CallLine reading node client datagram) done start (K.written out.old) (K.written out.new) }
-        ensures holds { (x : Disks) (tree : Tree) (doubt : Option Doubt) → M.ready self.old.service x.sizes → M.holds self.old.service x tree doubt → OnOk result (M.holds self.new.service x tree doubt) }
-        ensures cause { IfErr result (λ stop. HasPrintCause stop (K.faults out.old) (K.faults out.new)) }
-        ensures first { UnlessWrite result (K.faults out.new ≡ K.faults out.old) }
-        ensures calls { self.new.calls ≤ self.old.calls + 1 }
-        ensures later { K.faults out.old ≤ K.faults out.new }
-        ensures keeps_telling { K.tells out.old → K.tells out.new }
-    {
-        if !is_message(datagram.bytes()) {
-            return Ok(());
-        }
-        if self.desk.is_waiting(client, datagram.bytes()) {
-            return Ok(());
-        }
-        if let Some(reply) = self.desk.kept(client, datagram.bytes()) {
-            let reply = Raw::of(alloc, reply.bytes())?;
-            return print_lines(
-                &mut self.text,
-                &[TraceLine::Again {
-                    node,
-                    client,
-                    reply,
-                }],
-                out,
-            );
-        }
-        if self.desk.is_full() {
-            return Ok(());
-        }
-        self.take(alloc, node, client, datagram, out)
-    }
-
-    /// Takes a call that is new.
-    fn take<K: Sink>(
-        &mut self,
-        alloc: Global,
-        node: u32,
-        client: u32,
-        datagram: Raw,
-        out: &mut K,
-    ) -> Result<(), Stop>
-        requires up { M.up self.old.service ≡ true }
-        requires message { is_call datagram ≡ true }
-        requires new { list_any (is_from client datagram) self.old.desk.waits ≡ false }
-        requires none_kept { reply_of self.old.desk.kept client datagram ≡ None }
-        requires room { nat_le 64 (length self.old.desk.waits) ≡ false }
-        requires node { node ≡ 0 }
-        requires few { self.old.calls < 2 ^ 32 }
-        requires latest { M.latest self.old.service ≡ self.old.calls }
-        ensures latest { OnOk result (M.latest self.new.service ≡ self.new.calls) }
-        ensures ready { (sizes : List ℕ) → M.ready self.old.service sizes → OnOk result (M.ready self.new.service sizes) }
-        ensures up { OnOk result (M.up self.new.service ≡ true) }
-        ensures takes { (greatest reading : ℕ) (x : Disks) (tree : Tree) (doubt : Option Doubt) (done : List Done) (start : List ℕ) → K.tells out.old → M.ready self.old.service x.sizes → M.holds self.old.service x tree doubt → length done < 4294967295
-            → IsInPlace false (CallLine reading node client datagram) → IsSteady greatest (CallLine reading node client datagram)
-            → Stands tree (machines_at (M.up self.old.service) greatest) (M.waits self.old.service) self.old.desk doubt self.old.calls done start (K.written out.old)
-            → DoesLine result (StandsAfter (M.holds self.new.service x) (machines_at (M.up self.new.service) (max greatest reading)) (M.waits self.new.service) self.new.desk self.new.calls (CallLine reading node client datagram) done start (K.written out.new)) (CallLine reading node client datagram) done start (K.written out.old) (K.written out.new) }
-        ensures holds { (x : Disks) (tree : Tree) (doubt : Option Doubt) → M.ready self.old.service x.sizes → M.holds self.old.service x tree doubt → OnOk result (M.holds self.new.service x tree doubt) }
-        ensures cause { IfErr result (λ stop. HasPrintCause stop (K.faults out.old) (K.faults out.new)) }
-        ensures first { UnlessWrite result (K.faults out.new ≡ K.faults out.old) }
-        ensures calls { self.new.calls ≤ self.old.calls + 1 }
-        ensures later { K.faults out.old ≤ K.faults out.new }
-        ensures keeps_telling { K.tells out.old → K.tells out.new }
-    {
-        let call = self.calls + 1;
-        let bytes = Raw::of(alloc, datagram.bytes())?;
-        self.desk.take(alloc, call, client, datagram.bytes())?;
-        let lines = [TraceLine::Took {
-            call,
-            node,
-            client,
-            datagram,
-        }];
-        print_lines(&mut self.text, &lines, out)?;
-        self.service.arrive(call, client, bytes)?;
-        self.calls = call;
-        Ok(())
     }
 }

@@ -1,6 +1,6 @@
 //! Services.
 
-ghost use Rattle.std.specs.Prelude.{◌≡◌, ◌≢◌, ◌<◌, ◌≤◌, ◌++◌, ◌∷◌, [], ℕ, Bool, true, false, List, Option, None, IfNone, IfOk, IsErrOf, OnErr, OnOk};
+ghost use Rattle.std.specs.Prelude.{◌≡◌, ◌≢◌, ◌<◌, ◌≤◌, ◌++◌, ◌∷◌, [], ℕ, Bool, true, false, List, Option, None, IfNone, IfOk, IfSome, IsErrOf, OnErr, OnOk};
 ghost use Rattle.bx_base.specs.Faults.{Rose};
 ghost use Rattle.bx_disk.specs.declared.fault.RackError.TheVariants.{Fault, OutOfMemory as NoMemory};
 ghost use Rattle.bx_disk.specs.Disks.{Disks};
@@ -8,9 +8,11 @@ ghost use Rattle.bx_history.specs.Trace.{Taking};
 ghost use Rattle.bx_model.specs.declared.tree.Tree.{Tree};
 ghost use Rattle.bx_model.specs.Opening.{opening};
 ghost use Rattle.bx_rpc.specs.Message.{is_message};
-ghost use Rattle.bx_service.specs.Rounds.{Doubt, IsCrashed, On, Restarts, Rounds, Shows};
+ghost use Rattle.bx_service.specs.AtOnce.{IsAtOnce};
+ghost use Rattle.bx_service.specs.Rounds.{Doubt, IsCrashed, On, Restarts, Rounds, Shows, deed_at};
+ghost use Rattle.bx_steps.specs.Steps.{Step};
 
-use crate::event::Event;
+use crate::event::{Acted, Event};
 use bx_base::{CallNo, OutOfMemory, Point, Raw};
 use bx_disk::{Rack, RackError};
 use std::alloc::Global;
@@ -82,6 +84,23 @@ pub trait Service: Drop {
         ensures ready { (sizes : List ℕ) → ready self.old sizes → OnOk result (ready self.new sizes) }
         ensures waits { OnOk result (waits self.new ≡ waits self.old ++ record { call = call; node = 0; client = client; bytes = datagram } ∷ []) }
         ensures holds { (x : Disks) (tree : Tree) (doubt : Option Doubt) → ready self.old x.sizes → holds self.old x tree doubt → OnOk result (holds self.new x tree doubt) };
+
+    /// A call that touches no block is answered, with its number, at a moment in milliseconds; `None` exactly where the datagram is no such
+    /// call. Whatever else waits or is under way, it makes one step of the file tree, which leaves it as it is, and nothing else changes.
+    fn answer(
+        &self,
+        call: CallNo,
+        client: u32,
+        datagram: &[u8],
+        moment: u64,
+    ) -> Result<Option<Acted>, OutOfMemory>
+        requires up { up self.now ≡ true }
+        requires moment { moment ≤ 4294967295999 }
+        ensures some { IfOk result (λ found. IfSome found (λ acted. IsAtOnce datagram.now)) }
+        ensures none { IfOk result (λ found. IfNone found (IsAtOnce datagram.now → ⊥)) }
+        ensures at { IfOk result (λ found. IfSome found (λ acted. (acted.point.call ≡ call) × (acted.point.moment ≡ moment))) }
+        ensures steps { (x : Disks) (tree : Tree) (doubt : Option Doubt) → ready self.now x.sizes → holds self.now x tree doubt
+            → IfOk result (λ found. IfSome found (λ acted. Step tree (deed_at (record { call = call; node = 0; client = client; bytes = datagram.now }) acted.point acted.reply) tree)) };
 
     /// Its clock ticks: where no call waits, a tidy begins. It takes no memory.
     fn tick(&mut self)

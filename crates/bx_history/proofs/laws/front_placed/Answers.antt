@@ -2,4 +2,4 @@ use Rattle.bx_history.proofs.Fronts.{front_placed}
 use Rattle.bx_history.proofs.laws.front_placed.Goals as goal
 
 pub returns : goal.returns
-returns c = front_placed
+returns g c = front_placed g.S.Stage.rules

@@ -39,7 +39,7 @@ lines-init g c =
         few = omega arith;
         most = began.most ∙ c.requires.most;
       };
-      latest = began.latest;
+      latest = omega (arith, began.latest);
       ready = began.ready;
       source_same = began.first;
       sink_same = refl;

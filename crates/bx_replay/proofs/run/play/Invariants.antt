@@ -10,7 +10,7 @@ use Rattle.bx_replay.proofs.run.play.Given as goal
 abbrev pub invariant-lines : goal.invariant-lines
 invariant-lines g l = record {
   running : IsRunning l.replay.calls l.number l.reader;
-  latest : g.M.Service.latest l.replay.service ≡ l.replay.calls;
+  latest : g.M.Service.latest l.replay.service ≤ l.replay.calls;
   ready : g.M.Service.ready l.replay.service (g.B.Rack.state l.bench).sizes;
   source_same : g.S.Source.faults l.input ≡ g.S.Source.faults l.fn.input;
   sink_same : g.K.Sink.faults l.out ≡ g.K.Sink.faults l.fn.out;

@@ -1,4 +1,4 @@
-use Rattle.std.proofs.Common.{[], refl, sym, ◌∙◌}
+use Rattle.std.proofs.Common.{[], arith, refl}
 use Rattle.std.proofs.lemmas.Result.{IfErr-weaker, on_ok_weaker}
 use Rattle.bx_replay.proofs.Causes.{call_no_tick, crash_no_tick, on_ok, restart_no_tick, run_no_tick, same_least, same_most, step_printed, unless_write}
 use Rattle.bx_replay.proofs.Courses.{ok_under}
@@ -11,11 +11,11 @@ returns-in-Call g c =
     let done = c.call.ensures in
     record {
       does = λ tree doubt greatest past start sink_tells bench_tells holds room steady stands.
-          rw c.in-Call.is (done.does greatest _ (g.B.Rack.state c.args.bench.now) tree doubt past start sink_tells c.requires.ready holds room (rw c.in-Call.is at c.requires.in_place) (rw c.in-Call.is at steady) stands);
+          rw c.in-Call.is (done.does greatest (g.B.Rack.state c.args.bench.now) tree doubt past start sink_tells c.requires.ready holds room (rw c.in-Call.is at c.requires.in_place) (rw c.in-Call.is at steady) stands);
       holds = λ tree doubt bench_tells holds. on_ok_weaker c.call.result (λ held. (tree, doubt, held)) (done.holds (g.B.Rack.state c.args.bench.now) tree doubt c.requires.ready holds);
       latest = done.latest;
       ready = done.ready _ c.requires.ready;
-      hears = rw c.in-Call.is (done.hears _);
+      hears = rw c.in-Call.is done.hears;
       moves = λ tree doubt bench_tells holds. rw c.in-Call.is (on_ok c.call.result (record { disks = refl; works = tt }));
       ticks = λ reading node is idle. absurd (call_no_tick _ reading node _ _ _ _ c.in-Call.is is);
       cause = done.cause;
@@ -40,7 +40,7 @@ returns-in-Run g c =
             stands = stands_silent tree _ _ _ doubt _ past start _ room stands _ _ tt (rw c.in-Run.is at c.requires.in_place) (tt, rw c.in-Run.is at steady, tt) refl;
           }));
       holds = done.holds;
-      latest = on_ok_weaker c.run.result (λ latest. latest ∙ c.requires.latest ∙ sym done.calls) done.latest;
+      latest = on_ok_weaker c.run.result (λ latest. omega (arith, latest, c.requires.latest, done.calls)) done.latest;
       ready = done.ready;
       hears = rw c.in-Run.is (hears_line c.run.result _ _ _ _ _ done.cause tt done.up);
       moves = λ tree doubt bench_tells holds. rw c.in-Run.is (on_ok_weaker c.run.result (λ run. record { disks = (done.sizes, done.down); works = run }) done.ends);
@@ -61,7 +61,7 @@ returns-in-Crash g c =
       does = λ tree doubt greatest past start sink_tells bench_tells holds room steady stands.
           rw c.in-Crash.is (done.crashes tree doubt greatest past start _ _ bench_tells holds room (rw c.in-Crash.is at c.requires.in_place) stands);
       holds = λ tree doubt bench_tells holds. on_ok_weaker c.crash.result (λ held. (tree, doubt, held)) (done.holds tree doubt bench_tells holds);
-      latest = on_ok_weaker c.crash.result (λ latest. latest ∙ c.requires.latest ∙ sym done.calls) done.latest;
+      latest = on_ok_weaker c.crash.result (λ latest. omega (arith, latest, c.requires.latest, done.calls)) done.latest;
       ready = done.ready;
       hears = rw c.in-Crash.is (hears_line c.crash.result _ _ _ 0 0 (done.cause 0 0) tt done.up);
       moves = λ tree doubt bench_tells holds. rw c.in-Crash.is (on_ok_weaker c.crash.result (λ noise. record { disks = noise; works = tt }) (done.noise bench_tells));
@@ -82,7 +82,7 @@ returns-in-Restart g c =
       does = λ tree doubt greatest past start sink_tells bench_tells holds room steady stands.
           rw c.in-Restart.is (done.restarts tree doubt greatest _ past start sink_tells bench_tells holds room (rw c.in-Restart.is at c.requires.in_place) (rw c.in-Restart.is at steady) stands);
       holds = done.holds;
-      latest = on_ok_weaker c.restart.result (λ latest. latest ∙ c.requires.latest ∙ sym done.calls) done.latest;
+      latest = on_ok_weaker c.restart.result (λ latest. omega (arith, latest, c.requires.latest, done.calls)) done.latest;
       ready = done.ready;
       hears = rw c.in-Restart.is (hears_line c.restart.result _ _ _ _ _ done.cause tt done.up);
       moves = λ tree doubt bench_tells holds.
@@ -105,7 +105,7 @@ returns-in-Tick g c =
       does = λ tree doubt greatest past start sink_tells bench_tells holds room steady stands.
           rw c.in-Tick.is (done.does greatest _ _ (g.B.Rack.state c.args.bench.now) tree doubt past start _ holds room (rw c.in-Tick.is at c.requires.in_place) (rw c.in-Tick.is at c.requires.there) (rw c.in-Tick.is at steady) stands);
       holds = λ tree doubt bench_tells holds. on_ok c.tick.result (tree, doubt, done.holds (g.B.Rack.state c.args.bench.now) tree doubt holds);
-      latest = on_ok c.tick.result (done.latest ∙ c.requires.latest ∙ sym done.calls);
+      latest = on_ok c.tick.result (omega (arith, done.latest, c.requires.latest, done.calls));
       ready = on_ok c.tick.result (done.ready _ c.requires.ready);
       hears = rw c.in-Tick.is (done.hears _ _);
       moves = λ tree doubt bench_tells holds. rw c.in-Tick.is (on_ok c.tick.result (record { disks = refl; works = tt }));

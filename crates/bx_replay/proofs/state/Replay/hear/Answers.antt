@@ -13,54 +13,54 @@ use Rattle.bx_replay.proofs.Standing.{passed_at, repeated_at, stands_ignored, st
 use Rattle.bx_replay.proofs.state.Replay.hear.Goals as goal
 
 pub returns-then-not-is_message-clause-hears : goal.returns-then-not-is_message-clause-hears
-returns-then-not-is_message-clause-hears g c = λ greatest reading x tree doubt done start tells ready holds room place steady stands.
-    let none : is_message c.args.datagram ≡ false = rw c.bytes.ensures at (sym c.is_message.ensures ∙ c.if-not-is_message.true) in
-    let passed = no_call rules refl refl 0 (parts_of done) c.args.self.now.desk stands.desk_is c.args.client c.args.datagram none in
+returns-then-not-is_message-clause-hears g c = λ greatest x tree doubt done start tells ready holds room place steady stands.
+    let none : is_message c.args.incoming.datagram ≡ false = rw c.bytes-datagram.ensures at (sym c.is_message.ensures ∙ c.if-not-is_message.true) in
+    let passed = no_call rules refl refl 0 (parts_of done) c.args.self.now.desk stands.desk_is c.args.incoming.client c.args.incoming.datagram none in
     record {
       tree = tree;
       doubt = doubt;
       holds = holds;
       lines = [];
-      stands = stands_ignored tree _ _ _ doubt _ done start _ room stands reading c.args.node c.args.client c.args.datagram (c.requires.node, steady, c.requires.up) (passed_at (parts_of done) c.args.node _ _ c.requires.node passed) place;
+      stands = stands_ignored tree _ _ _ doubt _ done start _ room stands c.args.incoming.reading c.args.incoming.node c.args.incoming.client c.args.incoming.datagram (c.requires.node, steady, c.requires.up) (passed_at (parts_of done) c.args.incoming.node _ _ c.requires.node passed) place;
     }
 
 pub returns-then-is_waiting-clause-hears : goal.returns-then-is_waiting-clause-hears
-returns-then-is_waiting-clause-hears g c = λ greatest reading x tree doubt done start tells ready holds room place steady stands.
-    let call : is_message c.args.datagram ≡ true = rw c.bytes.ensures at (sym c.is_message.ensures ∙ c.if-not-is_message.false) in
-    let waits : list_any (is_from c.args.client c.args.datagram) c.args.self.now.desk.waits ≡ true = rw c.bytes-2.ensures at (sym c.is_waiting.ensures ∙ c.if-is_waiting.true) in
-    let passed = waits_still rules refl refl 0 (parts_of done) c.args.self.now.desk stands.desk_is c.args.client c.args.datagram call waits in
+returns-then-is_waiting-clause-hears g c = λ greatest x tree doubt done start tells ready holds room place steady stands.
+    let call : is_message c.args.incoming.datagram ≡ true = rw c.bytes-datagram.ensures at (sym c.is_message.ensures ∙ c.if-not-is_message.false) in
+    let waits : list_any (is_from c.args.incoming.client c.args.incoming.datagram) c.args.self.now.desk.waits ≡ true = rw c.bytes-datagram.ensures at (sym c.is_waiting.ensures ∙ c.if-is_waiting.true) in
+    let passed = waits_still rules refl refl 0 (parts_of done) c.args.self.now.desk stands.desk_is c.args.incoming.client c.args.incoming.datagram call waits in
     record {
       tree = tree;
       doubt = doubt;
       holds = holds;
       lines = [];
-      stands = stands_ignored tree _ _ _ doubt _ done start _ room stands reading c.args.node c.args.client c.args.datagram (c.requires.node, steady, c.requires.up) (passed_at (parts_of done) c.args.node _ _ c.requires.node passed) place;
+      stands = stands_ignored tree _ _ _ doubt _ done start _ room stands c.args.incoming.reading c.args.incoming.node c.args.incoming.client c.args.incoming.datagram (c.requires.node, steady, c.requires.up) (passed_at (parts_of done) c.args.incoming.node _ _ c.requires.node passed) place;
     }
 
 pub returns-then-is_full-clause-hears : goal.returns-then-is_full-clause-hears
-returns-then-is_full-clause-hears g c = λ greatest reading x tree doubt done start tells ready holds room place steady stands.
-    let call : is_message c.args.datagram ≡ true = rw c.bytes.ensures at (sym c.is_message.ensures ∙ c.if-not-is_message.false) in
-    let none : reply_of c.args.self.now.desk.kept c.args.client c.args.datagram ≡ None = rw c.bytes-3.ensures at (sym c.in_default.ensures.reply) in
-    let passed = crowded rules refl refl 0 (parts_of done) c.args.self.now.desk stands.desk_is c.args.client c.args.datagram call none (sym c.is_full.ensures ∙ c.if-is_full.true) in
+returns-then-is_full-clause-hears g c = λ greatest x tree doubt done start tells ready holds room place steady stands.
+    let call : is_message c.args.incoming.datagram ≡ true = rw c.bytes-datagram.ensures at (sym c.is_message.ensures ∙ c.if-not-is_message.false) in
+    let none : reply_of c.args.self.now.desk.kept c.args.incoming.client c.args.incoming.datagram ≡ None = rw c.bytes-datagram.ensures at (sym c.in_default.ensures.reply) in
+    let passed = crowded rules refl refl 0 (parts_of done) c.args.self.now.desk stands.desk_is c.args.incoming.client c.args.incoming.datagram call none (sym c.is_full.ensures ∙ c.if-is_full.true) in
     record {
       tree = tree;
       doubt = doubt;
       holds = holds;
       lines = [];
-      stands = stands_ignored tree _ _ _ doubt _ done start _ room stands reading c.args.node c.args.client c.args.datagram (c.requires.node, steady, c.requires.up) (passed_at (parts_of done) c.args.node _ _ c.requires.node passed) place;
+      stands = stands_ignored tree _ _ _ doubt _ done start _ room stands c.args.incoming.reading c.args.incoming.node c.args.incoming.client c.args.incoming.datagram (c.requires.node, steady, c.requires.up) (passed_at (parts_of done) c.args.incoming.node _ _ c.requires.node passed) place;
     }
 
 pub returns-in-Some-clause-hears : goal.returns-in-Some-clause-hears
-returns-in-Some-clause-hears g c = λ greatest reading x tree doubt done start tells ready holds room place steady stands.
-    let reply = c.in_ok-reply.reply in
-    let call : is_message c.args.datagram ≡ true = rw c.bytes.ensures at (sym c.is_message.ensures ∙ c.if-not-is_message.false) in
-    let waits : list_any (is_from c.args.client c.args.datagram) c.args.self.now.desk.waits ≡ false = rw c.bytes-2.ensures at (sym c.is_waiting.ensures ∙ c.if-is_waiting.false) in
-    let kept : reply_of c.args.self.now.desk.kept c.args.client c.args.datagram ≡ Some c.in-Some.reply.now = rw c.bytes-3.ensures at (sym c.in-Some.ensures.reply) in
-    let same : reply ≡ c.in-Some.reply.now = c.in_ok-reply.ensures ∙ c.bytes-in-Some.ensures in
-    let repeated = was_answered rules refl refl 0 (parts_of done) c.args.self.now.desk stands.desk_is c.args.client c.args.datagram reply call (stands.accounts.split 0) c.in-Some.ensures.apart waits (rw same kept) in
+returns-in-Some-clause-hears g c = λ greatest x tree doubt done start tells ready holds room place steady stands.
+    let reply = c.in_ok-of.field-0 in
+    let call : is_message c.args.incoming.datagram ≡ true = rw c.bytes-datagram.ensures at (sym c.is_message.ensures ∙ c.if-not-is_message.false) in
+    let waits : list_any (is_from c.args.incoming.client c.args.incoming.datagram) c.args.self.now.desk.waits ≡ false = rw c.bytes-datagram.ensures at (sym c.is_waiting.ensures ∙ c.if-is_waiting.false) in
+    let kept : reply_of c.args.self.now.desk.kept c.args.incoming.client c.args.incoming.datagram ≡ Some c.in-Some.reply.now = rw c.bytes-datagram.ensures at (sym c.in-Some.ensures.reply) in
+    let same : reply ≡ c.in-Some.reply.now = c.in_ok-of.ensures ∙ c.bytes.ensures in
+    let repeated = was_answered rules refl refl 0 (parts_of done) c.args.self.now.desk stands.desk_is c.args.incoming.client c.args.incoming.datagram reply call (stands.accounts.split 0) c.in-Some.ensures.apart waits (rw same kept) in
     let printed = c.print_lines.ensures in
-    printed_line tree _ _ _ doubt _ (Call reading c.args.node c.args.client c.args.datagram) (Again c.args.node c.args.client reply ∷ []) done start c.print_lines.result _ _ _ _ _ _ _ _ stands.output
+    printed_line tree _ _ _ doubt _ (Call c.args.incoming.reading c.args.incoming.node c.args.incoming.client c.args.incoming.datagram) (Again c.args.incoming.node c.args.incoming.client reply ∷ []) done start c.print_lines.result _ _ _ _ _ _ _ _ stands.output
     printed.cause (printed.prints tells) printed.in_range
-    (λ in_range. stands_repeated tree _ _ _ doubt _ done start _ room stands reading c.args.node c.args.client c.args.datagram reply _ (c.requires.node, steady, c.requires.up)
-    (repeated_at (parts_of done) c.args.node _ _ reply c.requires.node repeated) place in_range refl)
-    (λ after. record { tree = tree; doubt = doubt; holds = holds; lines = Again c.args.node c.args.client reply ∷ []; stands = after })
+    (λ in_range. stands_repeated tree _ _ _ doubt _ done start _ room stands c.args.incoming.reading c.args.incoming.node c.args.incoming.client c.args.incoming.datagram reply _ (c.requires.node, steady, c.requires.up)
+    (repeated_at (parts_of done) c.args.incoming.node _ _ reply c.requires.node repeated) place in_range refl)
+    (λ after. record { tree = tree; doubt = doubt; holds = holds; lines = Again c.args.incoming.node c.args.incoming.client reply ∷ []; stands = after })

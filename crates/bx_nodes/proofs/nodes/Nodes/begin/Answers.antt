@@ -5,7 +5,7 @@ use Rattle.bx_node_cache.specs.Kept.{held_in, hint_in}
 use Rattle.bx_nodes.specs.Logging.{IsFairBegun, IsLogging}
 use Rattle.bx_nodes.specs.declared.machine.Machine.{Machine}
 use Rattle.bx_nodes.specs.declared.machine.Stage.TheVariants.{Idle}
-use Rattle.bx_nodes.proofs.Beginning.{begun_there, held_draft}
+use Rattle.bx_nodes.proofs.Beginning.{begun_there, held_draft, numbered}
 use Rattle.bx_nodes.proofs.Fitting.{begin_fits, begun_logging}
 use Rattle.bx_nodes.proofs.Machines.{of_there, put_there, set_there, was_there}
 use Rattle.bx_nodes.proofs.nodes.Nodes.begin.Goals as goal
@@ -111,7 +111,8 @@ returns-clause-logging g c =
     (subst (λ m. IsLogging m (g.S.Store.own c.write.new.self c.args.node) c.begin.new.self) (sym wrote.made)
     (subst (λ o. IsLogging made o c.begin.new.self) (sym (wrote.stays c.args.node).0)
     (begun_logging made own before c.begin.new.self (of_there (IsLogging made own) (slice_get items c.args.node) before was c.requires.logging) c.asked_by-recording.result c.in_ok-runs.runs c.in_ok-runs.ensures
-    (of_there (λ (m : Machine). m.stage ≡ Idle) (slice_get items c.args.node) before was c.requires.idle))))
+    (of_there (λ (m : Machine). m.stage ≡ Idle) (slice_get items c.args.node) before was c.requires.idle)
+    (numbered c.args.moment c.args.begun.call c.args.begun.attempt c.asked_by-recording.result c.asked_by-recording.ensures))))
 
 pub returns-clause-others : goal.returns-clause-others
 returns-clause-others g c = record { others = λ other ne. set_there c.args.self.now.machines.items c.args.node other c.begin.new.self ne }

@@ -48,7 +48,7 @@ held_draft moment areas held path call (attempts.Inner draft) recording asks fai
 held_draft moment areas held path call (attempts.Answer done) recording asks fair = absurd asks
 
 -- its point has its call's number
-numbered : (moment : ℕ) (call : Waiting) (attempt : Attempt) (recording : Recording) → Asks moment call attempt recording → recording.point.call ≡ number_of (replying recording.pending.call)
+pub numbered : (moment : ℕ) (call : Waiting) (attempt : Attempt) (recording : Recording) → Asks moment call attempt recording → recording.point.call ≡ number_of (replying recording.pending.call)
 numbered moment call (attempts.Need wants) recording asks = absurd asks
 numbered moment call (attempts.Change draft done) recording asks = ap (λ (r : Recording). r.point.call) asks ∙ sym (ap (λ (r : Recording). number_of (replying r.pending.call)) asks)
 numbered moment call (attempts.Inner draft) recording asks = ap (λ (r : Recording). r.point.call) asks.2 ∙ sym (ap (λ (r : Recording). number_of (replying r.pending.call)) asks.2)

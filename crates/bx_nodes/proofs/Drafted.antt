@@ -49,7 +49,8 @@ of_some areas draft few are at block is =
     let both = are at block is in
     (record { area = (let a = both.0.area in omega (arith, a, few)); slot = both.0.slot }, both.1)
 
-one_write : (a b : KindAndRuns) → Write a ≡ Write b → a ≡ b
+-- Writes of the same runs.
+pub one_write : (a b : KindAndRuns) → Write a ≡ Write b → a ≡ b
 one_write a b e = cc
 
 -- A work that a log was given asks for its write first.

@@ -12,8 +12,10 @@ use Rattle.bx_layout.specs.declared.block.Block.{Block}
 use Rattle.bx_layout.specs.declared.gate.Gate.{Gate}
 use Rattle.bx_layout.specs.declared.gate.Gate.TheVariants.{Open, Closed as Shut}
 use Rattle.bx_node_cache.specs.Kept.{AreHomesOf}
+use Rattle.bx_node_machines.specs.Machines.{number_of}
 use Rattle.bx_node_tries.specs.declared.round.Said.{Said}
-use Rattle.bx_nodes.specs.Logging.{Begins, Closed, FitsStage, IsLogging, LogGoes, Rests, SendsClosing, SendsGate, SendsHomes, SendsShut}
+use Rattle.bx_nodes.specs.Logging.{Begins, Closed, FitsStage, IsLogging, IsNumbered, LogGoes, Rests, SendsClosing, SendsGate, SendsHomes, SendsShut}
+use Rattle.bx_nodes.specs.Seen.{replying}
 use Rattle.bx_nodes.specs.declared.machine.Machine.{Machine}
 use Rattle.bx_nodes.specs.declared.machine.Stage.{Stage}
 use Rattle.bx_nodes.specs.declared.machine.Stage.TheVariants as stages
@@ -158,7 +160,7 @@ module _ (made : Made) (own_store : Option ℕ) (old new : Machine) (is : IsLogg
     is_slot = is.is_slot;
     device = is.device;
     room = room_as (works.Body text point) work;
-    fits = subst (λ (s : Stage). FitsStage old.cache.areas (record old.log { work = works.Opens point; out = true }) s) (sym stage) (tt, refl, (fits_as (stages.Records pending) stage).2);
+    fits = subst (λ (s : Stage). FitsStage old.cache.areas (record old.log { work = works.Opens point; out = true }) s) (sym stage) (tt, refl, (fits_as (stages.Records pending) stage).2, subst (λ (w : Work). IsNumbered w pending.call) work (fits_as (stages.Records pending) stage).3);
   })
   still_logging runs said (SendsHomes pending point stage work now volume commits homes) = subst (λ (m : Machine). IsLogging made own_store m) (sym now) (record {
     session = is.session;
@@ -207,8 +209,8 @@ module _ (made : Made) (own_store : Option ℕ) (old new : Machine) (is : IsLogg
     begin_fits = subst (λ (r : KindAndRuns). AreRuns made r.1) (sym begins.asks)
         (body_fits made old.log is.volume is.is_slot is.device (record_of recording.point recording.pending.draft) old.cache.areas begins.logged (let none = (fits_as stages.Idle idle).1 in omega (arith, none)))
 
-    pub begun_logging : IsLogging made own_store new
-    begun_logging = subst (λ (m : Machine). IsLogging made own_store m) (sym begins.only) (record {
+    pub begun_logging : recording.point.call ≡ number_of (replying recording.pending.call) → IsLogging made own_store new
+    begun_logging numbered = subst (λ (m : Machine). IsLogging made own_store m) (sym begins.only) (record {
       session = is.session;
       volume = is.volume;
       devices = is.devices;
@@ -216,5 +218,5 @@ module _ (made : Made) (own_store : Option ℕ) (old new : Machine) (is : IsLogg
       is_slot = is.is_slot;
       device = is.device;
       room = let none = (fits_as stages.Idle idle).1 in omega (arith, none);
-      fits = (tt, refl, begins.logged.blocks);
+      fits = (tt, refl, begins.logged.blocks, numbered);
     })

@@ -4,6 +4,7 @@ use Rattle.bx_base.specs.declared.names.Point.{Point}
 use Rattle.bx_node_cache.specs.Kept.{CacheView, Settles}
 use Rattle.bx_node_machines.specs.Machines.{IsOfClosing, IsOfRecord}
 use Rattle.bx_node_tries.specs.declared.round.Said.{Said}
+use Rattle.bx_nodes.proofs.Drafted.{asks_first, one_write}
 use Rattle.bx_nodes.specs.Logging.{Closed, KeepsVolume, LogGoes, Opened, SendsClosing, SendsGate, SendsHomes, SendsShut, said_of}
 use Rattle.bx_nodes.specs.declared.machine.Machine.{Machine}
 use Rattle.bx_nodes.specs.declared.machine.Pending.{Pending}
@@ -15,9 +16,6 @@ use Rattle.bx_redo.specs.declared.work.Move.{Move}
 use Rattle.bx_redo.specs.declared.work.Move.TheVariants as moves
 use Rattle.bx_redo.specs.declared.work.Work.{Work}
 use Rattle.bx_redo.specs.declared.work.Work.TheVariants as works
-
-one_write : (a b : KindAndRuns) → moves.Write a ≡ moves.Write b → a ≡ b
-one_write a b e = cc
 
 one_point : (a b : Point) → moves.Acked a ≡ moves.Acked b → a ≡ b
 one_point a b e = cc
@@ -86,6 +84,6 @@ pub closing_sent : (old : Machine) (cache : CacheView) (closing log : LogView) (
     → Steps closing.out false closing log move → move ≡ moves.Write runs → KeepsVolume old.cache cache → Settles old.cache.kept cache.kept
     → LogGoes old (record old { cache = cache; log = log; stage = stages.Closes }) (Some runs) None
 closing_sent old cache closing log move runs stage is steps wrote volume settles =
-    let asks = subst (λ (c : LogView). Steps c.out false c log move) is steps in
-    subst (λ (r : KindAndRuns). LogGoes old (record old { cache = cache; log = log; stage = stages.Closes }) (Some r) None) (one_write (writes old.log works.Closes) runs (sym asks.asks ∙ wrote))
-    (SendsClosing stage (ap (λ (l : LogView). record old { cache = cache; log = l; stage = stages.Closes }) asks.now) volume settles)
+    let asks = asks_first old.log closing log works.Closes move runs is steps wrote in
+    subst (λ (r : KindAndRuns). LogGoes old (record old { cache = cache; log = log; stage = stages.Closes }) (Some r) None) (sym asks.1)
+    (SendsClosing stage (ap (λ (l : LogView). record old { cache = cache; log = l; stage = stages.Closes }) asks.0) volume settles)

@@ -6,11 +6,12 @@ use Rattle.bx_base.specs.declared.names.Point.{Point}
 use Rattle.bx_facts.specs.Writes.{Made, Sent}
 use Rattle.bx_layout.specs.Blocks.{HasParts}
 use Rattle.bx_node_cache.specs.Kept.{AreHomesOf, CacheView, Commits, Settles, away_in, held_in, hint_in, home_runs}
-use Rattle.bx_node_machines.specs.Machines.{IsOfClosing, IsOfRecord}
+use Rattle.bx_node_machines.specs.Machines.{IsOfClosing, IsOfRecord, number_of}
 use Rattle.bx_node_tries.specs.Tries.{IsChange, Tried}
 use Rattle.bx_node_tries.specs.declared.round.Begun.{Begun}
 use Rattle.bx_node_tries.specs.declared.round.Said.{Said}
 use Rattle.bx_node_tries.specs.declared.round.Waiting.{Waiting}
+use Rattle.bx_nodes.specs.Seen.{replying}
 use Rattle.bx_nodes.specs.declared.machine.Machine.{Machine}
 use Rattle.bx_nodes.specs.declared.machine.Pending.{Pending}
 use Rattle.bx_nodes.specs.declared.machine.Stage.{Stage}
@@ -21,6 +22,7 @@ use Rattle.bx_records.specs.Drafts.{Changed}
 use Rattle.bx_records.specs.Runs.{KindAndRuns}
 use Rattle.bx_redo.specs.Steps.{record_of, writes}
 use Rattle.bx_redo.specs.View.{HasRoom, LogView}
+use Rattle.bx_redo.specs.declared.work.Work.{Work}
 use Rattle.bx_redo.specs.declared.work.Work.TheVariants as works
 use Rattle.bx_views.specs.Attempts.{Deed}
 use Rattle.bx_views.specs.Truths.{Held, Hints, Truth}
@@ -34,10 +36,18 @@ use Rattle.bx_volume.specs.Records.{IsLogged, logged_text}
 abbrev pub AreBlocks : ℕ → List Changed → Type 0
 AreBlocks areas draft = AllByRecursion (λ change. IsBlock areas change.0 × HasParts change.1) draft
 
+-- the point of a record that is written has its call's number
+abbrev pub IsNumbered : Work → Option (Waiting × List ℕ) → Type 0
+IsNumbered works.Idle call = Unit {0}
+IsNumbered (works.Body text point) call = point.call ≡ number_of (replying call)
+IsNumbered (works.Opens point) call = point.call ≡ number_of (replying call)
+IsNumbered works.Closes call = Unit {0}
+IsNumbered works.Shuts call = Unit {0}
+
 -- What a log does goes with what it is for: where nothing, it rests and has no records; nor has it any once gate 0 is closed.
 abbrev pub FitsStage : ℕ → LogView → Stage → Type 0
 FitsStage areas log stages.Idle = (log.work ≡ works.Idle) × (log.count ≡ 0)
-FitsStage areas log (stages.Records pending) = IsOfRecord log.work × (log.out ≡ true) × AreBlocks areas pending.draft
+FitsStage areas log (stages.Records pending) = IsOfRecord log.work × (log.out ≡ true) × AreBlocks areas pending.draft × IsNumbered log.work pending.call
 FitsStage areas log stages.Homes = (log.work ≡ works.Idle) × (0 < log.count)
 FitsStage areas log stages.Closes = IsOfClosing log.work × (log.out ≡ true) × (log.work ≡ works.Shuts → log.count ≡ 0)
 

@@ -5,6 +5,7 @@ ghost use Rattle.bx_base.specs.declared.names.Actor.TheVariants.{Node};
 ghost use Rattle.bx_disk.specs.Disks.{Disks};
 ghost use Rattle.bx_facts.specs.Chains.{LivesIn, last};
 ghost use Rattle.bx_node_machines.specs.Nodes.{NodesStand};
+ghost use Rattle.bx_nodes.specs.Joined.{IsJoined};
 ghost use Rattle.bx_nodes.specs.Logging.{BeginsBy, IsFairBegun, IsLogging, StepsLog};
 ghost use Rattle.bx_nodes.specs.Seen.{seen};
 ghost use Rattle.bx_nodes.specs.Turns.{OnlyMachine, Turned};
@@ -44,6 +45,8 @@ impl<G: Register, O: Owners, S: Store, E: Engine> Nodes<G, O, S, E> {
             → OnOk result (Turned (E.step self.old.engine) (NodesStand G.Register O.Owners S.Store (E.stands self.new.engine) (E.step self.new.engine) self.new.register self.new.owners self.new.store x (letters ++ out.new) clocks (seen self.new.machines.items)) c tree []) }
         ensures begins { OnOk result (IfSome (slice_get self.old.machines.items node) (λ old. IfSome (slice_get self.new.machines.items node) (BeginsBy moment begun (S.own self.old.store node) until (S.out_of self.new.store node) old))) }
         ensures logging { OnOk result (IfSome (slice_get self.new.machines.items node) (IsLogging (S.made self.new.store) (S.own self.new.store node))) }
+        ensures joined { IfSome (slice_get self.old.machines.items node) (IsJoined (S.made self.old.store) (E.areas self.old.engine) (O.own self.old.owners node) (S.own self.old.store node) (S.asked self.old.store node))
+            → OnOk result (IfSome (slice_get self.new.machines.items node) (IsJoined (S.made self.new.store) (E.areas self.new.engine) (O.own self.new.owners node) (S.own self.new.store node) (S.asked self.new.store node))) }
         ensures store { (other : ℕ) → (S.own self.new.store other ≡ S.own self.old.store other) × (S.asked self.new.store other ≡ S.asked self.old.store other) × (S.answer self.new.store other ≡ S.answer self.old.store other) }
         ensures elsewhere { (other : ℕ) → other ≢ node → S.out_of self.new.store other ≡ S.out_of self.old.store other }
         ensures parts { (self.new.register ≡ self.old.register) × (self.new.owners ≡ self.old.owners) × (self.new.engine ≡ self.old.engine) × (S.made self.new.store ≡ S.made self.old.store) }
@@ -71,6 +74,8 @@ impl<G: Register, O: Owners, S: Store, E: Engine> Nodes<G, O, S, E> {
             → IfOk result (λ said. Turned (E.step self.old.engine) (NodesStand G.Register O.Owners S.Store (E.stands self.new.engine) (E.step self.new.engine) self.new.register self.new.owners self.new.store x (letters ++ out.new) clocks (seen self.new.machines.items)) c tree (option_to_list said)) }
         ensures steps { IfOk result (λ said. IfSome (slice_get self.old.machines.items node) (λ old. IfSome (slice_get self.new.machines.items node) (λ new. StepsLog (S.own self.old.store node) until (S.out_of self.old.store node) (S.out_of self.new.store node) old new said))) }
         ensures logging { OnOk result (IfSome (slice_get self.new.machines.items node) (IsLogging (S.made self.new.store) (S.own self.new.store node))) }
+        ensures joined { IfSome (slice_get self.old.machines.items node) (IsJoined (S.made self.old.store) (E.areas self.old.engine) (O.own self.old.owners node) (S.own self.old.store node) (S.asked self.old.store node))
+            → OnOk result (IfSome (slice_get self.new.machines.items node) (IsJoined (S.made self.new.store) (E.areas self.new.engine) (O.own self.new.owners node) (S.own self.new.store node) (S.asked self.new.store node))) }
         ensures store { (other : ℕ) → (S.own self.new.store other ≡ S.own self.old.store other) × (S.asked self.new.store other ≡ S.asked self.old.store other) × (S.answer self.new.store other ≡ S.answer self.old.store other) }
         ensures elsewhere { (other : ℕ) → other ≢ node → S.out_of self.new.store other ≡ S.out_of self.old.store other }
         ensures parts { (self.new.register ≡ self.old.register) × (self.new.owners ≡ self.old.owners) × (self.new.engine ≡ self.old.engine) × (S.made self.new.store ≡ S.made self.old.store) }

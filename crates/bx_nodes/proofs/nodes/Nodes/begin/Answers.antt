@@ -2,12 +2,14 @@ use Rattle.std.proofs.Common.{◌≡◌, ◌∙◌, Some, sym, ap, subst}
 use Rattle.std.specs.Prelude.{slice_get}
 use Rattle.std.proofs.lemmas.Option.{slice_get-get_or}
 use Rattle.bx_node_cache.specs.Kept.{held_in, hint_in}
+use Rattle.bx_nodes.specs.Joined.{IsJoined}
 use Rattle.bx_nodes.specs.Logging.{IsFairBegun, IsLogging}
 use Rattle.bx_nodes.specs.declared.machine.Machine.{Machine}
 use Rattle.bx_nodes.specs.declared.machine.Stage.TheVariants.{Idle}
-use Rattle.bx_nodes.proofs.Beginning.{begun_there, held_draft}
+use Rattle.bx_nodes.proofs.Beginning.{begun_there, held_draft, numbered}
 use Rattle.bx_nodes.proofs.Fitting.{begin_fits, begun_logging}
 use Rattle.bx_nodes.proofs.Machines.{of_there, put_there, set_there, was_there}
+use Rattle.bx_nodes.proofs.Staying.{joined_at, joined_begun}
 use Rattle.bx_nodes.proofs.nodes.Nodes.begin.Goals as goal
 
 pub begin-requires-clause-held : goal.begin-requires-clause-held
@@ -111,7 +113,25 @@ returns-clause-logging g c =
     (subst (λ m. IsLogging m (g.S.Store.own c.write.new.self c.args.node) c.begin.new.self) (sym wrote.made)
     (subst (λ o. IsLogging made o c.begin.new.self) (sym (wrote.stays c.args.node).0)
     (begun_logging made own before c.begin.new.self (of_there (IsLogging made own) (slice_get items c.args.node) before was c.requires.logging) c.asked_by-recording.result c.in_ok-runs.runs c.in_ok-runs.ensures
-    (of_there (λ (m : Machine). m.stage ≡ Idle) (slice_get items c.args.node) before was c.requires.idle))))
+    (of_there (λ (m : Machine). m.stage ≡ Idle) (slice_get items c.args.node) before was c.requires.idle)
+    (numbered c.args.moment c.args.begun.call c.args.begun.attempt c.asked_by-recording.result c.asked_by-recording.ensures))))
 
 pub returns-clause-others : goal.returns-clause-others
 returns-clause-others g c = record { others = λ other ne. set_there c.args.self.now.machines.items c.args.node other c.begin.new.self ne }
+
+pub returns-clause-joined : goal.returns-clause-joined
+returns-clause-joined g c = λ is.
+    let self = c.args.self.now in
+    let items = self.machines.items in
+    let before = c.index_mut.result.now in
+    let was : slice_get items c.args.node ≡ Some before = slice_get-get_or items c.args.node before c.requires.there ∙ ap (λ (m : Machine). Some m) (sym c.index_mut.ensures.value) in
+    let made = g.S.Store.made self.store in
+    let areas = g.E.Engine.areas self.engine in
+    let own = g.O.Owners.own self.owners c.args.node in
+    let own_store = g.S.Store.own self.store c.args.node in
+    let asked = g.S.Store.asked self.store c.args.node in
+    let later = c.write.new.self in
+    let wrote = c.in_ok-write.ensures in
+    put_there (IsJoined (g.S.Store.made later) areas own (g.S.Store.own later c.args.node) (g.S.Store.asked later c.args.node)) items c.args.node c.begin.new.self before was
+    (joined_at made (g.S.Store.made later) areas own own_store (g.S.Store.own later c.args.node) asked (g.S.Store.asked later c.args.node) c.begin.new.self wrote.made (wrote.stays c.args.node).0 (wrote.stays c.args.node).1
+    (joined_begun made areas own own_store asked before c.begin.new.self (of_there (IsJoined made areas own own_store asked) (slice_get items c.args.node) before was is) c.asked_by-recording.result c.in_ok-runs.runs c.in_ok-runs.ensures))

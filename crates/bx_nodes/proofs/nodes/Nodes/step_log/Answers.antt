@@ -2,10 +2,12 @@ use Rattle.std.proofs.Common.{◌≡◌, ◌∙◌, Option, Some, None, refl, ru
 use Rattle.std.specs.Prelude.{slice_get}
 use Rattle.std.proofs.lemmas.Option.{slice_get-get_or}
 use Rattle.bx_facts.specs.Writes.{Sent}
+use Rattle.bx_nodes.specs.Joined.{IsJoined}
 use Rattle.bx_nodes.specs.Logging.{IsLogging, LogGoes, StepsLog}
 use Rattle.bx_nodes.specs.declared.machine.Machine.{Machine}
 use Rattle.bx_nodes.proofs.Fitting.{step_fits, still_logging}
 use Rattle.bx_nodes.proofs.Machines.{of_there, put_there, set_there, was_there}
+use Rattle.bx_nodes.proofs.Staying.{joined_at, joined_on}
 use Rattle.bx_nodes.proofs.Stepping.{rested, went}
 use Rattle.bx_nodes.proofs.nodes.Nodes.step_log.Goals as goal
 
@@ -138,3 +140,34 @@ returns-clause-logging g c =
 
 pub returns-clause-others : goal.returns-clause-others
 returns-clause-others g c = record { others = λ other ne. set_there c.args.self.now.machines.items c.args.node other c.log_on.new.self ne }
+
+pub returns-in_default-clause-joined : goal.returns-in_default-clause-joined
+returns-in_default-clause-joined g c = λ is.
+    let self = c.args.self.now in
+    let items = self.machines.items in
+    let before = c.index_mut.result.now in
+    let was : slice_get items c.args.node ≡ Some before = slice_get-get_or items c.args.node before c.requires.there ∙ ap (λ (m : Machine). Some m) (sym c.index_mut.ensures.value) in
+    let made = g.S.Store.made self.store in
+    let areas = g.E.Engine.areas self.engine in
+    let own = g.O.Owners.own self.owners c.args.node in
+    let own_store = g.S.Store.own self.store c.args.node in
+    let asked = g.S.Store.asked self.store c.args.node in
+    put_there (IsJoined made areas own own_store asked) items c.args.node c.log_on.new.self before was
+    (joined_on made areas own own_store asked before c.log_on.new.self (of_there (IsJoined made areas own own_store asked) (slice_get items c.args.node) before was is) c.in_ok-runs.field-0.runs c.in_ok-runs.field-0.said c.in_ok-runs.ensures)
+
+pub returns-clause-joined : goal.returns-clause-joined
+returns-clause-joined g c = λ is.
+    let self = c.args.self.now in
+    let items = self.machines.items in
+    let before = c.index_mut.result.now in
+    let was : slice_get items c.args.node ≡ Some before = slice_get-get_or items c.args.node before c.requires.there ∙ ap (λ (m : Machine). Some m) (sym c.index_mut.ensures.value) in
+    let made = g.S.Store.made self.store in
+    let areas = g.E.Engine.areas self.engine in
+    let own = g.O.Owners.own self.owners c.args.node in
+    let own_store = g.S.Store.own self.store c.args.node in
+    let asked = g.S.Store.asked self.store c.args.node in
+    let later = c.write.new.self in
+    let wrote = c.in_ok-write.ensures in
+    put_there (IsJoined (g.S.Store.made later) areas own (g.S.Store.own later c.args.node) (g.S.Store.asked later c.args.node)) items c.args.node c.log_on.new.self before was
+    (joined_at made (g.S.Store.made later) areas own own_store (g.S.Store.own later c.args.node) asked (g.S.Store.asked later c.args.node) c.log_on.new.self wrote.made (wrote.stays c.args.node).0 (wrote.stays c.args.node).1
+    (joined_on made areas own own_store asked before c.log_on.new.self (of_there (IsJoined made areas own own_store asked) (slice_get items c.args.node) before was is) c.in_ok-runs.field-0.runs c.in_ok-runs.field-0.said c.in_ok-runs.ensures))

@@ -12,4 +12,5 @@ pub mod LogSteps
 pub mod Machines
 pub mod Readings
 pub mod Receiving
+pub mod Rests
 pub mod Stepping

@@ -14,3 +14,4 @@ pub mod Readings
 pub mod Receiving
 pub mod Rests
 pub mod Stepping
+pub mod Unwanted

@@ -12,5 +12,7 @@ pub mod LogSteps
 pub mod Machines
 pub mod Readings
 pub mod Receiving
+pub mod Rests
 pub mod Staying
 pub mod Stepping
+pub mod Unwanted

@@ -1,5 +1,5 @@
 -- What a node does about a block that it wants, and about one that is asked back.
-use Rattle.std.specs.Prelude.{◌≡◌, ℕ, ◌≤◌, Bool, false, true, Option, Some, None, IsSome}
+use Rattle.std.specs.Prelude.{◌≡◌, ℕ, ◌≤◌, Bool, false, true, Option, Some, None, IsSome, ◌⊎◌, List, Contains}
 use Rattle.bx_base.specs.declared.names.Mode.{Mode}
 use Rattle.bx_base.specs.declared.names.Mode.TheVariants.{Shared, Exclusive}
 use Rattle.bx_facts.specs.Holds.{Hold}
@@ -32,6 +32,13 @@ pub data Asks (request : Option Mode) (hold : Option Hold) (machine : Machine) (
   Wanted : request ≡ None → is_weaker hold mode ≡ true → Wants → Asks request hold machine at knows mode Still Wants Reads
   Read : (held : Mode) (index : ℕ) → request ≡ None → hold ≡ Some (held, index) → is_weaker hold mode ≡ false → MayRead machine at index knows → Reads held → Asks request hold machine at knows mode Still Wants Reads
   Waits : (held : Mode) (index : ℕ) → request ≡ None → hold ≡ Some (held, index) → is_weaker hold mode ≡ false → (MayRead machine at index knows → ⊥) → Still → Asks request hold machine at knows mode Still Wants Reads
+
+-- Each block is kept as it was, but those that are wanted.
+abbrev pub KeepsUnwanted : List (ℕ × Mode) → Machine → Machine → Type 0
+KeepsUnwanted wants old new = (at : ℕ) → (kept_in new.cache.kept at ≡ kept_in old.cache.kept at) ⊎ ((mode : Mode) × Contains wants (at, mode))
+
+abbrev pub KeepsUnneeded : List (List (ℕ × Mode)) → Machine → Machine → Type 0
+KeepsUnneeded needs old new = (at : ℕ) → (kept_in new.cache.kept at ≡ kept_in old.cache.kept at) ⊎ ((wants : List (ℕ × Mode)) × Contains needs wants × ((mode : Mode) × Contains wants (at, mode)))
 
 -- There is a later course, of the same chain, in which nobody was told anything more, and what stands stands for it.
 pub record Later (Stands_then : Course → Type 0) (c : Course) : Type 0 where

@@ -1,6 +1,7 @@
 -- What a node gives back.
-use Rattle.std.specs.Prelude.{◌≡◌, ◌==◌, ◌&&◌, ◌||◌, not, if◌then◌else◌, ℕ, ◌≤◌, max, nat_le, nat_lt, Bool, false, true, List, [], ◌∷◌, Option, Some, None, IsSomeAnd}
+use Rattle.std.specs.Prelude.{◌≡◌, ◌⊎◌, ◌==◌, ◌&&◌, ◌||◌, not, if◌then◌else◌, ℕ, ◌<◌, ◌≤◌, max, nat_le, nat_lt, Bool, false, true, List, [], ◌∷◌, Contains, Option, Some, None, IsSomeAnd}
 use Rattle.bx_facts.specs.Holds.{Hold}
+use Rattle.bx_node_cache.specs.Kept.{kept_in}
 use Rattle.bx_node_tries.specs.declared.round.Waiting.{Waiting}
 use Rattle.bx_nodes.specs.declared.machine.Machine.{Machine}
 use Rattle.bx_nodes.specs.declared.machine.Mark.{Mark}
@@ -32,3 +33,13 @@ marked (Some asked) machine = Some (record { block = asked.0; asking = asked.1; 
 pub data MayKeep (hold : Option Hold) (session : ℕ) (asked : ℕ × ℕ) (machine : Option Machine) : Type 0 where
   NotHeld : hold ≡ None → MayKeep hold session asked machine
   Awaited : session ≤ asked.1 → IsSomeAnd machine (λ one. waits_since (since asked.0 asked.1 one) one.calls.items ≡ true) → MayKeep hold session asked machine
+
+-- A block may be given back: a session asks for it, and that is an earlier one than this, or no call waits any more that waited when that was seen first.
+pub record MayGo (session : ℕ) (asks : List (ℕ × ℕ)) (machine : Machine) (at : ℕ) : Type 0 where
+  pub asking : ℕ
+  pub asked : Contains asks (at, asking)
+  pub free : (asking < session) ⊎ (waits_since (since at asking machine) machine.calls.items ≡ false)
+
+-- Each block is kept as it was, but those that may be given back.
+abbrev pub KeepsRest : ℕ → List (ℕ × ℕ) → Machine → Machine → Type 0
+KeepsRest session asks old new = (at : ℕ) → (kept_in new.cache.kept at ≡ kept_in old.cache.kept at) ⊎ MayGo session asks old at

@@ -7,7 +7,7 @@ ghost use Rattle.bx_disk.specs.Disks.{Disks};
 ghost use Rattle.bx_facts.specs.Chains.{LivesIn, last};
 ghost use Rattle.bx_node_machines.specs.Machines.{home_of};
 ghost use Rattle.bx_node_machines.specs.Nodes.{NodesStand};
-ghost use Rattle.bx_nodes.specs.Asks.{Asks, Later, MayRead, is_less, is_weaker};
+ghost use Rattle.bx_nodes.specs.Asks.{Asks, KeepsUnneeded, KeepsUnwanted, Later, MayRead, is_less, is_weaker};
 ghost use Rattle.bx_nodes.specs.Changing.{LetsGo};
 ghost use Rattle.bx_nodes.specs.Joined.{IsJoined};
 ghost use Rattle.bx_nodes.specs.Seen.{seen};
@@ -90,6 +90,7 @@ impl<G: Register, O: Owners, S: Store, E: Engine> Nodes<G, O, S, E> {
             → NodesStand G.Register O.Owners S.Store (E.stands self.old.engine) (E.step self.old.engine) self.old.register self.old.owners self.old.store x (letters ++ out.old) clocks (seen self.old.machines.items) c tree
             → O.own self.old.owners node ≡ Some session → LivesIn (last c.register.chain) session → IfSome (slice_get self.old.machines.items node) (λ machine. machine.session ≡ Some session)
             → OnOk result (Later (λ later. NodesStand G.Register O.Owners S.Store (E.stands self.new.engine) (E.step self.new.engine) self.new.register self.new.owners self.new.store x (letters ++ out.new) clocks (seen self.new.machines.items) later tree) c) }
+        ensures keeps { OnOk result (IfSome (slice_get self.old.machines.items node) (λ old. IfSome (slice_get self.new.machines.items node) (KeepsUnneeded needs.now old))) }
         ensures joined { OnOk result (IfSome (slice_get self.new.machines.items node) (IsJoined (S.made self.new.store) (E.areas self.new.engine) (O.own self.new.owners node) (S.own self.new.store node) (S.asked self.new.store node))) }
         ensures rests { OnOk result (IfSome (slice_get self.new.machines.items node) (λ machine. (machine.stage ≡ Idle) × IfSome (slice_get self.old.machines.items node) (λ old. machine.session ≡ old.session))) }
         ensures parts { (self.new.register ≡ self.old.register) × (self.new.engine ≡ self.old.engine) × (S.made self.new.store ≡ S.made self.old.store) }
@@ -119,6 +120,7 @@ impl<G: Register, O: Owners, S: Store, E: Engine> Nodes<G, O, S, E> {
             → NodesStand G.Register O.Owners S.Store (E.stands self.old.engine) (E.step self.old.engine) self.old.register self.old.owners self.old.store x (letters ++ out.old) clocks (seen self.old.machines.items) c tree
             → O.own self.old.owners node ≡ Some session → LivesIn (last c.register.chain) session → IfSome (slice_get self.old.machines.items node) (λ machine. machine.session ≡ Some session)
             → OnOk result (Later (λ later. NodesStand G.Register O.Owners S.Store (E.stands self.new.engine) (E.step self.new.engine) self.new.register self.new.owners self.new.store x (letters ++ out.new) clocks (seen self.new.machines.items) later tree) c) }
+        ensures keeps { OnOk result (IfSome (slice_get self.old.machines.items node) (λ old. IfSome (slice_get self.new.machines.items node) (KeepsUnwanted wants.now old))) }
         ensures joined { OnOk result (IfSome (slice_get self.new.machines.items node) (IsJoined (S.made self.new.store) (E.areas self.new.engine) (O.own self.new.owners node) (S.own self.new.store node) (S.asked self.new.store node))) }
         ensures rests { OnOk result (IfSome (slice_get self.new.machines.items node) (λ machine. (machine.stage ≡ Idle) × IfSome (slice_get self.old.machines.items node) (λ old. machine.session ≡ old.session))) }
         ensures parts { (self.new.register ≡ self.old.register) × (self.new.engine ≡ self.old.engine) × (S.made self.new.store ≡ S.made self.old.store) }

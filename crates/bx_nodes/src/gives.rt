@@ -1,6 +1,6 @@
 //! What a node gives back.
 
-ghost use Rattle.std.specs.Prelude.{◌≡◌, ◌++◌, ℕ, ◌<◌, false, true, length, List, IfSome, IsSome, OnOk, None, Some, slice_get};
+ghost use Rattle.std.specs.Prelude.{◌≡◌, ◌++◌, ◌⊎◌, ℕ, ◌<◌, false, true, length, List, IfSome, IsSome, OnOk, None, Some, slice_get};
 ghost use Rattle.bx_base.specs.declared.names.Actor.TheVariants.{Node};
 ghost use Rattle.bx_disk.specs.Disks.{Disks};
 ghost use Rattle.bx_facts.specs.Chains.{LivesIn, last};
@@ -8,7 +8,7 @@ ghost use Rattle.bx_facts.specs.Holds.{first_of, without_block};
 ghost use Rattle.bx_node_machines.specs.Nodes.{NodesStand};
 ghost use Rattle.bx_nodes.specs.Asks.{Later};
 ghost use Rattle.bx_nodes.specs.Changing.{LetsGo};
-ghost use Rattle.bx_nodes.specs.Gives.{MayKeep, marked, newest, since, waits_since};
+ghost use Rattle.bx_nodes.specs.Gives.{KeepsRest, MayKeep, marked, newest, since, waits_since};
 ghost use Rattle.bx_nodes.specs.Joined.{IsJoined};
 ghost use Rattle.bx_nodes.specs.Seen.{seen};
 ghost use Rattle.bx_nodes.specs.Turns.{OnlyMachine};
@@ -109,6 +109,7 @@ impl<G: Register, O: Owners, S: Store, E: Engine> Nodes<G, O, S, E> {
             → O.own self.old.owners node ≡ Some session → LivesIn (last c.register.chain) session → IfSome (slice_get self.old.machines.items node) (λ machine. machine.session ≡ Some session)
             → OnOk result (Later (λ later. NodesStand G.Register O.Owners S.Store (E.stands self.new.engine) (E.step self.new.engine) self.new.register self.new.owners self.new.store x (letters ++ out.new) clocks (seen self.new.machines.items) later tree) c) }
         ensures left { OnOk result (IfSome (first_of (O.asks self.new.owners node)) (λ asked. MayKeep (O.hold self.new.owners node asked.0) session asked (slice_get self.new.machines.items node))) }
+        ensures keeps { OnOk result (IfSome (slice_get self.old.machines.items node) (λ old. IfSome (slice_get self.new.machines.items node) (KeepsRest session (O.asks self.old.owners node) old))) }
         ensures joined { OnOk result (IfSome (slice_get self.new.machines.items node) (IsJoined (S.made self.new.store) (E.areas self.new.engine) (O.own self.new.owners node) (S.own self.new.store node) (S.asked self.new.store node))) }
         ensures rests { OnOk result (IfSome (slice_get self.new.machines.items node) (λ machine. (machine.stage ≡ Idle) × IfSome (slice_get self.old.machines.items node) (λ old. machine.session ≡ old.session))) }
         ensures parts { (self.new.register ≡ self.old.register) × (self.new.engine ≡ self.old.engine) × (self.new.store ≡ self.old.store) }
@@ -130,6 +131,7 @@ impl<G: Register, O: Owners, S: Store, E: Engine> Nodes<G, O, S, E> {
     fn may_give(&self, node: u32, session: u64, block: u64, asking: u64) -> bool
         requires there { node < length self.now.machines.items }
         ensures may { result ≡ true → IsSome (O.hold self.now.owners node block) }
+        ensures free { result ≡ true → IfSome (slice_get self.now.machines.items node) (λ machine. (asking < session) ⊎ (waits_since (since block asking machine) machine.calls.items ≡ false)) }
         ensures may_not { result ≡ false → MayKeep (O.hold self.now.owners node block) session (block, asking) (slice_get self.now.machines.items node) }
     {
         if self.owners.holds(node, block).is_none() {

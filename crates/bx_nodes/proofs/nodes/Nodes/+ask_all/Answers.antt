@@ -1,8 +1,11 @@
-use Rattle.std.proofs.Common.{◌∙◌, ℕ, ◌<◌, sym, subst}
+use Rattle.std.proofs.Common.{◌∙◌, ℕ, ◌<◌, List, IfSome, sym, subst}
 use Rattle.std.specs.Prelude.{slice_get}
 use Rattle.std.proofs.lemmas.Result.{on_ok_weaker}
 use Rattle.bx_facts.specs.Chains.{Chain, LivesIn, last}
 use Rattle.bx_nodes.proofs.Machines.{is_some_there, mark_stays, rests_on}
+use Rattle.bx_base.specs.declared.names.Mode.{Mode}
+use Rattle.bx_nodes.specs.Asks.{KeepsUnneeded, KeepsUnwanted}
+use Rattle.bx_nodes.proofs.Unwanted.{unneeded_more}
 use Rattle.bx_nodes.proofs.nodes.Nodes.+ask_all.Goals as goal
 
 pub returns-clause-stands : goal.returns-clause-stands
@@ -23,3 +26,16 @@ returns-clause-rests g t c =
     (λ two. rests_on (slice_get items node) (slice_get middle node) (slice_get c.ask_all.new.self.machines.items node) (is_some_there middle node (subst (λ (n : ℕ). node < n) (sym c.in_ok-ask_each.ensures.count) c.requires.there.0))
     c.in_ok-ask_each.ensures.rests two)
     c.ask_all.ensures.rests
+
+pub returns-clause-keeps : goal.returns-clause-keeps
+returns-clause-keeps g t c =
+    let node = c.args.node in
+    let items = c.args.self.now.machines.items in
+    let middle = c.ask_each.new.self.machines.items in
+    let last = c.ask_all.new.self.machines.items in
+    let one = subst (λ (wants : List (ℕ × Mode)). IfSome (slice_get items node) (λ a. IfSome (slice_get middle node) (KeepsUnwanted wants a))) c.items.ensures c.in_ok-ask_each.ensures.keeps in
+    on_ok_weaker c.ask_all.result
+    (λ keeps. subst (λ (needs : List (List (ℕ × Mode))). IfSome (slice_get items node) (λ a. IfSome (slice_get last node) (KeepsUnneeded needs a))) (sym c.in-Some.ensures.cases.0)
+    (unneeded_more c.in-Some.first.now c.in-Some.rest.now (slice_get items node) (slice_get middle node) (slice_get last node)
+    (is_some_there middle node (subst (λ (n : ℕ). node < n) (sym c.in_ok-ask_each.ensures.count) c.requires.there.0)) one keeps))
+    c.ask_all.ensures.keeps

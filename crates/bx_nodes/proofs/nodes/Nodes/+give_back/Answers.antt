@@ -1,10 +1,11 @@
-use Rattle.std.proofs.Common.{◌≡◌, ◌∙◌, ℕ, ◌<◌, List, length, Some, sym, subst, rules}
+use Rattle.std.proofs.Common.{◌≡◌, ◌∙◌, ℕ, ◌<◌, List, length, Some, refl, sym, subst, rules}
 use Rattle.std.specs.Prelude.{slice_get}
 use Rattle.std.proofs.lemmas.Result.{on_ok_weaker}
 use Rattle.bx_facts.specs.Chains.{Chain, LivesIn, last}
 use Rattle.bx_facts.specs.Holds.{first_of}
 use Rattle.bx_nodes.proofs.Fewer.{fewer}
 use Rattle.bx_nodes.proofs.Machines.{is_some_there, mark_stays, rests_on}
+use Rattle.bx_nodes.proofs.Rests.{steps}
 use Rattle.bx_nodes.proofs.nodes.Nodes.+give_back.Goals as goal
 
 pub give_back-requires : goal.give_back-requires
@@ -33,3 +34,15 @@ returns-clause-rests g t c =
     (λ two. rests_on (slice_get items node) (slice_get middle node) (slice_get c.give_back.new.self.machines.items node) (is_some_there middle node (subst (λ (n : ℕ). node < n) (sym c.in_ok-give_up.ensures.count) c.requires.there.0))
     c.in_ok-give_up.ensures.rests two)
     c.give_back.ensures.rests
+
+pub returns-clause-keeps : goal.returns-clause-keeps
+returns-clause-keeps g t c =
+    let node = c.args.node in
+    let items = c.args.self.now.machines.items in
+    let middle = c.give_up.new.self.machines.items in
+    let asks = g.O.Owners.asks c.args.self.now.owners node in
+    on_ok_weaker c.give_back.result
+    (λ rest. steps c.args.session c.in-Some.block c.in-Some.asking asks (g.O.Owners.asks c.give_up.new.self.owners node) (slice_get items node) (slice_get middle node) (slice_get c.give_back.new.self.machines.items node)
+    (is_some_there middle node (subst (λ (n : ℕ). node < n) (sym c.in_ok-give_up.ensures.count) c.requires.there.0)) (sym c.in-Some.ensures) c.in_ok-give_up.ensures.gives.2 c.in_ok-give_up.ensures.goes
+    (c.if-not-may_give.ensures.free refl) rest)
+    c.give_back.ensures.keeps

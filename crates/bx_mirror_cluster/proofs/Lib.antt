@@ -52,3 +52,4 @@ pub mod NodeSteps
 pub mod NodeTakes
 pub mod NodeStops
 pub mod Promised
+pub mod StreamsGo

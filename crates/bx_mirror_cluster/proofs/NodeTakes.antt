@@ -1,4 +1,4 @@
--- What a stream does in an event: it learns the state that its node is handed, ends its write where it is done, tells members of it, and hears answers.
+-- What a stream does in an event: it learns the state that its node is handed, ends its write where it is done, tells members of its read, and hears answers.
 use Rattle.std.proofs.Common.{◌≡◌, ◌≢◌, ◌⊎◌, inl, inr, ℕ, ◌≤◌, Bool, true, false, Contains, List, [], length, Option, Some, None, refl, sym, ◌∙◌, ap, subst, arith}
 use Rattle.std.specs.Prelude.{◌==◌, ◌&&◌, slice_get, if◌then◌else◌}
 use Rattle.std.proofs.lemmas.Bool.Decides.{nat_tests}
@@ -18,14 +18,14 @@ use Rattle.bx_mirror_packets.specs.declared.message.WroteBody.{WroteBody}
 use Rattle.bx_mirror_packets.proofs.Spelled.{one_message}
 use Rattle.bx_mirror_client.specs.Asks.{fits, is_awaited}
 use Rattle.bx_mirror_client.specs.Events.{asks_answered, counts, out_acked, with_ack}
-use Rattle.bx_mirror_client.specs.Letters.{is_new_for, letters_from, read_letters, write_letters}
+use Rattle.bx_mirror_client.specs.Letters.{is_new_for, read_letters}
 use Rattle.bx_mirror_client.specs.Sends.{is_done}
 use Rattle.bx_mirror_client.specs.Streams.{Streaming, asks_in, is_session, learned, out_in, unless_done}
 use Rattle.bx_mirror_client.specs.declared.asking.Asking.{Asking}
 use Rattle.bx_mirror_client.specs.declared.sending.Sending.{Sending}
 use Rattle.bx_mirror_cluster.specs.Fitting.{IsReading, Keeps, Parts, out_by}
-use Rattle.bx_mirror_cluster.specs.GoingOn.{IsSameRead, letters_more}
-use Rattle.bx_mirror_cluster.specs.Learning.{MayLearn, knowing}
+use Rattle.bx_mirror_cluster.specs.GoingOn.{AreReads, GoesOn, IsSameRead, letters_more}
+use Rattle.bx_mirror_cluster.specs.Learning.{Learned, MayLearn, knowing}
 use Rattle.bx_mirror_cluster.specs.NodeSteps.{parts_acked}
 use Rattle.bx_mirror_cluster.specs.Speaking.{FitsRead, IsOfRead}
 use Rattle.bx_mirror_cluster.specs.Writing.{with_node, with_stream}
@@ -34,7 +34,6 @@ use Rattle.bx_mirror_cluster.proofs.GoingOn.{goes_on}
 use Rattle.bx_mirror_cluster.proofs.Learned.{learned_keeps}
 use Rattle.bx_mirror_cluster.proofs.NodeSteps.{ack_noted, asked_still, body_in, is_asked, itself_asked, no_reads, number_in, node_goes_on, said, same_past}
 use Rattle.bx_mirror_cluster.proofs.Sessions.{same_or_not}
-use Rattle.bx_mirror_cluster.proofs.ToldAgain.{told_keeps}
 use Rattle.bx_mirror_cluster.proofs.WriteDone.{write_ends}
 
 -- ---- one node has another stream, and another after that
@@ -42,7 +41,7 @@ use Rattle.bx_mirror_cluster.proofs.WriteDone.{write_ends}
 pub here_is : (nodes : ℕ → Streaming) (n : ℕ) (c : Streaming) → with_node nodes n c n ≡ c
 here_is nodes n c = let same : (n == n) ≡ true = grind (arith, nat_tests) in ap (λ (b : Bool). if b then c else nodes n) same
 
-other_is : (nodes : ℕ → Streaming) (n : ℕ) (c : Streaming) (k : ℕ) → k ≢ n → with_node nodes n c k ≡ nodes k
+pub other_is : (nodes : ℕ → Streaming) (n : ℕ) (c : Streaming) (k : ℕ) → k ≢ n → with_node nodes n c k ≡ nodes k
 other_is nodes n c k apart = let other : (k == n) ≡ false = grind (arith, nat_tests, apart) in ap (λ (b : Bool). if b then c else nodes k) other
 
 pub again : (parts : Parts) (n : ℕ) (c : Streaming) (f : Streaming → Streaming) → with_stream (with_stream parts n c) n (f (with_node parts.nodes n c n)) ≡ with_stream parts n (f c)
@@ -79,14 +78,14 @@ out_of_own session None = None
 out_of_own session (Some s) = if is_session session s.session then Some s else None
 
 module _ (parts : Parts) (x : Disks) (past : StorePast) (keeps : Keeps parts x past) (n : ℕ) (known : GlobalState) (may : MayLearn parts past n known) where
-  abbrev c : Streaming
+  abbrev pub c : Streaming
   c = parts.nodes n
 
-  abbrev session : Option ℕ
+  abbrev pub session : Option ℕ
   session = session_of known c.node c.boot
 
   -- its stream then, with this write
-  abbrev at_out : Option Sending → Streaming
+  abbrev pub at_out : Option Sending → Streaming
   at_out o = record c { session = session_of known c.node c.boot; rows = known.devices; out = o; asks = asks_in (session_of known c.node c.boot) c.rows known.devices c.asks }
 
   had : (s : Sending) → c.out ≡ Some s → (s.sequence == 0) ≡ false → c.session ≡ Some s.session
@@ -143,8 +142,8 @@ module _ (parts : Parts) (x : Disks) (past : StorePast) (keeps : Keeps parts x p
       by true false same_is = let same : b ≡ a = cc in subst FitsRead same was
       by false u none = absurd (let no : None ≡ Some a = none in cc)
 
-  base : Keeps (with_stream parts n (at_out (out_of_own session c.out))) x (knowing past n known.index)
-  base = learned_keeps parts x past keeps n known may (at_out (out_of_own session c.out)) (record {
+  pub base_so : Learned c known (at_out (out_of_own session c.out))
+  base_so = record {
     node = refl;
     boot = refl;
     sequence = refl;
@@ -155,7 +154,10 @@ module _ (parts : Parts) (x : Disks) (past : StorePast) (keeps : Keeps parts x p
     noted = λ t is. noted_so c.out refl t is;
     asks = λ a is. asks_so c.asks refl a is;
     askable = λ a is. fits_so c.asks refl a is;
-  })
+  }
+
+  pub base : Keeps (with_stream parts n (at_out (out_of_own session c.out))) x (knowing past n known.index)
+  base = learned_keeps parts x past keeps n known may (at_out (out_of_own session c.out)) base_so
 
   ends : (s : Sending) → is_done s known.devices ≡ true → Keeps (with_stream parts n (at_out (Some s))) x (knowing past n known.index) → Keeps (with_stream parts n (at_out None)) x (knowing past n known.index)
   ends s done fits_it =
@@ -177,23 +179,6 @@ module _ (parts : Parts) (x : Disks) (past : StorePast) (keeps : Keeps parts x p
       by : (o : Option Sending) → Keeps (with_stream parts n (at_out (out_of_own session o))) x (knowing past n known.index) → Keeps (with_stream parts n (at_out (out_in session known.devices o))) x (knowing past n known.index)
       by None fits_it = fits_it
       by (Some s) fits_it = pick s (is_session session s.session) fits_it
-
--- ---- it tells members of its write
-
-pub writes_told : (parts : Parts) (x : Disks) (past : StorePast) (n : ℕ) (before : List DeviceRow) → Keeps parts x past → length (parts.nodes n).rows ≤ 4
-    → Keeps parts x (letters_more past (write_letters before (parts.nodes n).node (parts.nodes n).out (parts.nodes n).rows))
-writes_told parts x past n before keeps few = by (parts.nodes n).out refl
-  where
-    nothing_more : Keeps parts x (letters_more past [])
-    nothing_more = subst (λ (p : StorePast). Keeps parts x p) (sym (same_past past)) keeps
-
-    by : (o : Option Sending) → (parts.nodes n).out ≡ o → Keeps parts x (letters_more past (write_letters before (parts.nodes n).node o (parts.nodes n).rows))
-    by None e = nothing_more
-    by (Some s) e = pick (s.sequence == 0) refl
-      where
-        pick : (b : Bool) → (s.sequence == 0) ≡ b → Keeps parts x (letters_more past (if b then [] else letters_from before (parts.nodes n).node s 0 (parts.nodes n).rows))
-        pick true number = nothing_more
-        pick false number = told_keeps parts x past keeps n before s e number few
 
 -- ---- it hears the answer to its read
 
@@ -249,28 +234,33 @@ ack_heard parts x past n member w letter keeps there from says = by (parts.nodes
 
 -- ---- it tells members of its read
 
+pub reads_more : (parts : Parts) (x : Disks) (past : StorePast) (n : ℕ) (before : List DeviceRow) (keeps : Keeps parts x past) → (parts.nodes n).node ≡ n → (a : Asking) → (parts.nodes n).asks ≡ Some a
+    → GoesOn parts keeps.history parts.nodes × AreReads parts.nodes (read_letters before (parts.nodes n).node (Some a) (parts.nodes n).rows)
+reads_more parts x past n before keeps itself_is a e = (
+  record { out = λ m. refl; rows = λ m. refl; session = λ m. refl; sequence = λ m. refl; boot = λ m. refl; tag = λ m. omega arith; sendable = keeps.sendable; askable = keeps.askable; noted = keeps.noted; asking = keeps.asking; asked = λ m b is. inl (b, is, itself_asked b) },
+  record { kinds = λ letter there. ap (λ (l : Letter). l.kind) (is_asked before (parts.nodes n).node a (parts.nodes n).rows letter there).is; each = each },
+)
+  where
+    each : (m : ℕ) (r : ReadBody) → IsReading (read_letters before (parts.nodes n).node (Some a) (parts.nodes n).rows) m r → (1 ≤ r.tag) × ((b : Asking) × ((parts.nodes m).asks ≡ Some b) × IsOfRead b r)
+    each m r read =
+        let asked = is_asked before (parts.nodes n).node a (parts.nodes n).rows read.letter read.there in
+        let fit = keeps.askable n a e in
+        let old = keeps.asking n a e in
+        let state = keeps.node_known n a.session old.0 in
+        let epoch = keeps.epochs state.0 state.1 a.device asked.row (ap (λ (rs : List DeviceRow). slice_get rs a.device) (sym state.3) ∙ asked.there) in
+        let body : ReadBody = record { session = a.session; device = a.device; epoch = asked.row.epoch; tag = a.tag; place = a.place; sectors = a.sectors } in
+        let own : Spells (Read body) read.letter.kind read.letter.body =
+        subst (λ (l : Letter). Spells (Read body) l.kind l.body) (sym asked.is)
+        (record { is = (fit.session, fit.device, epoch, fit.tag, fit.place, fit.sectors); kind_is = refl; body_is = refl }) in
+        let same : r ≡ body = ap (λ (q : DeviceMessage). body_in q r) (one_message (Read r) (Read body) read.letter.kind read.letter.body read.spells own) in
+        let from : m ≡ n = sym (ap number_in (sym (ap (λ (l : Letter). l.from) asked.is) ∙ read.from)) ∙ itself_is in
+        let some = asked.some in let tag = ap (λ (q : ReadBody). q.tag) same in
+        (omega (arith, some, tag), (a, ap (λ (k : ℕ). (parts.nodes k).asks) from ∙ e, said a asked.row.epoch r same))
+
 pub reads_told : (parts : Parts) (x : Disks) (past : StorePast) (n : ℕ) (before : List DeviceRow) → Keeps parts x past → (parts.nodes n).node ≡ n
     → Keeps parts x (letters_more past (read_letters before (parts.nodes n).node (parts.nodes n).asks (parts.nodes n).rows))
 reads_told parts x past n before keeps itself_is = by (parts.nodes n).asks refl
   where
     by : (o : Option Asking) → (parts.nodes n).asks ≡ o → Keeps parts x (letters_more past (read_letters before (parts.nodes n).node o (parts.nodes n).rows))
     by None e = subst (λ (p : StorePast). Keeps parts x p) (sym (same_past past)) keeps
-    by (Some a) e = goes_on parts x past keeps parts.nodes (read_letters before (parts.nodes n).node (Some a) (parts.nodes n).rows)
-        (record { out = λ m. refl; rows = λ m. refl; session = λ m. refl; sequence = λ m. refl; boot = λ m. refl; tag = λ m. omega arith; sendable = keeps.sendable; askable = keeps.askable; noted = keeps.noted; asking = keeps.asking; asked = λ m b is. inl (b, is, itself_asked b) })
-        (record { kinds = λ letter there. ap (λ (l : Letter). l.kind) (is_asked before (parts.nodes n).node a (parts.nodes n).rows letter there).is; each = each })
-      where
-        each : (m : ℕ) (r : ReadBody) → IsReading (read_letters before (parts.nodes n).node (Some a) (parts.nodes n).rows) m r → (1 ≤ r.tag) × ((b : Asking) × ((parts.nodes m).asks ≡ Some b) × IsOfRead b r)
-        each m r read =
-            let asked = is_asked before (parts.nodes n).node a (parts.nodes n).rows read.letter read.there in
-            let fit = keeps.askable n a e in
-            let old = keeps.asking n a e in
-            let state = keeps.node_known n a.session old.0 in
-            let epoch = keeps.epochs state.0 state.1 a.device asked.row (ap (λ (rs : List DeviceRow). slice_get rs a.device) (sym state.3) ∙ asked.there) in
-            let body : ReadBody = record { session = a.session; device = a.device; epoch = asked.row.epoch; tag = a.tag; place = a.place; sectors = a.sectors } in
-            let own : Spells (Read body) read.letter.kind read.letter.body =
-            subst (λ (l : Letter). Spells (Read body) l.kind l.body) (sym asked.is)
-            (record { is = (fit.session, fit.device, epoch, fit.tag, fit.place, fit.sectors); kind_is = refl; body_is = refl }) in
-            let same : r ≡ body = ap (λ (q : DeviceMessage). body_in q r) (one_message (Read r) (Read body) read.letter.kind read.letter.body read.spells own) in
-            let from : m ≡ n = sym (ap number_in (sym (ap (λ (l : Letter). l.from) asked.is) ∙ read.from)) ∙ itself_is in
-            let some = asked.some in let tag = ap (λ (q : ReadBody). q.tag) same in
-            (omega (arith, some, tag), (a, ap (λ (k : ℕ). (parts.nodes k).asks) from ∙ e, said a asked.row.epoch r same))
+    by (Some a) e = let more = reads_more parts x past n before keeps itself_is a e in goes_on parts x past keeps parts.nodes (read_letters before (parts.nodes n).node (Some a) (parts.nodes n).rows) more.0 more.1

@@ -3,6 +3,7 @@ use Rattle.std.specs.Prelude.{◌≡◌, ℕ, ◌≤◌, List, Some}
 use Rattle.bx_disk.specs.Disks.{Disks}
 use Rattle.bx_facts.specs.Writes.{IsOnly, StorePast}
 use Rattle.bx_mirror_client.specs.declared.asking.Asking.{Asking}
+use Rattle.bx_mirror_cluster.specs.GoingOn.{IsSameRead}
 use Rattle.bx_mirror_cluster.specs.Fitting.{IsSettledOn, Keeps, Parts, StandsOn, WillReadOn}
 
 pub record GoesFurther (parts next : Parts) (x y : Disks) (past then_ : StorePast) : Type 0 where
@@ -14,3 +15,11 @@ pub record GoesFurther (parts next : Parts) (x y : Disks) (past then_ : StorePas
   pub nodes : next.nodes ≡ parts.nodes
   pub writes : then_.writes ≡ past.writes
   pub rises : past.told.greatest ≤ then_.told.greatest
+
+-- What a node's event leaves: the same, whatever members write, and each read that is out is one that was.
+pub record StreamsGo (parts next : Parts) (x : Disks) (past then_ : StorePast) : Type 0 where
+  pub keeps : Keeps next x then_
+  pub settles : (d sector : ℕ) (content : List ℕ) → IsSettledOn parts x past d sector content → IsSettledOn next x then_ d sector content
+  pub stands : (d sector : ℕ) (content : List ℕ) (index : ℕ) → StandsOn parts x past d sector content index → StandsOn next x then_ d sector content index
+  pub asks : (reader : ℕ) (read : Asking) → (next.nodes reader).asks ≡ Some read → (was : Asking) × ((parts.nodes reader).asks ≡ Some was) × IsSameRead was read
+  pub reads : (reader : ℕ) (was read : Asking) (sector : ℕ) (content : List ℕ) → (parts.nodes reader).asks ≡ Some was → (next.nodes reader).asks ≡ Some read → WillReadOn parts x past reader was sector content → WillReadOn next x then_ reader read sector content

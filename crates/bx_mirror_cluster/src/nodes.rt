@@ -17,6 +17,8 @@ ghost use Rattle.bx_mirror_client.specs.declared.asking.Asking.{Asking};
 ghost use Rattle.bx_mirror_client.specs.declared.sending.Sending.{Sending};
 ghost use Rattle.bx_mirror_cluster.specs.Fitting.{IsSettledOn, Keeps, Parts, StandsOn, WillReadOn};
 ghost use Rattle.bx_mirror_cluster.specs.GoingOn.{letters_more};
+ghost use Rattle.bx_mirror_cluster.specs.GoesFurther.{StreamsGo};
+ghost use Rattle.bx_mirror_cluster.specs.MemberSteps.{IsFor};
 ghost use Rattle.bx_mirror_cluster.specs.Learning.{Learned, MayLearn, knowing, with_clock};
 ghost use Rattle.bx_mirror_cluster.specs.Writing.{with_stream};
 
@@ -68,8 +70,9 @@ pub fn a_reading_rises()
 {}
 
 /// All that a stream does in one event: it learns the state that its node is handed, tells members of what is out, and takes what comes. Members and
-/// streams fit the past again, with these letters.
+/// streams fit the past again, with these letters, and what was settled, stood or is read goes on, its own read among that.
 pub fn an_event_is_taken()
     ensures { (parts : Parts) (x : Disks) (past : StorePast) (node : ℕ) (known : GlobalState) (input : Input) (new : Streaming) (before after : List Letter) → Keeps parts x (store_with past before) → MayLearn parts (store_with past before) node known
-        → length known.devices ≤ 4 → Arrives (past.told.letters ++ before) input → Takes (parts.nodes node) known input new before after → Keeps (with_stream parts node new) x (store_with (store_heard past (Node node) known.index input None) after) }
+        → length known.devices ≤ 4 → Arrives (past.told.letters ++ before) input → IsFor (Node node) input → Takes (parts.nodes node) known input new before after
+        → StreamsGo parts (with_stream parts node new) x (store_with past before) (store_with (store_heard past (Node node) known.index input None) after) }
 {}

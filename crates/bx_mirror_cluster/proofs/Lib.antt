@@ -53,3 +53,4 @@ pub mod NodeTakes
 pub mod NodeStops
 pub mod Promised
 pub mod StreamsGo
+pub mod Ended

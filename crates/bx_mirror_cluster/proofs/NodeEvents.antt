@@ -27,27 +27,27 @@ use Rattle.bx_mirror_cluster.specs.MemberSteps.{IsFor}
 use Rattle.bx_mirror_cluster.proofs.NodeTakes.{again, here_is}
 use Rattle.bx_mirror_cluster.proofs.StreamsGo.{ack_goes, clock_streams, data_goes, learned_goes, since_goes, streams_both}
 
-rises_with : (greatest : ℕ) (input : Input) → greatest ≤ greatest_with greatest input
+pub rises_with : (greatest : ℕ) (input : Input) → greatest ≤ greatest_with greatest input
 rises_with greatest (Packet packet reading) = omega arith
 rises_with greatest (Tick reading) = omega arith
 rises_with greatest Synced = omega arith
 
 module _ (parts : Parts) (x : Disks) (past : StorePast) (n : ℕ) (known : GlobalState) (input : Input) (before : List Letter) (keeps : Keeps parts x (store_with past before)) (may : MayLearn parts (store_with past before) n known)
     (few : length known.devices ≤ 4) where
-  abbrev c : Streaming
+  abbrev pub c : Streaming
   c = parts.nodes n
 
-  abbrev new : Streaming
+  abbrev pub new : Streaming
   new = learned known c
 
   -- the past then, with these letters
-  abbrev then_ : List Letter → StorePast
+  abbrev pub then_ : List Letter → StorePast
   then_ letters = store_with (store_heard past (Node n) known.index input None) letters
 
-  abbrev since : List Letter
+  abbrev pub since : List Letter
   since = letters_since c.rows new
 
-  abbrev GoesThen : Streaming → List Letter → Type 0
+  abbrev pub GoesThen : Streaming → List Letter → Type 0
   GoesThen q letters = StreamsGo parts (with_stream parts n q) x (store_with past before) (then_ letters)
 
   node_is : (with_node parts.nodes n new n).node ≡ n
@@ -56,26 +56,29 @@ module _ (parts : Parts) (x : Disks) (past : StorePast) (n : ℕ) (known : Globa
   few_rows : length (with_node parts.nodes n new n).rows ≤ 4
   few_rows = let e = ap (λ (q : Streaming). length q.rows) (here_is parts.nodes n new) in omega (arith, e, few)
 
-  abbrev risen : StorePast
+  abbrev pub risen : StorePast
   risen = with_clock (store_with past before) (greatest_with past.told.greatest input)
 
-  knows : GoesThen new before
+  pub knows : GoesThen new before
   knows =
       let first = clock_streams parts x (store_with past before) (greatest_with past.told.greatest input) (rises_with past.told.greatest input) keeps in
       streams_both parts parts (with_stream parts n new) x (store_with past before) risen (then_ before) first
       (learned_goes parts x risen first.keeps n known (record { inside = may.inside; itself = may.itself; up = may.up; place = may.place; rises = may.rises; own_boot = may.own_boot }))
 
-  tells : (old : List Letter) (rows : List DeviceRow) → GoesThen new old → GoesThen new (old ++ letters_since rows new)
-  tells old rows goes =
-      subst (λ (ls : List Letter). let q : StorePast = record (then_ old) { told = record (then_ old).told { letters = ls } } in StreamsGo parts (with_stream parts n new) x (store_with past before) q) (append_assoc past.told.letters old (letters_since rows new))
-      (streams_both parts (with_stream parts n new) (with_stream parts n new) x (store_with past before) (then_ old) (letters_more (then_ old) (letters_since rows new)) goes
+  -- it tells members
+  pub tell : (old : List Letter) (rows : List DeviceRow) → Keeps (with_stream parts n new) x (then_ old) → StreamsGo (with_stream parts n new) (with_stream parts n new) x (then_ old) (then_ (old ++ letters_since rows new))
+  tell old rows fits_it =
+      subst (λ (ls : List Letter). let q : StorePast = record (then_ old) { told = record (then_ old).told { letters = ls } } in StreamsGo (with_stream parts n new) (with_stream parts n new) x (then_ old) q) (append_assoc past.told.letters old (letters_since rows new))
       (subst (λ (q : Streaming). StreamsGo (with_stream parts n new) (with_stream parts n new) x (then_ old) (letters_more (then_ old) (letters_since rows q))) (here_is parts.nodes n new)
-      (since_goes (with_stream parts n new) x (then_ old) n rows goes.keeps few_rows node_is)))
+      (since_goes (with_stream parts n new) x (then_ old) n rows fits_it few_rows node_is))
 
-  told : GoesThen new (before ++ since)
+  tells : (old : List Letter) (rows : List DeviceRow) → GoesThen new old → GoesThen new (old ++ letters_since rows new)
+  tells old rows goes = streams_both parts (with_stream parts n new) (with_stream parts n new) x (store_with past before) (then_ old) (then_ (old ++ letters_since rows new)) goes (tell old rows goes.keeps)
+
+  pub told : GoesThen new (before ++ since)
   told = tells before c.rows knows
 
-  abbrev told_past : StorePast
+  abbrev pub told_past : StorePast
   told_past = then_ (before ++ since)
 
   -- and then its stream changes
@@ -83,7 +86,7 @@ module _ (parts : Parts) (x : Disks) (past : StorePast) (n : ℕ) (known : Globa
   changes f goes = streams_both parts (with_stream parts n new) (with_stream parts n (f new)) x (store_with past before) told_past told_past told
       (subst (λ (p : Parts). StreamsGo (with_stream parts n new) p x told_past told_past) (again parts n new f) goes)
 
-  there_still : (letter : Letter) → Contains (past.told.letters ++ before) letter → Contains (past.told.letters ++ (before ++ since)) letter
+  pub there_still : (letter : Letter) → Contains (past.told.letters ++ before) letter → Contains (past.told.letters ++ (before ++ since)) letter
   there_still letter there = subst (λ (ls : List Letter). Contains ls letter) (append_assoc past.told.letters before since) (Contains-append_left (past.told.letters ++ before) since letter there)
 
   -- what an answer leaves

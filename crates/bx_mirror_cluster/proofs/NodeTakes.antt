@@ -65,11 +65,11 @@ out_ends parts x past n s keeps is_out done = by (s.sequence == 0) refl
 
 -- ---- it learns the state
 
-session_is : (o : Option ℕ) (q : ℕ) → is_session o q ≡ true → o ≡ Some q
+pub session_is : (o : Option ℕ) (q : ℕ) → is_session o q ≡ true → o ≡ Some q
 session_is None q e = absurd cc
 session_is (Some own) q e = let k : own ≡ q = grind (arith, nat_tests, e) in ap (λ (j : ℕ). Some j) k
 
-is_its : (o : Option ℕ) (q : ℕ) → o ≡ Some q → is_session o q ≡ true
+pub is_its : (o : Option ℕ) (q : ℕ) → o ≡ Some q → is_session o q ≡ true
 is_its o q e = ap (λ (p : Option ℕ). is_session p q) e ∙ (let k : (q == q) ≡ true = grind (arith, nat_tests) in k)
 
 -- the write stays out, where the session is its own

@@ -14,5 +14,6 @@ pub use laws::{
 };
 pub use members::{a_member_starts, a_member_takes};
 pub use nodes::{
-    a_reading_rises, a_state_is_learned, a_write_ends, an_event_is_taken, members_are_told_again,
+    a_reading_rises, a_state_is_learned, a_write_ends, a_write_that_ends_stands, an_event_is_taken,
+    members_are_told_again,
 };

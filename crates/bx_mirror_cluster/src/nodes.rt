@@ -4,7 +4,8 @@ ghost use Rattle.std.specs.Prelude.{◌≡◌, ◌≢◌, ℕ, ◌<◌, ◌≤�
 ghost use Rattle.bx_base.specs.declared.names.Actor.TheVariants.{Node};
 ghost use Rattle.bx_disk.specs.Disks.{Disks};
 ghost use Rattle.bx_facts.specs.Inputs.{IsComing as Arrives};
-ghost use Rattle.bx_facts.specs.Writes.{StorePast, store_heard, store_with};
+ghost use Rattle.bx_facts.specs.Chains.{LivesIn, last};
+ghost use Rattle.bx_facts.specs.Writes.{StorePast, WritesIn, store_heard, store_with};
 ghost use Rattle.bx_facts.specs.declared.input.Input.{Input};
 ghost use Rattle.bx_global.specs.declared.state.GlobalState.{GlobalState};
 ghost use Rattle.bx_post.specs.declared.packets.Letter.{Letter};
@@ -75,4 +76,12 @@ pub fn an_event_is_taken()
     ensures { (parts : Parts) (x : Disks) (past : StorePast) (node : ℕ) (known : GlobalState) (input : Input) (new : Streaming) (before after : List Letter) → Keeps parts x (store_with past before) → MayLearn parts (store_with past before) node known
         → length known.devices ≤ 4 → Arrives (past.told.letters ++ before) input → IsFor (Node node) input → Takes (parts.nodes node) known input new before after
         → StreamsGo parts (with_stream parts node new) x (store_with past before) (store_with (store_heard past (Node node) known.index input None) after) }
+{}
+
+/// A write that an event ends, where its session lives, stands then in each of its sectors, for those who know the state that its node was handed.
+pub fn a_write_that_ends_stands()
+    ensures { (parts : Parts) (x : Disks) (past : StorePast) (node : ℕ) (known : GlobalState) (input : Input) (new : Streaming) (before after : List Letter) → Keeps parts x (store_with past before) → MayLearn parts (store_with past before) node known
+        → length known.devices ≤ 4 → Arrives (past.told.letters ++ before) input → Takes (parts.nodes node) known input new before after
+        → (write : Sending) → (parts.nodes node).out ≡ Some write → new.out ≡ None → new.session ≡ Some write.session → LivesIn (last past.told.chain) write.session
+        → (device sector : ℕ) (content : List ℕ) → WritesIn write.runs.1 device sector content → StandsOn (with_stream parts node new) x (store_with (store_heard past (Node node) known.index input None) after) device sector content known.index }
 {}

@@ -1,4 +1,4 @@
--- A member starts again in a later boot, with its label and its disk synced: all goes on fitting, and what stands goes on.
+-- A member starts again in a later boot, or its disk fails and it doesn't: all goes on fitting, and what stands goes on.
 use Rattle.std.proofs.Common.{◌≡◌, ◌≢◌, ◌⊎◌, inl, inr, ℕ, ◌+◌, ◌<◌, ◌≤◌, Bool, true, false, Contains, List, [], Option, Some, None, max, refl, sym, ◌∙◌, ap, subst, arith}
 use Rattle.std.specs.Prelude.{◌==◌, not, slice_get, if◌then◌else◌}
 use Rattle.std.proofs.lemmas.Bool.Decides.{nat_tests}
@@ -10,7 +10,7 @@ use Rattle.bx_facts.proofs.Machines.{elsewhere, here}
 use Rattle.bx_facts.specs.Chains.{IsPlace, last}
 use Rattle.bx_facts.specs.Disks.{SameMemberLengths}
 use Rattle.bx_facts.specs.Machines.{put_at}
-use Rattle.bx_facts.specs.Writes.{StorePast, member_disk, store_restarted, store_room}
+use Rattle.bx_facts.specs.Writes.{StorePast, member_disk, store_failed, store_restarted, store_room}
 use Rattle.bx_global.specs.declared.state.GlobalState.{GlobalState}
 use Rattle.bx_rows.specs.Modes.{IsSource}
 use Rattle.bx_rows.specs.declared.device.DeviceRow.{DeviceRow}
@@ -31,7 +31,7 @@ use Rattle.bx_mirror_cluster.specs.Fitting.{HasLabel, History, IsClaimed, IsComi
 use Rattle.bx_mirror_cluster.specs.GoesFurther.{GoesFurther}
 use Rattle.bx_mirror_cluster.specs.Learning.{with_clock}
 use Rattle.bx_mirror_cluster.specs.MemberSteps.{with_member, with_serving}
-use Rattle.bx_mirror_cluster.specs.Starting.{IsStarted, awaking}
+use Rattle.bx_mirror_cluster.specs.Starting.{IsBooted, awaking}
 use Rattle.bx_mirror_cluster.proofs.Labels.{label_kept, lengths_at, needs_before}
 use Rattle.bx_mirror_cluster.proofs.MemberMoves.{both_go, clock_goes}
 use Rattle.bx_mirror_cluster.proofs.MemberOwn.{other_disk, two}
@@ -47,7 +47,7 @@ same_disk k d true false e = omega (arith, e)
 same_disk k d true true e = omega (arith, e)
 
 module _ (parts : Parts) (x y : Disks) (past : StorePast) (keeps : Keeps parts x past) (d : ℕ) (b : Bool) (is_down : past.told.down (Member (member_at d b)) ≡ true) (boot : ℕ) (newer : past.told.boots (Member (member_at d b)) < boot)
-    (m : Serving) (starts : IsStarted parts.made x y d b boot m) where
+    (failed : Bool) (m : Serving) (starts : IsBooted parts.made x y d b failed boot m) where
   abbrev n : ℕ
   n = member_at d b
 
@@ -55,13 +55,13 @@ module _ (parts : Parts) (x y : Disks) (past : StorePast) (keeps : Keeps parts x
   h = keeps.history
 
   abbrev past_then : StorePast
-  past_then = awaking past n boot
+  past_then = awaking past n boot failed
 
   abbrev members_next : ℕ → Serving
   members_next = with_member parts.members n m
 
   abbrev down : ℕ → Bool
-  down k = put_at (Member n) false past.told.down (Member k)
+  down k = put_at (Member n) failed past.told.down (Member k)
 
   member_here : (k : ℕ) → k ≡ n → members_next k ≡ m
   member_here k e = let same : (k == n) ≡ true = grind (arith, nat_tests, e) in ap (λ (t : Bool). if t then m else parts.members k) same
@@ -72,11 +72,11 @@ module _ (parts : Parts) (x y : Disks) (past : StorePast) (keeps : Keeps parts x
   not_it : (k : ℕ) → k ≢ n → Member k ≢ Member n
   not_it k apart e = apart (let same : k ≡ n = cc in same)
 
-  down_here : (k : ℕ) → k ≡ n → down k ≡ false
-  down_here k e = ap (λ (j : ℕ). down j) e ∙ here (Member n) false past.told.down
+  down_here : (k : ℕ) → k ≡ n → down k ≡ failed
+  down_here k e = ap (λ (j : ℕ). down j) e ∙ here (Member n) failed past.told.down
 
   down_other : (k : ℕ) → k ≢ n → down k ≡ past.told.down (Member k)
-  down_other k apart = elsewhere (Member n) (Member k) false past.told.down (not_it k apart)
+  down_other k apart = elsewhere (Member n) (Member k) failed past.told.down (not_it k apart)
 
   boot_here : (k : ℕ) → k ≡ n → put_at (Member n) boot past.told.boots (Member k) ≡ boot
   boot_here k e = ap (λ (j : ℕ). put_at (Member n) boot past.told.boots (Member j)) e ∙ here (Member n) boot past.told.boots
@@ -104,7 +104,7 @@ module _ (parts : Parts) (x y : Disks) (past : StorePast) (keeps : Keeps parts x
 
   down_knows : (k : ℕ) → k < parts.made.devices → (c : Bool) → down (member_at k c) ≡ true → ((members_next (member_at k c)).row ≡ None) × ((members_next (member_at k c)).owed ≡ [])
   down_knows k within c is = elim (same_or (member_at k c) n) [
-    | inl e ↦ absurd (let wrong : true ≡ false = sym is ∙ down_here (member_at k c) e in cc)
+    | inl e ↦ (let o = member_here (member_at k c) e in (ap (λ (q : Serving). q.row) o ∙ starts.row, ap (λ (q : Serving). q.owed) o ∙ starts.owed))
     | inr apart ↦ (let o = member_other (member_at k c) apart in let old = (keeps.devices k within).down c (sym (down_other (member_at k c) apart) ∙ is) in (ap (λ (q : Serving). q.row) o ∙ old.0, ap (λ (q : Serving). q.owed) o ∙ old.1))
   ]
 
@@ -163,17 +163,26 @@ module _ (parts : Parts) (x y : Disks) (past : StorePast) (keeps : Keeps parts x
     targets r s is acts low high = starts.reads s low
 
     filled : (s : ℕ) → 3 ≤ last_.mode → (IsSource last_.mode b → ⊥) → ((sides b).up ≡ true) ⊎ ((sides b).unsure s ≡ false) → 1 ≤ s → ((next b).reads s ≡ (sides b).reads s) × ((sides b).unsure s ≡ false → (next b).unsure s ≡ false)
-    filled s copying none evidence low = (starts.reads s low, λ sure. starts.sure s)
+    filled s copying none evidence low = (starts.reads s low, λ sure. starts.sure s low sure)
 
     stays_it : (From : DeviceRow → Type 0) (s : ℕ) → 1 ≤ s → s < room → Counts From last_ older_ handed b (sides b) → ((sides b).up ≡ true) ⊎ ((sides b).unsure s ≡ false) → ((next b).reads s ≡ (sides b).reads s) × ((sides b).unsure s ≡ false → (next b).unsure s ≡ false)
-    stays_it From s low high counts evidence = (starts.reads s low, λ sure. starts.sure s)
+    stays_it From s low high counts evidence = (starts.reads s low, λ sure. starts.sure s low sure)
 
     ages : Ages room last_ older_ sides next (h.source d) (h.source d)
     ages = silent_ages d room g g last_ older_ handed sides next (h.source d) sound.rows b silent other_stays (omega arith) targets filled stays_it
 
+    own_label : NeedsLabel last_ handed (h.copieds d) (down n) b → HasLabel parts.made y (member_disk d b)
+    own_label needs = elim needs.is [
+      | inl leads ↦ starts.label (inr (sound.labels b (record { is = inl leads })))
+      | inr rest ↦ elim rest [
+        | inl up ↦ starts.label (inl (sym (down_here n refl) ∙ up))
+        | inr taken ↦ starts.label (inr (sound.labels b (record { is = inr (inr taken) })))
+      ]
+    ]
+
     labels_then : (c : Bool) → NeedsLabel last_ handed (h.copieds d) (down (member_at d c)) c → HasLabel parts.made y (member_disk d c)
     labels_then c needs = elim (two b c) [
-      | inl e ↦ subst (λ (t : Bool). HasLabel parts.made y (member_disk d t)) (sym e) starts.label
+      | inl e ↦ subst (λ (t : Bool). HasLabel parts.made y (member_disk d t)) (sym e) (own_label (subst (λ (t : Bool). NeedsLabel last_ handed (h.copieds d) (down (member_at d t)) t) e needs))
       | inr e ↦ subst (λ (t : Bool). NeedsLabel last_ handed (h.copieds d) (down (member_at d t)) t → HasLabel parts.made y (member_disk d t)) (sym e)
           (λ its. let k = starts.disks (member_disk d (not b)) 0 (other_disk d b) in
           label_kept parts.made x y (member_disk d (not b)) k.reads (λ sure. k.unsure ∙ sure) (lengths_at x y starts.lengths d (not b))
@@ -294,7 +303,7 @@ module _ (parts : Parts) (x y : Disks) (past : StorePast) (keeps : Keeps parts x
     tagged = keeps.tagged;
     read_tagged = keeps.read_tagged;
     member_boots = λ k there up. elim (same_or k n) [
-      | inl e ↦ ap (λ (q : Serving). q.boot) (member_here k e) ∙ starts.boot_is ∙ sym (boot_here k e)
+      | inl e ↦ ap (λ (q : Serving). q.boot) (member_here k e) ∙ starts.boot_is (sym (down_here k e) ∙ up) ∙ sym (boot_here k e)
       | inr e ↦ ap (λ (q : Serving). q.boot) (member_other k e) ∙ keeps.member_boots k there (sym (down_other k e) ∙ up) ∙ sym (boot_other k e)
     ];
     node_boots = keeps.node_boots;
@@ -327,10 +336,15 @@ module _ (parts : Parts) (x y : Disks) (past : StorePast) (keeps : Keeps parts x
   }
 
 -- with the reading that it has
-pub restarts_goes : (parts : Parts) (x y : Disks) (past : StorePast) (d : ℕ) (b : Bool) (boot reading : ℕ) (m : Serving) → Keeps parts x past → past.told.down (Member (member_at d b)) ≡ true → past.told.boots (Member (member_at d b)) < boot → IsStarted parts.made x y d b boot m
-    → GoesFurther parts (with_serving parts (member_at d b) m) x y past (store_restarted past (Member (member_at d b)) boot reading)
-restarts_goes parts x y past d b boot reading m keeps is_down newer starts =
-    let risen : StorePast = with_clock past (max past.told.greatest reading) in
-    let first = clock_goes parts x past (max past.told.greatest reading) (omega arith) keeps in
-    both_go parts parts (with_serving parts (member_at d b) m) x x y past risen (store_restarted past (Member (member_at d b)) boot reading) first
-    (starts_goes parts x y risen first.keeps d b is_down boot newer m starts)
+module _ (parts : Parts) (x y : Disks) (past : StorePast) (d : ℕ) (b : Bool) (boot reading : ℕ) (m : Serving) (keeps : Keeps parts x past) (is_down : past.told.down (Member (member_at d b)) ≡ true) (newer : past.told.boots (Member (member_at d b)) < boot) where
+  abbrev risen : StorePast
+  risen = with_clock past (max past.told.greatest reading)
+
+  first : GoesFurther parts parts x x past risen
+  first = clock_goes parts x past (max past.told.greatest reading) (omega arith) keeps
+
+  pub restarts_goes : IsBooted parts.made x y d b false boot m → GoesFurther parts (with_serving parts (member_at d b) m) x y past (store_restarted past (Member (member_at d b)) boot reading)
+  restarts_goes starts = both_go parts parts (with_serving parts (member_at d b) m) x x y past risen (store_restarted past (Member (member_at d b)) boot reading) first (starts_goes parts x y risen first.keeps d b is_down boot newer false m starts)
+
+  pub fails_goes : IsBooted parts.made x y d b true boot m → GoesFurther parts (with_serving parts (member_at d b) m) x y past (store_failed past (Member (member_at d b)) boot reading)
+  fails_goes starts = both_go parts parts (with_serving parts (member_at d b) m) x x y past risen (store_failed past (Member (member_at d b)) boot reading) first (starts_goes parts x y risen first.keeps d b is_down boot newer true m starts)

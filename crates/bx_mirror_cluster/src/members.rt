@@ -1,11 +1,11 @@
 //! What a member does, as events of a store whose members and streams fit what was done with it.
 
-ghost use Rattle.std.specs.Prelude.{◌≡◌, ◌≢◌, ℕ, ◌<◌, ◌++◌, Bool, true, List, Option};
+ghost use Rattle.std.specs.Prelude.{◌≡◌, ◌≢◌, ℕ, ◌<◌, ◌++◌, Bool, false, true, List, Option};
 ghost use Rattle.bx_base.specs.declared.names.Actor.TheVariants.{Member};
 ghost use Rattle.bx_disk.specs.Disks.{Disks, Stays};
 ghost use Rattle.bx_facts.specs.Disks.{SameMemberLengths};
 ghost use Rattle.bx_facts.specs.Inputs.{IsComing as Arrives, IsSteady};
-ghost use Rattle.bx_facts.specs.Writes.{StorePast, member_disk, store_heard, store_restarted, store_with};
+ghost use Rattle.bx_facts.specs.Writes.{StorePast, member_disk, store_failed, store_heard, store_restarted, store_with};
 ghost use Rattle.bx_facts.specs.declared.input.Input.{Input};
 ghost use Rattle.bx_global.specs.declared.change.Change.{Change};
 ghost use Rattle.bx_global.specs.declared.state.GlobalState.{GlobalState};
@@ -16,7 +16,7 @@ ghost use Rattle.bx_mirror_server.specs.Serving.{Does};
 ghost use Rattle.bx_mirror_cluster.specs.Fitting.{Keeps, Parts};
 ghost use Rattle.bx_mirror_cluster.specs.GoesFurther.{GoesFurther};
 ghost use Rattle.bx_mirror_cluster.specs.MemberSteps.{IsFor, MayServe, with_serving};
-ghost use Rattle.bx_mirror_cluster.specs.Starting.{IsStarted};
+ghost use Rattle.bx_mirror_cluster.specs.Starting.{IsBooted};
 
 /// All that a member does in one event: it learns the state that it is handed, and takes what comes. Members and streams fit the past again, with its
 /// letters and the change that it hands back, and what was settled, stood or is read goes on, where members write nothing else.
@@ -27,10 +27,13 @@ pub fn a_member_takes()
         → GoesFurther parts (with_serving parts (member_at device second) new) x y (store_with past before) (store_with (store_heard past (Member (member_at device second)) known.index input change) after) }
 {}
 
-/// A member that is down starts again in a later boot, with its label and its disk synced: members and streams go on fitting the past, and what was
-/// settled, stood or is read goes on.
+/// A member that is down starts again in a later boot, with its label; or its disk fails, and it stays down: members and streams go on fitting the
+/// past, and what was settled, stood or is read goes on.
 pub fn a_member_starts()
-    ensures { (parts : Parts) (x y : Disks) (past : StorePast) (device : ℕ) (second : Bool) (boot reading : ℕ) (member : Standing) → Keeps parts x past → past.told.down (Member (member_at device second)) ≡ true
-        → past.told.boots (Member (member_at device second)) < boot → IsStarted parts.made x y device second boot member
+    ensures started { (parts : Parts) (x y : Disks) (past : StorePast) (device : ℕ) (second : Bool) (boot reading : ℕ) (member : Standing) → Keeps parts x past → past.told.down (Member (member_at device second)) ≡ true
+        → past.told.boots (Member (member_at device second)) < boot → IsBooted parts.made x y device second false boot member
         → GoesFurther parts (with_serving parts (member_at device second) member) x y past (store_restarted past (Member (member_at device second)) boot reading) }
+    ensures failed { (parts : Parts) (x y : Disks) (past : StorePast) (device : ℕ) (second : Bool) (boot reading : ℕ) (member : Standing) → Keeps parts x past → past.told.down (Member (member_at device second)) ≡ true
+        → past.told.boots (Member (member_at device second)) < boot → IsBooted parts.made x y device second true boot member
+        → GoesFurther parts (with_serving parts (member_at device second) member) x y past (store_failed past (Member (member_at device second)) boot reading) }
 {}

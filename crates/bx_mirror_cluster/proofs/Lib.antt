@@ -54,3 +54,4 @@ pub mod NodeStops
 pub mod Promised
 pub mod StreamsGo
 pub mod Ended
+pub mod MemberFaults

@@ -211,3 +211,14 @@ module _ (parts : Parts) (x y : Disks) (past : StorePast) (d : ℕ) (b : Bool) (
         (subst (λ (q : Serving). OfInput (Unit {0}) input q new change does.between after x y) (is_learned k.0 k.2) does.does)
     | inr far ↦ absurd (let count = keeps.count known serve.place in let past_it = far.0 in omega (arith, past_it, count, within))
   ]
+
+  -- it only learns the state
+  pub only_learns : GoesFurther parts (with_serving parts n (learned known was)) x x past_first (past_known before)
+  only_learns = elim (slice_get_cases known.devices d).1 [
+    | inl k ↦ subst (λ (q : Serving). GoesFurther parts (with_serving parts n q) x x past_first (past_known before)) (sym (is_learned k.0 k.2)) (by_news k.0 k.2 (is_news was.row k.0) refl)
+    | inr far ↦ absurd (let count = keeps.count known serve.place in let past_it = far.0 in omega (arith, past_it, count, within))
+  ]
+    where
+      by_news : (row : DeviceRow) → slice_get known.devices d ≡ Some row → (t : Bool) → is_news was.row row ≡ t → GoesFurther parts (with_serving parts n (if t then with_row was row else was)) x x past_first (past_known before)
+      by_news row there true news = both_go parts parts (with_serving parts n (with_row was row)) x x x past_first past_timed (past_known before) timed (learns_new row there news)
+      by_news row there false old = both_go parts parts (with_serving parts n was) x x x past_first past_timed (past_known before) timed (learns_old row there old)

@@ -55,3 +55,5 @@ pub mod Promised
 pub mod StreamsGo
 pub mod Ended
 pub mod MemberFaults
+pub mod MemberKeeps
+pub mod MemberFaulted

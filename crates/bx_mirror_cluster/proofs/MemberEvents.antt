@@ -57,7 +57,7 @@ rises_with greatest (Packet packet reading) = omega arith
 rises_with greatest (Tick reading) = omega arith
 rises_with greatest Synced = omega arith
 
-steady_with : (greatest : ℕ) (input : Input) → IsSteady greatest input → IsSteady (greatest_with greatest input) input
+pub steady_with : (greatest : ℕ) (input : Input) → IsSteady greatest input → IsSteady (greatest_with greatest input) input
 steady_with greatest (Packet packet reading) steady = omega (arith, steady)
 steady_with greatest (Tick reading) steady = omega (arith, steady)
 steady_with greatest Synced steady = tt

@@ -11,6 +11,9 @@ use Rattle.bx_global.specs.declared.state.GlobalState.{GlobalState}
 use Rattle.bx_post.specs.declared.packets.Letter.{Letter}
 use Rattle.bx_rows.specs.Conditions.{Fits}
 use Rattle.bx_rows.specs.declared.device.DeviceRow.{DeviceRow}
+use Rattle.bx_mirror_packets.specs.DeviceMessages.{Spells}
+use Rattle.bx_mirror_packets.specs.declared.message.DeviceMessage.TheVariants.{Write}
+use Rattle.bx_mirror_packets.specs.declared.message.WriteBody.{WriteBody}
 use Rattle.bx_mirror_laws.specs.Sides.{Copied, CopyLetter, Wrote}
 use Rattle.bx_mirror_member.specs.Standing.{Standing as Serving}
 use Rattle.bx_mirror_cluster.specs.Fitting.{History, Parts}
@@ -54,6 +57,12 @@ abbrev pub IsFor : Actor → Input → Type 0
 IsFor at (Packet packet reading) = packet.now.to ≡ at
 IsFor at (Tick reading) = Unit {0}
 IsFor at Synced = Unit {0}
+
+-- a write comes, with this reading
+abbrev pub IsWriteIn : Input → ℕ → WriteBody → Type 0
+IsWriteIn (Packet packet r) reading w = (r ≡ reading) × Spells (Write w) packet.now.kind packet.now.body
+IsWriteIn (Tick r) reading w = ⊥
+IsWriteIn Synced reading w = ⊥
 
 -- What a member is handed: it is up, the state is one of the chain, and no older than what it knew.
 pub record MayServe (parts : Parts) (past : StorePast) (n : ℕ) (known : GlobalState) : Type 0 where

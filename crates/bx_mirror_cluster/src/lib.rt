@@ -12,7 +12,7 @@ pub use laws::{
     a_write_is_sent, begins, grows, letters_are_lost, members_are_labelled, nothing_is_out,
     what_came_is_noted, what_is_done_stands, what_is_settled_stands, what_stands_is_settled,
 };
-pub use members::{a_member_starts, a_member_takes};
+pub use members::{a_disk_fails_a_member, a_member_starts, a_member_takes};
 pub use nodes::{
     a_reading_rises, a_state_is_learned, a_write_ends, a_write_that_ends_stands, an_event_is_taken,
     members_are_told_again,

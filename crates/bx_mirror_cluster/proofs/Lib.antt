@@ -57,3 +57,4 @@ pub mod Ended
 pub mod MemberFaults
 pub mod MemberKeeps
 pub mod MemberFaulted
+pub mod MemberPieceCut

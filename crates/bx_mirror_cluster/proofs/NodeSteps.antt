@@ -103,7 +103,7 @@ same_past past = ap (λ (ls : List Letter). let p : StorePast = record past { to
 
 -- ---- the answer is taken
 
-left_is : (asks : Option Asking) (a : Asking) → asks_left asks ≡ Some a → asks ≡ Some a
+pub left_is : (asks : Option Asking) (a : Asking) → asks_left asks ≡ Some a → asks ≡ Some a
 left_is None a e = e
 left_is (Some q) a e = by (is_some q.answer) e
   where

@@ -1,8 +1,8 @@
 //! Laws of a store whose members and streams fit what was done with it.
 
-ghost use Rattle.std.specs.Prelude.{◌≡◌, ◌≢◌, ℕ, ◌+◌, ◌<◌, ◌≤◌, ◌⊎◌, ◌==◌, Bool, true, false, List, [], None, Some, length};
+ghost use Rattle.std.specs.Prelude.{◌≡◌, ◌≢◌, ℕ, ◌+◌, ◌-◌, ◌<◌, ◌≤◌, ◌⊎◌, ◌==◌, Bool, true, false, List, [], None, Some, length};
 ghost use Rattle.bx_base.specs.declared.names.Actor.TheVariants.{Node};
-ghost use Rattle.bx_disk.specs.Disks.{Disks};
+ghost use Rattle.bx_disk.specs.Disks.{Disks, sector_of};
 ghost use Rattle.bx_facts.specs.Chains.{IsPlace, IsStoresOwn, LivesIn, last};
 ghost use Rattle.bx_facts.specs.Inputs.{AreAmong, IsStores};
 ghost use Rattle.bx_facts.specs.Writes.{IsOfStore, IsOnly, IsSettled, NamesUpTo, StorePast, WritesIn, found_store, opening_store, store_crashed, store_grown, store_restarted, store_room, without_session};
@@ -15,6 +15,7 @@ ghost use Rattle.bx_post.specs.declared.packets.Letter.{Letter};
 ghost use Rattle.bx_mirror_client.specs.Sends.{is_done};
 ghost use Rattle.bx_mirror_client.specs.declared.asking.Asking.{Asking};
 ghost use Rattle.bx_mirror_client.specs.declared.sending.Sending.{Sending};
+ghost use Rattle.bx_mirror_cluster.specs.GoesFurther.{StreamsGo};
 ghost use Rattle.bx_mirror_cluster.specs.NodeSteps.{IsAck, MayRead, parts_acked, parts_asked, past_asked};
 ghost use Rattle.bx_mirror_cluster.specs.Writing.{MayHold, MaySend, parts_sent, past_sent, with_stream};
 ghost use Rattle.bx_mirror_client.specs.Streams.{answered, restarted, stopped};
@@ -125,9 +126,12 @@ pub fn members_are_labelled()
     ensures { (parts : Parts) (x : Disks) (past : StorePast) → Keeps parts x past → IsOfStore parts.made x (last past.told.chain) }
 {}
 
-/// The answer to a node's read is taken; and an acknowledgement that comes of its write is noted, where the write isn't done by it.
+/// The answer to a node's read is taken: it is what was promised, and what was settled, stood or is read goes on. An acknowledgement that comes of its
+/// write is noted, where the write isn't done by it.
 pub fn what_came_is_noted()
-    ensures answered { (parts : Parts) (x : Disks) (past : StorePast) (node : ℕ) → Keeps parts x past → Keeps (with_stream parts node (answered (parts.nodes node))) x past }
+    ensures answered { (parts : Parts) (x : Disks) (past : StorePast) (node : ℕ) → Keeps parts x past → StreamsGo parts (with_stream parts node (answered (parts.nodes node))) x past past }
+    ensures promise { (parts : Parts) (x : Disks) (past : StorePast) (node : ℕ) (read : Asking) (sector : ℕ) (content bytes : List ℕ) → WillReadOn parts x past node read sector content → read.answer ≡ Some bytes
+        → read.place ≤ sector → sector < read.place + read.sectors → sector_of bytes (sector - read.place) ≡ content }
     ensures acked { (parts : Parts) (x : Disks) (past : StorePast) (node : ℕ) (s : Sending) (member : ℕ) (w : WroteBody) → Keeps parts x past → IsAck parts past node s member w → Keeps (parts_acked parts node s member w.epoch) x past }
 {}
 

@@ -121,6 +121,11 @@ pub fn a_read_has_what_stands()
         → WillReadOn (parts_asked parts node session device place sectors) x (past_asked parts past node session device place sectors) node read sector content }
 {}
 
+/// A write that is out, of whatever number, is of the node's own session.
+pub fn what_is_out_is_its_own()
+    ensures { (parts : Parts) (x : Disks) (past : StorePast) (node : ℕ) (write : Sending) → Keeps parts x past → (parts.nodes node).out ≡ Some write → (parts.nodes node).session ≡ Some write.session }
+{}
+
 /// The last state has the devices that there are, and each member that an audit would read has its label, surely, and all its sectors.
 pub fn members_are_labelled()
     ensures { (parts : Parts) (x : Disks) (past : StorePast) → Keeps parts x past → IsOfStore parts.made x (last past.told.chain) }

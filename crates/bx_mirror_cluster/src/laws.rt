@@ -2,10 +2,10 @@
 
 ghost use Rattle.std.specs.Prelude.{◌≡◌, ◌≢◌, ℕ, ◌+◌, ◌-◌, ◌<◌, ◌≤◌, ◌⊎◌, ◌==◌, Bool, true, false, List, [], None, Some, length};
 ghost use Rattle.bx_base.specs.declared.names.Actor.TheVariants.{Node};
-ghost use Rattle.bx_disk.specs.Disks.{Disks, sector_of};
+ghost use Rattle.bx_disk.specs.Disks.{Disks, Image, sector_of};
 ghost use Rattle.bx_facts.specs.Chains.{IsPlace, IsStoresOwn, LivesIn, last};
 ghost use Rattle.bx_facts.specs.Inputs.{AreAmong, IsStores};
-ghost use Rattle.bx_facts.specs.Writes.{IsOfStore, IsOnly, IsSettled, NamesUpTo, StorePast, WritesIn, found_store, opening_store, store_crashed, store_grown, store_restarted, store_room, without_session};
+ghost use Rattle.bx_facts.specs.Writes.{HasSettled, IsOfStore, IsOnly, IsSettled, IsSourceIn, NamesUpTo, StorePast, WritesIn, found_store, member_disk, opening_store, store_crashed, store_grown, store_restarted, store_room, without_session};
 ghost use Rattle.bx_global.specs.Allowed.{IsAllowed};
 ghost use Rattle.bx_global.specs.Table.{IsLegal};
 ghost use Rattle.bx_locking.specs.Owned.{AreSingle};
@@ -119,6 +119,13 @@ pub fn a_read_has_what_stands()
     ensures { (parts : Parts) (x : Disks) (past : StorePast) (node session device place sectors : ℕ) (read : Asking) (sector : ℕ) (content : List ℕ) (index : ℕ) → Keeps parts x past → MayRead parts node session device place sectors
         → ((parts_asked parts node session device place sectors).nodes node).asks ≡ Some read → StandsOn parts x past device sector content index → index ≤ past.told.knew (Node node)
         → WillReadOn (parts_asked parts node session device place sectors) x (past_asked parts past node session device place sectors) node read sector content }
+{}
+
+/// An image of disks that has what is sure there, and the labels that are sure, has what is settled.
+pub fn an_image_has_what_is_settled()
+    ensures { (parts : Parts) (x : Disks) (past : StorePast) (image : Image) → Keeps parts x past → ((disk sector : ℕ) → (1 ≤ sector) ⊎ (disk < 3) → x.unsure disk sector ≡ false → image disk sector ≡ x.reads disk sector)
+        → ((device : ℕ) (second : Bool) → IsSourceIn (last past.told.chain) device second → x.unsure (member_disk device second) 0 ≡ false → image (member_disk device second) 0 ≡ x.reads (member_disk device second) 0)
+        → HasSettled past.writes past.told.greatest (IsSettledOn parts x past) x (last past.told.chain) image }
 {}
 
 /// A write that is out, of whatever number, is of the node's own session.

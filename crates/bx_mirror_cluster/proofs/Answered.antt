@@ -45,7 +45,7 @@ module _ (device room greatest : ℕ) (last : DeviceRow) (older : List DeviceRow
     may = λ c r is h. may_back c r h;
     boot = λ c. omega arith;
     known = λ c r e. rows.known c r e;
-    targets = λ c r s is acts none low high. inl refl;
+    targets = λ c r s is acts none low high reads. reads;
     filled = λ c s copying none been evidence low reads. (reads, λ sure. sure);
     sources = λ c r s is been leads. refl;
   }

@@ -93,6 +93,7 @@ module _ (parts : Parts) (x : Disks) (first s : GlobalState) (found : ℕ) (knew
     out_number = λ n w is. absurd (no_out n w is);
     actual_given = λ w there. absurd there.is;
     sendable = λ n w is. absurd (no_sending n w is);
+    holding = λ n w is. absurd (no_sending n w is);
     askable = λ n a is. absurd (no_asks n a is);
     epochs = λ q place d row is. epoch_fits s.devices d row allowed.each_device (ap (λ (g : GlobalState). slice_get g.devices d) (sym place) ∙ is);
     owing = λ n o there. absurd (nothing o (subst (λ (os : List Owing). Contains os o) (new.owed n) there));

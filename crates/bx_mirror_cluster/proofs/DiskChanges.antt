@@ -103,6 +103,7 @@ with_disks parts x y past keeps sound = record {
   out_number = keeps.out_number;
   actual_given = keeps.actual_given;
   sendable = keeps.sendable;
+  holding = keeps.holding;
   askable = keeps.askable;
   epochs = keeps.epochs;
   owing = keeps.owing;

@@ -61,6 +61,7 @@ module _ (parts : Parts) (x : Disks) (past : StorePast) (keeps : Keeps parts x p
     out_number = keeps.out_number;
     actual_given = keeps.actual_given;
     sendable = keeps.sendable;
+    holding = keeps.holding;
     askable = keeps.askable;
     epochs = keeps.epochs;
     owing = keeps.owing;

@@ -84,6 +84,7 @@ module _ (parts : Parts) (x : Disks) (past : StorePast) (keeps : Keeps parts x p
     out_number = λ m w is. let le = keeps.out_number m w (sym (on.out m) ∙ is) in let same = on.sequence m in omega (arith, le, same);
     actual_given = keeps.actual_given;
     sendable = on.sendable;
+    holding = on.holding;
     askable = on.askable;
     epochs = keeps.epochs;
     owing = keeps.owing;

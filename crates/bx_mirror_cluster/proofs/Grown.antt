@@ -200,6 +200,7 @@ module _ (parts : Parts) (x : Disks) (past : StorePast) (change : Change) (keeps
     out_number = keeps.out_number;
     actual_given = λ w there. let given = keeps.actual_given w there in omega (arith, given, more);
     sendable = keeps.sendable;
+    holding = keeps.holding;
     askable = keeps.askable;
     epochs = λ q place d row is. elim place [
       | inl new ↦ epochs_fit s change legal (keeps.epochs s here) d row (ap (λ (p : GlobalState). slice_get p.devices d) (sym new) ∙ is)

@@ -330,6 +330,10 @@ module _ (parts : Parts) (x : Disks) (past : StorePast) (keeps : Keeps parts x p
       | inr e ↦ (let le = keeps.out_number m w (sym (ap (λ (q : Streaming). out_by q.out) (at_other m e)) ∙ is) in let same = ap (λ (q : Streaming). q.sequence) (at_other m e) in omega (arith, le, same))
     ];
     actual_given = keeps.actual_given;
+    holding = λ m t is. elim (same_or m n) [
+      | inl e ↦ ap (λ (q : Streaming). q.session) (at_it m e) ∙ so.holding t (sym (ap (λ (q : Streaming). q.out) (at_it m e)) ∙ is)
+      | inr e ↦ ap (λ (q : Streaming). q.session) (at_other m e) ∙ keeps.holding m t (sym (ap (λ (q : Streaming). q.out) (at_other m e)) ∙ is)
+    ];
     sendable = λ m t is. elim (same_or m n) [
       | inl e ↦ keeps.sendable n t (so.noted t (sym (ap (λ (q : Streaming). q.out) (at_it m e)) ∙ is))
       | inr e ↦ keeps.sendable m t (sym (ap (λ (q : Streaming). q.out) (at_other m e)) ∙ is)

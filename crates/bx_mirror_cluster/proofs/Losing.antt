@@ -74,6 +74,7 @@ module _ (parts : Parts) (x : Disks) (past : StorePast) (letters : List Letter) 
     out_number = keeps.out_number;
     actual_given = keeps.actual_given;
     sendable = keeps.sendable;
+    holding = keeps.holding;
     askable = keeps.askable;
     epochs = keeps.epochs;
     owing = keeps.owing;

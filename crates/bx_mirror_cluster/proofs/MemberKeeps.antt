@@ -91,7 +91,11 @@ module _ (parts : Parts) (x y : Disks) (past : StorePast) (keeps : Keeps parts x
     may = λ t r is. each (λ s q. MayAct t q r → MayAct t s r) (λ s k f z. record { up = z.up; named = z.named; knows = z.knows }) t;
     boot = each (λ s q. s.boot ≤ q.boot) (λ s k f. omega arith);
     known = λ t r. each (λ s q. (s.row ≡ Some r → IsRow last_ older_ r) → q.row ≡ Some r → IsRow last_ older_ r) (λ s k f z. z) t (sound.rows.known t r);
+<<<<<<< HEAD
     targets = λ t r s is a none low high. inl (each (λ z q. q.reads s ≡ z.reads s) (λ z k f. refl) t);
+=======
+    targets = λ t r s is a none low high was_it. each (λ z q. q.reads s ≡ z.reads s) (λ z k f. refl) t ∙ was_it;
+>>>>>>> 6594b905
     filled = λ t s copying none been evidence low reads. (each (λ z q. q.reads s ≡ z.reads s) (λ z k f. refl) t ∙ reads, each (λ z q. z.unsure s ≡ false → q.unsure s ≡ false) (λ z k f was_sure. f s was_sure) t);
     sources = λ t r s is been leads_it. refl;
   }

@@ -152,7 +152,7 @@ module _ (parts : Parts) (x : Disks) (past : StorePast) (keeps : Keeps parts x p
     may = λ t r is. each (λ s q. MayAct t q r → MayAct t s r) (λ s k z. record { up = z.up; named = z.named; knows = z.knows }) t;
     boot = each (λ s q. s.boot ≤ q.boot) (λ s k. omega arith);
     known = λ t r. each (λ s q. (s.row ≡ Some r → IsRow last_ older_ r) → q.row ≡ Some r → IsRow last_ older_ r) (λ s k z. z) t (sound.rows.known t r);
-    targets = λ t r s is a none low high. inl (each (λ z q. q.reads s ≡ z.reads s) (λ z k. refl) t);
+    targets = λ t r s is a none low high was_it. each (λ z q. q.reads s ≡ z.reads s) (λ z k. refl) t ∙ was_it;
     filled = λ t s copying none been evidence low reads. (each (λ z q. q.reads s ≡ z.reads s) (λ z k. refl) t ∙ reads, each (λ z q. z.unsure s ≡ false → q.unsure s ≡ false) (λ z k sure. sure) t);
     sources = λ t r s is been leads_it. refl;
   }

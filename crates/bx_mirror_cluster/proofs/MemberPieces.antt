@@ -14,9 +14,9 @@ use Rattle.bx_rows.specs.Modes.{IsSource}
 use Rattle.bx_rows.specs.declared.device.DeviceRow.{DeviceRow}
 use Rattle.bx_mirror_laws.specs.Acting.{Acts, IsRow, boot_in}
 use Rattle.bx_mirror_laws.specs.Sides.{Among, CopyLetter, Handing, Side}
-use Rattle.bx_mirror_laws.specs.Steps.{Ages, PieceTaken}
+use Rattle.bx_mirror_laws.specs.Steps.{Ages, PieceChanged, PieceTaken}
 use Rattle.bx_mirror_laws.proofs.Ages.{hands_age, rows_age}
-use Rattle.bx_mirror_laws.proofs.Copying.{piece_ages, piece_copies, piece_outs, piece_stands, piece_writes, piece_wrotes}
+use Rattle.bx_mirror_laws.proofs.Copying.{piece_ages, piece_changed, piece_copies, piece_outs, piece_stands, piece_writes, piece_wrotes}
 use Rattle.bx_mirror_packets.specs.DeviceMessages.{Spells}
 use Rattle.bx_mirror_packets.specs.declared.message.CopyBody.{CopyBody}
 use Rattle.bx_mirror_packets.specs.declared.message.DeviceMessage.TheVariants.{Copy}
@@ -43,11 +43,11 @@ pub record PieceComes (parts : Parts) (past : StorePast) (d : ℕ) (b : Bool) (c
   pub here : IsCopiedHere (parts.members (member_at d b)) c
 
 -- in a copy mode
-copy_mode : (b : Bool) (mode : ℕ) → mode ≡ copy_from b → 3 ≤ mode
+pub copy_mode : (b : Bool) (mode : ℕ) → mode ≡ copy_from b → 3 ≤ mode
 copy_mode false mode e = omega (arith, e)
 copy_mode true mode e = omega (arith, e)
 
-not_both : (b : Bool) → b ≡ not b → ⊥
+pub not_both : (b : Bool) → b ≡ not b → ⊥
 not_both true e = absurd cc
 not_both false e = absurd cc
 
@@ -117,10 +117,13 @@ module _ (parts : Parts) (x y : Disks) (past : StorePast) (keeps : Keeps parts x
   target : IsSource row.mode b → ⊥
   target leads = not_both b (one_source row.mode (not b) b mode_is leads)
 
-  taken : PieceTaken b l (sides b) (next b)
-  taken = subst (λ (t : Bool). PieceTaken t l (sides b) (next b)) second_is
+  taken_whole : PieceTaken b l (sides b) (next b)
+  taken_whole = subst (λ (t : Bool). PieceTaken t l (sides b) (next b)) second_is
       (subst (λ (s : Side). PieceTaken (is_second was) l s (next b)) (sym own.now)
       (subst (λ (s : Side). PieceTaken (is_second was) l (side_by true was x) s) (sym own.next) (piece was m from its_from.0 c x y comes.here.acts.device_is puts)))
+
+  taken : PieceChanged b l (sides b) (next b)
+  taken = piece_changed b l (sides b) (next b) taken_whole
 
   -- ---- it fits
 

@@ -188,6 +188,7 @@ module _ (parts : Parts) (x : Disks) (past : StorePast) (n : ℕ) (members : ℕ
     out_number = keeps.out_number;
     actual_given = keeps.actual_given;
     sendable = keeps.sendable;
+    holding = keeps.holding;
     askable = keeps.askable;
     epochs = keeps.epochs;
     owing = λ k o there. elim (same_or k n) [

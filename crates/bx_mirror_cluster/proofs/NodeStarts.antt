@@ -153,6 +153,10 @@ module _ (parts : Parts) (x : Disks) (past : StorePast) (keeps : Keeps parts x p
       | inr e ↦ (let le = keeps.out_number m w (sym (ap (λ (q : Streaming). out_by q.out) (at_other m e)) ∙ is) in let same = ap (λ (q : Streaming). q.sequence) (at_other m e) in omega (arith, le, same))
     ];
     actual_given = keeps.actual_given;
+    holding = λ m s is. elim (same_or m n) [
+      | inl e ↦ absurd (let no : None ≡ Some s = sym (ap (λ (q : Streaming). q.out) (at_it m e)) ∙ is in cc)
+      | inr e ↦ ap (λ (q : Streaming). q.session) (at_other m e) ∙ keeps.holding m s (sym (ap (λ (q : Streaming). q.out) (at_other m e)) ∙ is)
+    ];
     sendable = λ m s is. elim (same_or m n) [
       | inl e ↦ absurd (let no : None ≡ Some s = sym (ap (λ (q : Streaming). q.out) (at_it m e)) ∙ is in cc)
       | inr e ↦ keeps.sendable m s (sym (ap (λ (q : Streaming). q.out) (at_other m e)) ∙ is)

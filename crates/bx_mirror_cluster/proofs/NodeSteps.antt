@@ -57,9 +57,10 @@ module _ (parts : Parts) (x : Disks) (past : StorePast) (keeps : Keeps parts x p
   ]
 
   pub node_goes_on : out_by c.out ≡ out_by (parts.nodes n).out → c.rows ≡ (parts.nodes n).rows → c.session ≡ (parts.nodes n).session → c.sequence ≡ (parts.nodes n).sequence → c.boot ≡ (parts.nodes n).boot → (parts.nodes n).tag ≤ c.tag → ((s : Sending) → c.out ≡ Some s → IsSendable parts.made s)
+      → ((s : Sending) → c.out ≡ Some s → (parts.nodes n).session ≡ Some s.session)
       → ((d epoch : ℕ) (b : Bool) (s : Sending) → d < parts.made.devices → c.out ≡ Some s → HasAcked s.acks (member_at d b) epoch → Among (keeps.history.wrotes d) (record { by = b; session = s.session; epoch = epoch; sequence = s.sequence }))
       → ((a : Asking) → c.asks ≡ Some a → (c.session ≡ Some a.session) × (a.tag ≤ c.tag) × FitsRead a × IsAskedOn (parts.nodes n) a) → GoesOn parts keeps.history (with_node parts.nodes n c)
-  node_goes_on out rows session sequence boot tag sendable noted asked = record {
+  node_goes_on out rows session sequence boot tag sendable holding noted asked = record {
     out = λ m. kept (λ q. out_by q.out) out m;
     rows = λ m. kept (λ q. q.rows) rows m;
     session = λ m. kept (λ q. q.session) session m;
@@ -68,6 +69,10 @@ module _ (parts : Parts) (x : Disks) (past : StorePast) (keeps : Keeps parts x p
     tag = λ m. elim (same_or m n) [
       | inl e ↦ (let now = ap (λ (q : Streaming). q.tag) (at_it m e) in let before = ap (λ (k : ℕ). (parts.nodes k).tag) e in omega (arith, now, before, tag))
       | inr e ↦ (let same = ap (λ (q : Streaming). q.tag) (at_other m e) in omega (arith, same))
+    ];
+    holding = λ m s is. elim (same_or m n) [
+      | inl e ↦ ap (λ (q : Streaming). q.session) (at_it m e) ∙ session ∙ holding s (sym (ap (λ (q : Streaming). q.out) (at_it m e)) ∙ is)
+      | inr e ↦ ap (λ (q : Streaming). q.session) (at_other m e) ∙ keeps.holding m s (sym (ap (λ (q : Streaming). q.out) (at_other m e)) ∙ is)
     ];
     sendable = λ m s is. elim (same_or m n) [
       | inl e ↦ sendable s (sym (ap (λ (q : Streaming). q.out) (at_it m e)) ∙ is)
@@ -103,7 +108,7 @@ same_past past = ap (λ (ls : List Letter). let p : StorePast = record past { to
 
 -- ---- the answer is taken
 
-left_is : (asks : Option Asking) (a : Asking) → asks_left asks ≡ Some a → asks ≡ Some a
+pub left_is : (asks : Option Asking) (a : Asking) → asks_left asks ≡ Some a → asks ≡ Some a
 left_is None a e = e
 left_is (Some q) a e = by (is_some q.answer) e
   where
@@ -113,7 +118,7 @@ left_is (Some q) a e = by (is_some q.answer) e
 
 pub answer_taken : (parts : Parts) (x : Disks) (past : StorePast) (n : ℕ) → Keeps parts x past → Keeps (with_stream parts n (answered (parts.nodes n))) x past
 answer_taken parts x past n keeps =
-    let on = node_goes_on parts x past keeps n (answered (parts.nodes n)) refl refl refl refl refl (omega arith) (λ s is. keeps.sendable n s is) (λ d epoch b s within is has. keeps.noted n d epoch b s within is has) (λ a is. asked_still parts x past keeps n a (left_is (parts.nodes n).asks a is)) in
+    let on = node_goes_on parts x past keeps n (answered (parts.nodes n)) refl refl refl refl refl (omega arith) (λ s is. keeps.sendable n s is) (λ s is. keeps.holding n s is) (λ d epoch b s within is has. keeps.noted n d epoch b s within is has) (λ a is. asked_still parts x past keeps n a (left_is (parts.nodes n).asks a is)) in
     subst (λ (p : StorePast). Keeps (with_stream parts n (answered (parts.nodes n))) x p) (same_past past)
     (goes_on parts x past keeps (with_node parts.nodes n (answered (parts.nodes n))) [] on (no_reads (with_node parts.nodes n (answered (parts.nodes n)))))
 
@@ -184,7 +189,8 @@ ack_noted parts x past n s member w keeps ack =
         (subst (λ (k : ℕ). Among (keeps.history.wrotes d) (record { by = b; session = k; epoch = epoch; sequence = s.sequence })) session old)
 
     on : GoesOn parts keeps.history (with_node parts.nodes n (record (parts.nodes n) { out = Some (with_ack member w.epoch s) }))
-    on = node_goes_on parts x past keeps n (record (parts.nodes n) { out = Some (with_ack member w.epoch s) }) (kept_by.2 ∙ sym (ap out_by ack.out)) refl refl refl refl (omega arith) (λ t is. let same : with_ack member w.epoch s ≡ t = cc in subst (IsSendable parts.made) same (ack_fits parts.made member w.epoch s (keeps.sendable n s ack.out))) noted (λ a is. asked_still parts x past keeps n a is)
+    on = node_goes_on parts x past keeps n (record (parts.nodes n) { out = Some (with_ack member w.epoch s) }) (kept_by.2 ∙ sym (ap out_by ack.out)) refl refl refl refl (omega arith) (λ t is. let same : with_ack member w.epoch s ≡ t = cc in subst (IsSendable parts.made) same (ack_fits parts.made member w.epoch s (keeps.sendable n s ack.out)))
+        (λ t is. let same : with_ack member w.epoch s ≡ t = cc in keeps.holding n s ack.out ∙ ap (λ (k : ℕ). Some k) (sym kept_by.0) ∙ ap (λ (q : Sending). Some q.session) same) noted (λ a is. asked_still parts x past keeps n a is)
 
 -- ---- a read is sent
 
@@ -268,7 +274,7 @@ module _ (parts : Parts) (x : Disks) (past : StorePast) (keeps : Keeps parts x p
       by false e = inr (let is : next_number (parts.nodes n).tag ≡ (parts.nodes n).tag + 1 = ap (λ (t : Bool). if t then 0 else (parts.nodes n).tag + 1) e in omega (arith, is))
 
   on : GoesOn parts keeps.history (with_node parts.nodes n next)
-  on = node_goes_on parts x past keeps n next refl refl refl refl refl (omega arith) (λ s is. keeps.sendable n s is) (λ d epoch b s within is has. keeps.noted n d epoch b s within is has)
+  on = node_goes_on parts x past keeps n next refl refl refl refl refl (omega arith) (λ s is. keeps.sendable n s is) (λ s is. keeps.holding n s is) (λ d epoch b s within is has. keeps.noted n d epoch b s within is has)
       (λ a is. let same : it ≡ a = cc in (may.own ∙ ap (λ (q : Asking). Some q.session) same, (let e = ap (λ (q : Asking). q.tag) same in omega (arith, e)), subst FitsRead same fits_it, subst (IsAskedOn (parts.nodes n)) same fresh))
 
   are_reads : AreReads (with_node parts.nodes n next) (read_letters [] (parts.nodes n).node (Some it) (parts.nodes n).rows)

@@ -58,7 +58,7 @@ out_ends parts x past n s keeps is_out done = by (s.sequence == 0) refl
     by false e = write_ends parts x past keeps n s is_out e done
     by true e =
         let none : None ≡ out_by (parts.nodes n).out = sym (ap out_by is_out ∙ ap (λ (t : Bool). if t then None else Some (record { session = s.session; sequence = s.sequence; until = s.until; runs = s.runs.1 })) e) in
-        let on = node_goes_on parts x past keeps n (record (parts.nodes n) { out = None }) none refl refl refl refl (omega arith) (λ t is. absurd (let no : None ≡ Some t = is in cc))
+        let on = node_goes_on parts x past keeps n (record (parts.nodes n) { out = None }) none refl refl refl refl (omega arith) (λ t is. absurd (let no : None ≡ Some t = is in cc)) (λ t is. absurd (let no : None ≡ Some t = is in cc))
         (λ d epoch b t within is has. absurd (let no : None ≡ Some t = is in cc)) (λ a is. asked_still parts x past keeps n a is) in
         subst (λ (p : StorePast). Keeps (with_stream parts n (record (parts.nodes n) { out = None })) x p) (same_past past)
         (goes_on parts x past keeps (with_node parts.nodes n (record (parts.nodes n) { out = None })) [] on (no_reads (with_node parts.nodes n (record (parts.nodes n) { out = None }))))
@@ -120,6 +120,14 @@ module _ (parts : Parts) (x : Disks) (past : StorePast) (keeps : Keeps parts x p
       by true same = e ∙ same
       by false none = absurd (let no : None ≡ Some t = none in cc)
 
+  own_so : (o : Option Sending) (t : Sending) → out_of_own session o ≡ Some t → session ≡ Some t.session
+  own_so None t is = absurd (let no : None ≡ Some t = is in cc)
+  own_so (Some s) t is = by (is_session session s.session) refl is
+    where
+      by : (b : Bool) → is_session session s.session ≡ b → (if b then Some s else None) ≡ Some t → session ≡ Some t.session
+      by true own same_is = let same : s ≡ t = cc in session_is session s.session own ∙ ap (λ (q : Sending). Some q.session) same
+      by false own none = absurd (let no : None ≡ Some t = none in cc)
+
   asks_so : (o : Option Asking) → c.asks ≡ o → (a : Asking) → asks_in session c.rows known.devices o ≡ Some a → (session ≡ Some a.session) × ((was : Asking) × (c.asks ≡ Some was) × IsSameRead was a)
   asks_so None e a is = absurd (let no : None ≡ Some a = is in cc)
   asks_so (Some b) e a is = by (is_session session b.session) refl (is_new_for c.rows known.devices b.device) is
@@ -152,6 +160,7 @@ module _ (parts : Parts) (x : Disks) (past : StorePast) (keeps : Keeps parts x p
     rows = refl;
     out = out_so c.out refl;
     noted = λ t is. noted_so c.out refl t is;
+    holding = λ t is. own_so c.out t is;
     asks = λ a is. asks_so c.asks refl a is;
     askable = λ a is. fits_so c.asks refl a is;
   }
@@ -199,7 +208,7 @@ pub data_heard : (parts : Parts) (x : Disks) (past : StorePast) (n : ℕ) (d : D
     → Keeps (with_stream parts n (record (parts.nodes n) { asks = asks_answered d (parts.nodes n).rows (parts.nodes n).asks })) x past
 data_heard parts x past n d keeps =
     let next : Streaming = record (parts.nodes n) { asks = asks_answered d (parts.nodes n).rows (parts.nodes n).asks } in
-    let on = node_goes_on parts x past keeps n next refl refl refl refl refl (omega arith) (λ s is. keeps.sendable n s is) (λ k epoch b s within is has. keeps.noted n k epoch b s within is has)
+    let on = node_goes_on parts x past keeps n next refl refl refl refl refl (omega arith) (λ s is. keeps.sendable n s is) (λ s is. keeps.holding n s is) (λ k epoch b s within is has. keeps.noted n k epoch b s within is has)
     (λ a is. let it = answered_so d (parts.nodes n).rows (parts.nodes n).asks a is in let old = keeps.asking n it.0 it.1 in
     (old.0 ∙ ap (λ (q : ℕ). Some q) (sym it.2.session), (let le = old.1 in let tag = it.2.tag in omega (arith, le, tag)), it.3 (keeps.askable n it.0 it.1), inl (it.0, it.1, it.2))) in
     subst (λ (p : StorePast). Keeps (with_stream parts n next) x p) (same_past past) (goes_on parts x past keeps (with_node parts.nodes n next) [] on (no_reads (with_node parts.nodes n next)))
@@ -237,7 +246,11 @@ ack_heard parts x past n member w letter keeps there from says = by (parts.nodes
 pub reads_more : (parts : Parts) (x : Disks) (past : StorePast) (n : ℕ) (before : List DeviceRow) (keeps : Keeps parts x past) → (parts.nodes n).node ≡ n → (a : Asking) → (parts.nodes n).asks ≡ Some a
     → GoesOn parts keeps.history parts.nodes × AreReads parts.nodes (read_letters before (parts.nodes n).node (Some a) (parts.nodes n).rows)
 reads_more parts x past n before keeps itself_is a e = (
+<<<<<<< HEAD
   record { out = λ m. refl; rows = λ m. refl; session = λ m. refl; sequence = λ m. refl; boot = λ m. refl; tag = λ m. omega arith; sendable = keeps.sendable; askable = keeps.askable; noted = keeps.noted; asking = keeps.asking; asked = λ m b is. inl (b, is, itself_asked b) },
+=======
+  record { out = λ m. refl; rows = λ m. refl; session = λ m. refl; sequence = λ m. refl; boot = λ m. refl; tag = λ m. omega arith; sendable = keeps.sendable; askable = keeps.askable; holding = keeps.holding; noted = keeps.noted; asking = keeps.asking; asked = λ m b is. inl (b, is, itself_asked b) },
+>>>>>>> 6594b905
   record { kinds = λ letter there. ap (λ (l : Letter). l.kind) (is_asked before (parts.nodes n).node a (parts.nodes n).rows letter there).is; each = each },
 )
   where

@@ -3,9 +3,9 @@ use Rattle.std.proofs.Common.{◌≡◌, ◌≢◌, ◌⊎◌, inl, inr, ℕ, �
 use Rattle.std.specs.Prelude.{◌==◌, slice_get, if◌then◌else◌}
 use Rattle.std.proofs.lemmas.Option.{slice_get_cases}
 use Rattle.bx_base.specs.declared.names.Actor.TheVariants.{Node}
-use Rattle.bx_disk.specs.Disks.{Disks}
+use Rattle.bx_disk.specs.Disks.{Disks, Image}
 use Rattle.bx_facts.specs.Chains.{IsAmong, IsPlace, last, state_after}
-use Rattle.bx_facts.specs.Writes.{HasLabels, IsOfStore, IsSourceIn, StorePast, member_disk}
+use Rattle.bx_facts.specs.Writes.{HasSettled, IsOfStore, IsSourceIn, StorePast, member_disk}
 use Rattle.bx_global.specs.Table.{greatest}
 use Rattle.bx_global.specs.declared.change.Change.{Change}
 use Rattle.bx_global.specs.declared.change.Change.TheVariants.{Claim, Close, Expire, Open, Renew, Shift, Take}
@@ -15,7 +15,7 @@ use Rattle.bx_mirror_laws.specs.Acting.{FromEpoch, IsRow}
 use Rattle.bx_mirror_laws.specs.Sides.{Among}
 use Rattle.bx_mirror_client.specs.Sends.{next_number}
 use Rattle.bx_mirror_client.specs.declared.asking.Asking.{Asking}
-use Rattle.bx_mirror_cluster.specs.Fitting.{HasLabel, Keeps, KnownFrom, Parts, StandsFor, StandsOn, WillReadOn, handings, last_row, older_rows, row_of, row_or, rows_before}
+use Rattle.bx_mirror_cluster.specs.Fitting.{HasLabel, IsSettledOn, Keeps, KnownFrom, Parts, StandsFor, StandsOn, WillReadOn, handings, last_row, older_rows, row_of, row_or, rows_before}
 use Rattle.bx_mirror_cluster.specs.NodeSteps.{MayRead, parts_asked, past_asked}
 use Rattle.bx_mirror_cluster.proofs.Chained.{last_placed, leads_in}
 use Rattle.bx_mirror_cluster.proofs.NodeSteps.{asked_is, reads_asked}
@@ -144,4 +144,16 @@ module _ (parts : Parts) (x : Disks) (past : StorePast) (keeps : Keeps parts x p
   labelled = record {
     devices = keeps.count (last past.told.chain) (last_placed past.told.chain);
     labels = record { reads = λ d b source. (label_of d b source).spells; sure = λ d b source. (label_of d b source).sure; long = λ d b source. (label_of d b source).long };
+  }
+
+  -- ---- images
+
+  pub imaged : (image : Image) → ((disk sector : ℕ) → (1 ≤ sector) ⊎ (disk < 3) → x.unsure disk sector ≡ false → image disk sector ≡ x.reads disk sector)
+      → ((d : ℕ) (b : Bool) → IsSourceIn (last past.told.chain) d b → x.unsure (member_disk d b) 0 ≡ false → image (member_disk d b) 0 ≡ x.reads (member_disk d b) 0)
+      → HasSettled past.writes past.told.greatest (IsSettledOn parts x past) x (last past.told.chain) image
+  imaged image behind label = record {
+    has = λ d sector content b only settled source. let leads = leads_in (last past.told.chain) (handings d past.told.handed) d b source in
+        behind (member_disk d b) sector (inl settled.behind_label) (settled.is.sure b leads) ∙ settled.is.reads b (record { is = inl leads });
+    labels = label;
+    replicas = λ d sector low sure. behind d sector (inr low) sure;
   }

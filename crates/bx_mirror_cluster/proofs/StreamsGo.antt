@@ -17,7 +17,11 @@ use Rattle.bx_mirror_packets.specs.declared.message.WroteBody.{WroteBody}
 use Rattle.bx_mirror_client.specs.Asks.{fits, is_answer, is_awaited}
 use Rattle.bx_mirror_client.specs.Events.{asks_answered, out_acked}
 use Rattle.bx_mirror_client.specs.Letters.{is_new_for, letters_from, read_letters, write_letters}
+<<<<<<< HEAD
 use Rattle.bx_mirror_client.specs.Streams.{Streaming, asks_in, is_session, learned, letters_since}
+=======
+use Rattle.bx_mirror_client.specs.Streams.{Streaming, answered, asks_in, is_session, learned, letters_since}
+>>>>>>> 6594b905
 use Rattle.bx_mirror_client.specs.declared.asking.Asking.{Asking}
 use Rattle.bx_mirror_client.specs.declared.sending.Sending.{Sending}
 use Rattle.bx_mirror_client.proofs.Telling.{both}
@@ -29,7 +33,11 @@ use Rattle.bx_mirror_cluster.specs.Writing.{with_node, with_stream}
 use Rattle.bx_mirror_cluster.proofs.Clock.{clock_keeps, reads_clock, settles_clock, stands_clock}
 use Rattle.bx_mirror_cluster.proofs.GoingOn.{reads_on, settles_on, stands_still}
 use Rattle.bx_mirror_cluster.proofs.Learned.{others_learned, reads_learned, settles_learned, stands_learned}
+<<<<<<< HEAD
 use Rattle.bx_mirror_cluster.proofs.NodeSteps.{itself_asked, same_past}
+=======
+use Rattle.bx_mirror_cluster.proofs.NodeSteps.{answer_taken, itself_asked, left_is, same_past}
+>>>>>>> 6594b905
 use Rattle.bx_mirror_cluster.proofs.NodeTakes.{ack_heard, again, at_out, base, base_so, data_heard, here_is, node_learned, other_is, out_of_own, reads_more, reads_told, session}
 use Rattle.bx_mirror_cluster.proofs.ToldAgain.{reads_told as reads_again, settles_told, stands_told, told_keeps}
 
@@ -280,3 +288,15 @@ data_goes parts x past n d letter keeps there to says =
               subst (λ (q : Asking). HasCome past n (parts.nodes n).rows b q) same (λ bytes it. inr (come.0, come.1, (let f : Some d.bytes ≡ Some bytes = it in subst (λ (bs : List ℕ). IsData past.told.letters n b.device b.session come.0.epoch b.tag bs) (let g : d.bytes ≡ bytes = cc in g) come.2))),
             )
         pick false e same_is = let same : b ≡ a = cc in (b, refl, subst (IsSameRead b) same (itself_asked b), subst (λ (q : Asking). HasCome past n (parts.nodes n).rows b q) same (λ bytes it. inl it))
+<<<<<<< HEAD
+=======
+
+-- ---- its answer is taken
+
+pub answered_goes : (parts : Parts) (x : Disks) (past : StorePast) (n : ℕ) → Keeps parts x past → StreamsGo parts (with_stream parts n (answered (parts.nodes n))) x past past
+answered_goes parts x past n keeps = stream_goes parts x past n (answered (parts.nodes n)) (answer_taken parts x past n keeps) refl (λ a is. asks_kept past n (parts.nodes n).rows (parts.nodes n).asks a (left_is (parts.nodes n).asks a is))
+
+-- and it is what was promised
+pub answer_is : (parts : Parts) (x : Disks) (past : StorePast) (n : ℕ) (a : Asking) (sector : ℕ) (content bytes : List ℕ) → WillReadOn parts x past n a sector content → a.answer ≡ Some bytes → a.place ≤ sector → sector < a.place + a.sectors → sector_of bytes (sector - a.place) ≡ content
+answer_is parts x past n a sector content bytes will is low high = will.came bytes is low high
+>>>>>>> 6594b905

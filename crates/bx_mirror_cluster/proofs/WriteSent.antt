@@ -363,6 +363,10 @@ module _ (parts : Parts) (x : Disks) (past : StorePast) (keeps : Keeps parts x p
       | inl new ↦ (let given = (keeps.owned n session own).2 in let e = ap (λ (v : Out). v.session) new in omega (arith, given, e))
       | inr old ↦ keeps.actual_given w (record { is = old })
     ];
+    holding = λ m t is. elim (same_or m n) [
+      | inl e ↦ (let both : Some s ≡ Some t = sym (ap (λ (q : Streaming). q.out) (at_it m e)) ∙ is in let same : s ≡ t = cc in ap (λ (q : Streaming). q.session) (at_it m e) ∙ own ∙ ap (λ (q : Sending). Some q.session) same)
+      | inr e ↦ ap (λ (q : Streaming). q.session) (at_other m e) ∙ keeps.holding m t (sym (ap (λ (q : Streaming). q.out) (at_other m e)) ∙ is)
+    ];
     sendable = λ m t is. elim (same_or m n) [
       | inl e ↦ (let both : Some s ≡ Some t = sym (ap (λ (q : Streaming). q.out) (at_it m e)) ∙ is in let same : s ≡ t = cc in subst (IsSendable parts.made) same (record { packet = fits; runs = are }))
       | inr e ↦ keeps.sendable m t (sym (ap (λ (q : Streaming). q.out) (at_other m e)) ∙ is)

@@ -55,6 +55,7 @@ module _ (parts : Parts) (x : Disks) (past : StorePast) (sent : Sent) where
     out_number = keeps.out_number;
     actual_given = keeps.actual_given;
     sendable = keeps.sendable;
+    holding = keeps.holding;
     askable = keeps.askable;
     epochs = keeps.epochs;
     owing = keeps.owing;
@@ -107,7 +108,7 @@ module _ (parts : Parts) (x : Disks) (past : StorePast) (sent : Sent) where
 -- ---- the stream has it out
 
 module _ (parts : Parts) (x : Disks) (past : StorePast) (keeps : Keeps parts x past) (n session until : ℕ) (runs : KindAndRuns) (none : (parts.nodes n).out ≡ None) (are : AreRuns parts.made runs.1)
-    (no_number : (next_number (parts.nodes n).sequence == 0) ≡ true) (fits : FitsPacket (write_by (parts.nodes n) session until runs)) where
+    (no_number : (next_number (parts.nodes n).sequence == 0) ≡ true) (own : (parts.nodes n).session ≡ Some session) (fits : FitsPacket (write_by (parts.nodes n) session until runs)) where
   abbrev s : Sending
   s = write_by (parts.nodes n) session until runs
 
@@ -126,6 +127,7 @@ module _ (parts : Parts) (x : Disks) (past : StorePast) (keeps : Keeps parts x p
   on : GoesOn parts keeps.history (with_node parts.nodes n next)
   on = node_goes_on parts x past keeps n next untold refl refl (omega (arith, zero_is)) refl (omega arith)
       (λ t is. let same : s ≡ t = cc in subst (λ (w : Sending). IsSendable parts.made w) same (record { packet = fits; runs = are }))
+      (λ t is. let same : s ≡ t = cc in own ∙ ap (λ (w : Sending). Some w.session) same)
       (λ d epoch b t within is has. absurd (let same : s ≡ t = cc in nothing _ (subst (λ (w : Sending). Contains w.acks (record { member = member_at d b; epoch = epoch })) (sym same) has)))
       (λ a is. asked_still parts x past keeps n a is)
 

@@ -320,6 +320,8 @@ pub record Keeps (parts : Parts) (x : Disks) (past : StorePast) : Type 0 where
   -- the numbers of what is out, of what is owed, and of all rows, fit a packet
   pub sendable : (n : ℕ) (s : Sending) → (parts.nodes n).out ≡ Some s → IsSendable parts.made s
   pub askable : (n : ℕ) (a : Asking) → (parts.nodes n).asks ≡ Some a → FitsRead a
+  -- what is out is of the node's own session
+  pub holding : (n : ℕ) (s : Sending) → (parts.nodes n).out ≡ Some s → (parts.nodes n).session ≡ Some s.session
   pub epochs : (s : GlobalState) → IsPlace past.told.chain s → (d : ℕ) (row : DeviceRow) → slice_get s.devices d ≡ Some row → Fits row.epoch
   pub owing : (n : ℕ) (o : Owing) → Contains (parts.members n).owed o → IsOwing n o
   pub own_out : (n : ℕ) (w : Out) → Among history.actual w → (parts.nodes n).session ≡ Some w.session → outs_of parts.nodes n ≡ Some w

@@ -40,6 +40,7 @@ pub record GoesOn (parts : Parts) (history : History) (nodes : ℕ → Streaming
   pub tag : (m : ℕ) → (parts.nodes m).tag ≤ (nodes m).tag
   pub sendable : (m : ℕ) (s : Sending) → (nodes m).out ≡ Some s → IsSendable parts.made s
   pub askable : (m : ℕ) (a : Asking) → (nodes m).asks ≡ Some a → FitsRead a
+  pub holding : (m : ℕ) (s : Sending) → (nodes m).out ≡ Some s → (nodes m).session ≡ Some s.session
   pub noted : (m d epoch : ℕ) (b : Bool) (s : Sending) → d < parts.made.devices → (nodes m).out ≡ Some s → HasAcked s.acks (member_at d b) epoch → Among (history.wrotes d) (record { by = b; session = s.session; epoch = epoch; sequence = s.sequence })
   pub asking : (m : ℕ) (a : Asking) → (nodes m).asks ≡ Some a → ((nodes m).session ≡ Some a.session) × (a.tag ≤ (nodes m).tag)
   pub asked : (m : ℕ) (a : Asking) → (nodes m).asks ≡ Some a → IsAskedOn (parts.nodes m) a

@@ -38,5 +38,6 @@ pub record Learned (c : Streaming) (known : GlobalState) (new : Streaming) : Typ
   pub rows : new.rows ≡ known.devices
   pub out : ((new.session ≡ c.session) × (out_by new.out ≡ out_by c.out)) ⊎ ((new.session ≢ c.session) × (out_by new.out ≡ None))
   pub noted : (s : Sending) → new.out ≡ Some s → c.out ≡ Some s
+  pub holding : (s : Sending) → new.out ≡ Some s → new.session ≡ Some s.session
   pub asks : (a : Asking) → new.asks ≡ Some a → (new.session ≡ Some a.session) × ((was : Asking) × (c.asks ≡ Some was) × IsSameRead was a)
   pub askable : (a : Asking) → new.asks ≡ Some a → FitsRead a

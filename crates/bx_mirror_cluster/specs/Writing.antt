@@ -42,6 +42,7 @@ pub record MaySend (parts : Parts) (past : StorePast) (node session until : ℕ)
 
 -- A node for which no number is left may have a write out.
 pub record MayHold (parts : Parts) (node session until : ℕ) (runs : KindAndRuns) : Type 0 where
+  pub own : (parts.nodes node).session ≡ Some session
   pub none : (parts.nodes node).out ≡ None
   pub runs_are : AreRuns parts.made runs.1
   pub not_left : (next_number (parts.nodes node).sequence == 0) ≡ true

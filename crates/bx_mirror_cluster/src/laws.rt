@@ -1,11 +1,11 @@
 //! Laws of a store whose members and streams fit what was done with it.
 
-ghost use Rattle.std.specs.Prelude.{◌≡◌, ◌≢◌, ℕ, ◌+◌, ◌<◌, ◌≤◌, ◌⊎◌, ◌==◌, Bool, true, false, List, [], None, Some, length};
+ghost use Rattle.std.specs.Prelude.{◌≡◌, ◌≢◌, ℕ, ◌+◌, ◌-◌, ◌<◌, ◌≤◌, ◌⊎◌, ◌==◌, Bool, true, false, List, [], None, Some, length};
 ghost use Rattle.bx_base.specs.declared.names.Actor.TheVariants.{Node};
-ghost use Rattle.bx_disk.specs.Disks.{Disks};
+ghost use Rattle.bx_disk.specs.Disks.{Disks, Image, sector_of};
 ghost use Rattle.bx_facts.specs.Chains.{IsPlace, IsStoresOwn, LivesIn, last};
 ghost use Rattle.bx_facts.specs.Inputs.{AreAmong, IsStores};
-ghost use Rattle.bx_facts.specs.Writes.{IsOfStore, IsOnly, IsSettled, NamesUpTo, StorePast, WritesIn, found_store, opening_store, store_crashed, store_grown, store_restarted, store_room, without_session};
+ghost use Rattle.bx_facts.specs.Writes.{HasSettled, IsOfStore, IsOnly, IsSettled, IsSourceIn, NamesUpTo, StorePast, WritesIn, found_store, member_disk, opening_store, store_crashed, store_grown, store_restarted, store_room, without_session};
 ghost use Rattle.bx_global.specs.Allowed.{IsAllowed};
 ghost use Rattle.bx_global.specs.Table.{IsLegal};
 ghost use Rattle.bx_locking.specs.Owned.{AreSingle};
@@ -15,6 +15,7 @@ ghost use Rattle.bx_post.specs.declared.packets.Letter.{Letter};
 ghost use Rattle.bx_mirror_client.specs.Sends.{is_done};
 ghost use Rattle.bx_mirror_client.specs.declared.asking.Asking.{Asking};
 ghost use Rattle.bx_mirror_client.specs.declared.sending.Sending.{Sending};
+ghost use Rattle.bx_mirror_cluster.specs.GoesFurther.{StreamsGo};
 ghost use Rattle.bx_mirror_cluster.specs.NodeSteps.{IsAck, MayRead, parts_acked, parts_asked, past_asked};
 ghost use Rattle.bx_mirror_cluster.specs.Writing.{MayHold, MaySend, parts_sent, past_sent, with_stream};
 ghost use Rattle.bx_mirror_client.specs.Streams.{answered, restarted, stopped};
@@ -120,14 +121,29 @@ pub fn a_read_has_what_stands()
         → WillReadOn (parts_asked parts node session device place sectors) x (past_asked parts past node session device place sectors) node read sector content }
 {}
 
+/// An image of disks that has what is sure there, and the labels that are sure, has what is settled.
+pub fn an_image_has_what_is_settled()
+    ensures { (parts : Parts) (x : Disks) (past : StorePast) (image : Image) → Keeps parts x past → ((disk sector : ℕ) → (1 ≤ sector) ⊎ (disk < 3) → x.unsure disk sector ≡ false → image disk sector ≡ x.reads disk sector)
+        → ((device : ℕ) (second : Bool) → IsSourceIn (last past.told.chain) device second → x.unsure (member_disk device second) 0 ≡ false → image (member_disk device second) 0 ≡ x.reads (member_disk device second) 0)
+        → HasSettled past.writes past.told.greatest (IsSettledOn parts x past) x (last past.told.chain) image }
+{}
+
+/// A write that is out, of whatever number, is of the node's own session.
+pub fn what_is_out_is_its_own()
+    ensures { (parts : Parts) (x : Disks) (past : StorePast) (node : ℕ) (write : Sending) → Keeps parts x past → (parts.nodes node).out ≡ Some write → (parts.nodes node).session ≡ Some write.session }
+{}
+
 /// The last state has the devices that there are, and each member that an audit would read has its label, surely, and all its sectors.
 pub fn members_are_labelled()
     ensures { (parts : Parts) (x : Disks) (past : StorePast) → Keeps parts x past → IsOfStore parts.made x (last past.told.chain) }
 {}
 
-/// The answer to a node's read is taken; and an acknowledgement that comes of its write is noted, where the write isn't done by it.
+/// The answer to a node's read is taken: it is what was promised, and what was settled, stood or is read goes on. An acknowledgement that comes of its
+/// write is noted, where the write isn't done by it.
 pub fn what_came_is_noted()
-    ensures answered { (parts : Parts) (x : Disks) (past : StorePast) (node : ℕ) → Keeps parts x past → Keeps (with_stream parts node (answered (parts.nodes node))) x past }
+    ensures answered { (parts : Parts) (x : Disks) (past : StorePast) (node : ℕ) → Keeps parts x past → StreamsGo parts (with_stream parts node (answered (parts.nodes node))) x past past }
+    ensures promise { (parts : Parts) (x : Disks) (past : StorePast) (node : ℕ) (read : Asking) (sector : ℕ) (content bytes : List ℕ) → WillReadOn parts x past node read sector content → read.answer ≡ Some bytes
+        → read.place ≤ sector → sector < read.place + read.sectors → sector_of bytes (sector - read.place) ≡ content }
     ensures acked { (parts : Parts) (x : Disks) (past : StorePast) (node : ℕ) (s : Sending) (member : ℕ) (w : WroteBody) → Keeps parts x past → IsAck parts past node s member w → Keeps (parts_acked parts node s member w.epoch) x past }
 {}
 

@@ -1,5 +1,5 @@
 -- The steps of a member are events of its device.
-use Rattle.std.proofs.Common.{◌≡◌, ℕ, zero, suc, ◌+◌, ◌-◌, ◌<◌, ◌≤◌, inl, Bool, true, false, Contains, List, [], ◌∷◌, Option, Some, None, refl, sym, ◌∙◌, ap, subst, arith}
+use Rattle.std.proofs.Common.{◌≡◌, ℕ, zero, suc, ◌+◌, ◌-◌, ◌/◌, ◌<◌, ◌≤◌, inl, inr, Bool, true, false, Contains, List, [], ◌∷◌, length, Option, Some, None, refl, sym, ◌∙◌, ap, subst, arith}
 use Rattle.std.specs.Prelude.{◌==◌, not, slice_get, if◌then◌else◌}
 use Rattle.std.proofs.lemmas.Bool.Decides.{nat_tests}
 use Rattle.bx_base.specs.declared.names.Actor.{Actor}
@@ -13,7 +13,7 @@ use Rattle.bx_post.specs.declared.packets.Letter.{Letter}
 use Rattle.bx_records.specs.declared.runs.Run.{Run}
 use Rattle.bx_rows.specs.declared.device.DeviceRow.{DeviceRow}
 use Rattle.bx_mirror_laws.specs.Acting.{IsRow, boot_in}
-use Rattle.bx_mirror_laws.specs.Steps.{IsDown, KnowsBefore, Learns, PartlyTaken, PieceTaken, Starts, Synced, Taken}
+use Rattle.bx_mirror_laws.specs.Steps.{IsDown, KnowsBefore, Learns, PartlyTaken, PieceChanged, PieceTaken, Starts, Synced, Taken}
 use Rattle.bx_mirror_packets.specs.declared.message.CopyBody.{CopyBody}
 use Rattle.bx_mirror_packets.specs.declared.message.WriteBody.{WriteBody}
 use Rattle.bx_mirror_tables.specs.Lasts.{last_in}
@@ -22,7 +22,7 @@ use Rattle.bx_mirror_member.specs.Acting.{IsTaken}
 use Rattle.bx_mirror_member.specs.Standing.{Standing, device_in, disk_in, hearing, is_news, is_second, learned, learned_row, started, stopped, with_row}
 use Rattle.bx_mirror_member.specs.Steps.{copied_of}
 use Rattle.bx_mirror_server.specs.Serving.{OfSync, PutsPiece, PutsWrite, run_of}
-use Rattle.bx_mirror_server.specs.Sides.{IsOnce, MayTakeWrite, alone, letter_to, piece_from, side_of}
+use Rattle.bx_mirror_server.specs.Sides.{IsOnce, MayTakeWrite, alone, letter_to, piece_alone, piece_from, side_of}
 use Rattle.bx_mirror_server.proofs.Places.{own_disk}
 use Rattle.bx_mirror_server.proofs.Owing.{copied_only, copied_same, wrote_it, wrote_only, wrote_same, wrote_still}
 
@@ -144,6 +144,36 @@ partly m w x y keeps = record {
     only : (sector : ℕ) (content : List ℕ) → ((other : List ℕ) → WritesIn w.runs.1 (device_in m) sector other → other ≡ content) → IsOnly (alone w) 0 (device_in m) sector content
     only sector content unique = record {
       each = λ write other there brings. inl (unique other (subst (λ (s : Sent). WritesIn s.runs (device_in m) sector other) (sym (one write there)) brings));
+    }
+
+pub piece_partly : (m : Standing) (by : Bool) (c : CopyBody) (x y : Disks) → c.device ≡ device_in m → KeepsMembers (piece_alone c) 0 x y → PieceChanged (is_second m) (piece_from by c) (side_of true m x) (side_of true m y)
+piece_partly m by c x y here keeps = record {
+  memory = record { up = refl; boot = refl; row = refl };
+  lasts = refl;
+  wrote = refl;
+  copied_only = λ v there. inr there;
+  place = refl;
+  keeps = λ sector same. (
+    subst (λ (d : ℕ). y.reads d sector ≡ x.reads d sector) (sym at) (keeps.reads (device_in m) sector (is_second m) (x.reads disk sector) (only sector same) refl),
+    λ was. subst (λ (d : ℕ). y.unsure d sector ≡ false) (sym at) (keeps.sure (device_in m) sector (is_second m) (x.reads disk sector) (only sector same) refl (subst (λ (d : ℕ). x.unsure d sector ≡ false) at was)),
+  );
+}
+  where
+    disk : ℕ
+    disk = member_disk (device_in m) (is_second m)
+
+    at : disk_in m ≡ member_disk (device_in m) (is_second m)
+    at = own_disk m
+
+    one : (write : Sent) → Contains (piece_alone c) write → record { session = 0; until = 0; runs = run_of c ∷ [] } ≡ write
+    one write (zero, less, is) = is
+    one write (suc k, less, is) = absurd (omega (arith, less))
+
+    only : (sector : ℕ) → (c.place ≤ sector → sector < c.place + length c.bytes / 512 → x.reads (disk_in m) sector ≡ sector_of c.bytes (sector - c.place)) → IsOnly (piece_alone c) 0 (device_in m) sector (x.reads disk sector)
+    only sector same = record {
+      each = λ write other there brings.
+          let w = piece_writes c (device_in m) sector other (subst (λ (s : Sent). WritesIn s.runs (device_in m) sector other) (sym (one write there)) brings) in
+          inl (sym w.is ∙ sym (same w.from w.below) ∙ ap (λ (d : ℕ). x.reads d sector) at);
     }
 
 pub starts : (m : Standing) (boot reading : ℕ) (last : DeviceRow) (older : List DeviceRow) (x y : Disks) → m.boot ≤ boot → ((r : DeviceRow) → IsRow last older r → boot_in (is_second m) r < boot)

@@ -79,3 +79,7 @@ pub record IsWhole (m : Standing) (row : DeviceRow) (mode : ℕ) : Type 0 where
 -- the write alone, which isn't over
 abbrev pub alone : WriteBody → List Sent
 alone w = record { session = w.session; until = 0; runs = w.runs.1 } ∷ []
+
+-- and so a piece
+abbrev pub piece_alone : CopyBody → List Sent
+piece_alone c = record { session = 0; until = 0; runs = record { device = c.device; place = c.place; bytes = c.bytes } ∷ [] } ∷ []

@@ -12,14 +12,14 @@ ghost use Rattle.bx_post.specs.declared.packets.Letter.{Letter};
 ghost use Rattle.bx_rows.specs.declared.device.DeviceRow.{DeviceRow};
 ghost use Rattle.bx_rows.specs.Modes.{both};
 ghost use Rattle.bx_mirror_laws.specs.Acting.{IsRow, boot_in};
-ghost use Rattle.bx_mirror_laws.specs.Steps.{IsDown, KnowsBefore, Learns, PartlyTaken, PieceTaken, Starts, Synced, Taken};
+ghost use Rattle.bx_mirror_laws.specs.Steps.{IsDown, KnowsBefore, Learns, PartlyTaken, PieceChanged, PieceTaken, Starts, Synced, Taken};
 ghost use Rattle.bx_mirror_packets.specs.declared.message.CopyBody.{CopyBody};
 ghost use Rattle.bx_mirror_packets.specs.declared.message.WriteBody.{WriteBody};
 ghost use Rattle.bx_mirror_member.specs.Acting.{IsTaken};
 ghost use Rattle.bx_mirror_member.specs.Standing.{Standing, copy_from, device_in, disk_in, hearing, is_second, learned, started, stopped};
 ghost use Rattle.bx_mirror_member.specs.Steps.{proposes};
 ghost use Rattle.bx_mirror_server.specs.Serving.{OfSync, PutsPiece, PutsWrite};
-ghost use Rattle.bx_mirror_server.specs.Sides.{IsOnce, IsStep, IsWhole, MayTakeWrite, alone, letter_to, piece_from, side_of};
+ghost use Rattle.bx_mirror_server.specs.Sides.{IsOnce, IsStep, IsWhole, MayTakeWrite, alone, letter_to, piece_alone, piece_from, side_of};
 
 /// A write that is taken may be, and is taken whole; or in part, where a fault cuts it short.
 pub fn a_write_is_taken()
@@ -29,10 +29,11 @@ pub fn a_write_is_taken()
     ensures partly { (m : Standing) (w : WriteBody) (old now : Disks) → KeepsMembers (alone w) 0 old now → PartlyTaken (device_in m) (letter_to m w) (side_of true m old) (side_of true m now) }
 {}
 
-/// A piece of a copy is taken whole.
+/// A piece of a copy is taken whole; or in part, where a fault cuts it short.
 pub fn a_piece_is_taken()
-    ensures { (m new : Standing) (from : Actor) (by : Bool) (c : CopyBody) (old now : Disks) → c.device ≡ device_in m → PutsPiece (Unit {0}) from c m new old now
+    ensures taken { (m new : Standing) (from : Actor) (by : Bool) (c : CopyBody) (old now : Disks) → c.device ≡ device_in m → PutsPiece (Unit {0}) from c m new old now
         → PieceTaken (is_second m) (piece_from by c) (side_of true m old) (side_of true new now) }
+    ensures partly { (m : Standing) (by : Bool) (c : CopyBody) (old now : Disks) → c.device ≡ device_in m → KeepsMembers (piece_alone c) 0 old now → PieceChanged (is_second m) (piece_from by c) (side_of true m old) (side_of true m now) }
 {}
 
 /// A row of a later epoch is learned, a disk is synced, and a member stops and starts again.

@@ -1,12 +1,10 @@
 -- An answer more to a write that was taken before: what is out stays as it was.
-use Rattle.std.proofs.Common.{◌≡◌, ◌⊎◌, inl, inr, ℕ, ◌+◌, ◌<◌, ◌≤◌, Bool, true, false, List, Option, Some, None, refl, sym, ◌∙◌, ap, subst, arith}
-use Rattle.std.specs.Prelude.{not}
+use Rattle.std.proofs.Common.{◌≡◌, inl, inr, ℕ, ◌≤◌, Bool, List, Option, refl, sym, ◌∙◌, ap, subst, arith}
 use Rattle.bx_facts.specs.Writes.{Sent}
-use Rattle.bx_rows.specs.Modes.{IsSource}
 use Rattle.bx_rows.specs.declared.device.DeviceRow.{DeviceRow}
 use Rattle.bx_mirror_laws.specs.Acting.{Acts, Been, Counts, FromEpoch, IsRow, MayAct, Moved}
 use Rattle.bx_mirror_laws.specs.Sides.{Among, Copied, CopyLetter, Handing, Out, Side, WriteLetter, Wrote}
-use Rattle.bx_mirror_laws.specs.Sound.{AreCopies, AreHanded, AreOuts, AreRows, AreWrites, AreWrotes, HasAcked, HasTaken, IsAnswer, IsOut, IsWrote, MayCome, NeverAll, Sends, Standing, wrote_of}
+use Rattle.bx_mirror_laws.specs.Sound.{AreCopies, AreHanded, AreOuts, AreRows, AreWrites, HasAcked, HasTaken, IsAnswer, IsWrote, NeverAll, Sends, Standing, wrote_of}
 use Rattle.bx_mirror_laws.specs.Steps.{Ages, answer_to}
 use Rattle.bx_mirror_laws.proofs.Ages.{copies_age, hands_age, rows_age}
 use Rattle.bx_mirror_laws.proofs.Memory.{acts_been}

@@ -1,5 +1,5 @@
 -- A write that an event ends, where its session lives, stands then in each of its sectors for those who know the state.
-use Rattle.std.proofs.Common.{◌≡◌, ◌⊎◌, inl, inr, ℕ, ◌<◌, ◌≤◌, Bool, true, false, Contains, List, [], ◌∷◌, ◌++◌, length, Option, Some, None, refl, sym, ◌∙◌, ap, subst, arith}
+use Rattle.std.proofs.Common.{◌≡◌, inl, inr, ℕ, ◌<◌, ◌≤◌, Bool, true, false, Contains, List, [], ◌∷◌, ◌++◌, length, Option, Some, None, refl, sym, ◌∙◌, ap, subst, arith}
 use Rattle.std.specs.Prelude.{◌==◌, slice_get, if◌then◌else◌}
 use Rattle.std.proofs.lemmas.Bool.Decides.{nat_tests}
 use Rattle.std.proofs.lemmas.Option.{slice_get_cases}
@@ -15,7 +15,6 @@ use Rattle.bx_global.specs.declared.state.GlobalState.{GlobalState}
 use Rattle.bx_post.specs.Posts.{letter_of}
 use Rattle.bx_post.specs.declared.packets.Letter.{Letter}
 use Rattle.bx_records.specs.Runs.{KindAndRuns}
-use Rattle.bx_records.specs.declared.runs.Run.{Run}
 use Rattle.bx_rows.specs.declared.device.DeviceRow.{DeviceRow}
 use Rattle.bx_mirror_packets.specs.DeviceMessages.{Spells}
 use Rattle.bx_mirror_packets.specs.declared.message.DeviceMessage.{DeviceMessage}
@@ -33,7 +32,7 @@ use Rattle.bx_mirror_cluster.specs.Learning.{MayLearn}
 use Rattle.bx_mirror_cluster.specs.NodeSteps.{parts_acked}
 use Rattle.bx_mirror_cluster.specs.Writing.{with_node, with_stream}
 use Rattle.bx_mirror_cluster.proofs.Finished.{finished}
-use Rattle.bx_mirror_cluster.proofs.NodeEvents.{knows, risen, rises_with, tell, then_, there_still, told, told_past}
+use Rattle.bx_mirror_cluster.proofs.NodeEvents.{knows, risen, rises_with, tell, there_still, told}
 use Rattle.bx_mirror_cluster.proofs.NodeSteps.{ack_kept, ack_noted}
 use Rattle.bx_mirror_cluster.proofs.NodeTakes.{at_out, base, here_is, is_its, out_of_own}
 use Rattle.bx_mirror_cluster.proofs.StreamsGo.{clock_streams}

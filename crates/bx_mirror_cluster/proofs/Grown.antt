@@ -1,5 +1,5 @@
 -- The chain grows by any change that is legal, and that was handed back where a store asks for such: all members and streams go on fitting.
-use Rattle.std.proofs.Common.{◌≡◌, ◌≢◌, ◌⊎◌, inl, inr, ⊎_elim, ℕ, ◌+◌, ◌<◌, ◌≤◌, Bool, true, false, List, [], ◌∷◌, length, Option, Some, None, refl, sym, ◌∙◌, ap, subst, arith}
+use Rattle.std.proofs.Common.{◌≡◌, ◌≢◌, ◌⊎◌, inl, inr, ℕ, ◌+◌, ◌<◌, ◌≤◌, Bool, true, false, List, ◌∷◌, length, Option, Some, None, refl, sym, ◌∙◌, ap, subst, arith}
 use Rattle.std.specs.Prelude.{IsSomeAnd, ◌==◌, slice_get, if◌then◌else◌}
 use Rattle.std.specs.List.{AllByRecursion}
 use Rattle.std.proofs.lemmas.Bool.Decides.{nat_tests}
@@ -7,7 +7,7 @@ use Rattle.bx_base.specs.declared.names.Actor.TheVariants.{Node}
 use Rattle.bx_disk.specs.Disks.{Disks}
 use Rattle.bx_facts.proofs.Sessions.{Grows, rows_grow}
 use Rattle.bx_facts.specs.Chains.{Chain, IsPlace, IsStoresOwn, LivesIn, grown, last}
-use Rattle.bx_facts.specs.Sessions.{AreRows as AreSessions, IsRowOf}
+use Rattle.bx_facts.specs.Sessions.{IsRowOf}
 use Rattle.bx_facts.specs.Writes.{StorePast, store_grown}
 use Rattle.bx_global.proofs.Places.{at_place-other, length-at_place}
 use Rattle.bx_global.proofs.Rising.{index_rises}
@@ -24,10 +24,10 @@ use Rattle.bx_rows.specs.Modes.{IsReachable}
 use Rattle.bx_rows.specs.Rows.{shifted}
 use Rattle.bx_rows.specs.declared.device.DeviceRow.{DeviceRow}
 use Rattle.bx_rows.specs.declared.session.SessionRow.{SessionRow}
-use Rattle.bx_mirror_laws.specs.Acting.{FromEpoch, IsRow}
-use Rattle.bx_mirror_laws.specs.Sides.{Among, Out}
+use Rattle.bx_mirror_laws.specs.Acting.{IsRow}
+use Rattle.bx_mirror_laws.specs.Sides.{Out}
 use Rattle.bx_mirror_client.specs.declared.asking.Asking.{Asking}
-use Rattle.bx_mirror_cluster.specs.Fitting.{IsBehind, IsDrawn, IsOwnOrLeft, IsSettledOn, Keeps, Nowhere, Parts, StandsFor, StandsOn, WillReadOn, outs_of, row_of, row_or, rows_before}
+use Rattle.bx_mirror_cluster.specs.Fitting.{IsDrawn, IsOwnOrLeft, IsSettledOn, Keeps, Parts, StandsOn, WillReadOn, outs_of, row_of, row_or, rows_before}
 use Rattle.bx_mirror_cluster.proofs.Booted.{all_rows, boots_grow, boots_same, boots_with, order_grows}
 use Rattle.bx_mirror_cluster.proofs.Chained.{is_shifted, last_placed}
 use Rattle.bx_mirror_cluster.proofs.Drawn.{drawn_given}

@@ -10,7 +10,6 @@ use Rattle.bx_global.specs.Table.{IsLegal, effect}
 use Rattle.bx_global.specs.declared.change.Change.{Change}
 use Rattle.bx_global.specs.declared.change.Change.TheVariants.{Claim, Close, Expire, Open, Renew, Shift, Take}
 use Rattle.bx_rows.specs.Rows.{shifted}
-use Rattle.bx_rows.specs.declared.device.DeviceRow.{DeviceRow}
 use Rattle.bx_mirror_laws.specs.Acting.{FromEpoch}
 use Rattle.bx_mirror_laws.specs.Sides.{Among, Out}
 use Rattle.bx_mirror_laws.specs.Sound.{sent_of}

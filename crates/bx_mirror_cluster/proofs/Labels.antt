@@ -1,9 +1,9 @@
 -- Labels of members: they stay where their sector does.
-use Rattle.std.proofs.Common.{◌≡◌, inl, inr, ℕ, ◌+◌, ◌<◌, ◌≤◌, Bool, true, false, List, sym, ◌∙◌, subst, arith}
+use Rattle.std.proofs.Common.{◌≡◌, inl, inr, ℕ, ◌≤◌, Bool, true, false, List, sym, subst, arith}
 use Rattle.std.specs.Prelude.{slice_index}
 use Rattle.bx_disk.specs.Disks.{Disks}
 use Rattle.bx_facts.specs.Disks.{SameMemberLengths}
-use Rattle.bx_facts.specs.Writes.{Made, label_on, member_disk, store_room}
+use Rattle.bx_facts.specs.Writes.{Made, label_on, member_disk}
 use Rattle.bx_layout.specs.Labels.{SpellsLabel}
 use Rattle.bx_rows.specs.declared.device.DeviceRow.{DeviceRow}
 use Rattle.bx_mirror_laws.specs.Acting.{MayLead}

@@ -57,7 +57,4 @@ pub mod Ended
 pub mod MemberFaults
 pub mod MemberKeeps
 pub mod MemberFaulted
-<<<<<<< HEAD
-=======
 pub mod MemberPieceCut
->>>>>>> 6594b905

@@ -1,14 +1,12 @@
 -- What comes to a member that knows the state, as an event of the whole store.
-use Rattle.std.proofs.Common.{◌≡◌, ◌≢◌, ◌⊎◌, inl, inr, ℕ, ◌+◌, ◌-◌, ◌<◌, ◌≤◌, Bool, true, false, Contains, List, [], ◌∷◌, ◌++◌, length, min, Option, Some, None, refl, sym, ◌∙◌, ap, subst, arith}
-use Rattle.std.specs.Prelude.{◌==◌, ◌&&◌, not, slice_get, if◌then◌else◌}
-use Rattle.std.proofs.lemmas.Bool.Decides.{nat_tests}
-use Rattle.std.proofs.lemmas.List.{append-nil, append_assoc}
+use Rattle.std.proofs.Common.{◌≡◌, ◌≢◌, ◌⊎◌, inl, inr, ℕ, ◌+◌, ◌-◌, ◌<◌, ◌≤◌, Bool, true, false, List, [], ◌∷◌, ◌++◌, min, Some, refl, sym, ◌∙◌, ap, subst, arith}
+use Rattle.std.specs.Prelude.{not}
+use Rattle.std.proofs.lemmas.List.{append_assoc}
 use Rattle.bx_base.specs.declared.names.Actor.{Actor}
 use Rattle.bx_base.specs.declared.names.Actor.TheVariants.{Member}
 use Rattle.bx_disk.specs.Disks.{Disks, Stays}
-use Rattle.bx_facts.specs.Chains.{with_change}
 use Rattle.bx_facts.specs.Disks.{SameMemberLengths}
-use Rattle.bx_facts.specs.Writes.{IsOnly, StorePast, member_disk, store_room}
+use Rattle.bx_facts.specs.Writes.{StorePast, member_disk, store_room}
 use Rattle.bx_global.specs.declared.change.Change.{Change}
 use Rattle.bx_post.specs.declared.packets.Letter.{Letter}
 use Rattle.bx_rows.specs.Conditions.{Fits}
@@ -18,28 +16,25 @@ use Rattle.bx_mirror_laws.specs.Acting.{Acts}
 use Rattle.bx_mirror_laws.specs.Sides.{Among, Copied, WriteLetter}
 use Rattle.bx_mirror_laws.specs.Sound.{Filled}
 use Rattle.bx_mirror_member.specs.Acting.{IsReadHere}
-use Rattle.bx_mirror_client.proofs.Telling.{both as both_true}
 use Rattle.bx_mirror_packets.specs.DeviceMessages.{Spells, body_text}
 use Rattle.bx_mirror_packets.specs.declared.message.CopiedBody.{CopiedBody}
 use Rattle.bx_mirror_packets.specs.declared.message.CopyBody.{CopyBody}
-use Rattle.bx_mirror_packets.specs.declared.message.DeviceMessage.{DeviceMessage}
-use Rattle.bx_mirror_packets.specs.declared.message.DeviceMessage.TheVariants.{Write, Wrote as WroteOf, Read, Data, Copy, Copied as CopiedOf, Alive}
+use Rattle.bx_mirror_packets.specs.declared.message.DeviceMessage.TheVariants.{Data, Copy, Alive}
 use Rattle.bx_mirror_packets.specs.declared.message.ReadBody.{ReadBody}
 use Rattle.bx_mirror_packets.specs.declared.message.WriteBody.{WriteBody}
-use Rattle.bx_mirror_member.specs.Standing.{Standing as Serving, copies, copy_from, current_piece, device_in, disk_in, hearing, is_second, me, partner, piece_at, piece_in, room_in}
-use Rattle.bx_mirror_member.specs.Steps.{alive_letter, gone_on, is_last_piece, proposes, proposes_in, progress_in, released, shift, with_owing, with_piece, with_write, wrote_to, owing, answer_letter, copied_of, owed_letters}
-use Rattle.bx_mirror_member.specs.declared.copies.Piece.{Piece}
+use Rattle.bx_mirror_member.specs.Standing.{Standing as Serving, copies, device_in, disk_in, hearing, me, partner, room_in}
+use Rattle.bx_mirror_member.specs.Steps.{alive_letter, proposes, released, shift, with_owing, with_piece, with_write, wrote_to, owing, answer_letter, copied_of, owed_letters}
 use Rattle.bx_mirror_client.specs.Sends.{member_at}
 use Rattle.bx_mirror_server.proofs.Shifting.{copies_whole, proposes_step}
 use Rattle.bx_mirror_server.specs.Serving.{AnswersRead, PutsPiece, PutsWrite, SendsPiece}
-use Rattle.bx_mirror_cluster.specs.Fitting.{IsComing, IsData, Keeps, Parts, StandsFor, last_row, rows_before, side_of}
+use Rattle.bx_mirror_cluster.specs.Fitting.{IsComing, Keeps, Parts, StandsFor, last_row, side_of}
 use Rattle.bx_mirror_cluster.specs.GoesFurther.{GoesFurther}
-use Rattle.bx_mirror_cluster.specs.MemberSteps.{DeviceHistory, history_of, served, with_serving}
+use Rattle.bx_mirror_cluster.specs.MemberSteps.{history_of, served, with_serving}
 use Rattle.bx_mirror_cluster.proofs.MemberAnswers.{ReadComes, answer_coming, answer_drawn, answer_reads, answer_step}
 use Rattle.bx_mirror_cluster.proofs.MemberHands.{hand_goes, hand_step}
-use Rattle.bx_mirror_cluster.proofs.MemberMoves.{both_go, plain_goes, step_goes}
+use Rattle.bx_mirror_cluster.proofs.MemberMoves.{plain_goes, step_goes}
 use Rattle.bx_mirror_cluster.proofs.MemberNotes.{AnswerComes, acts, answer, answered, by_other, leads, note_goes, note_step, target_filled}
-use Rattle.bx_mirror_cluster.proofs.MemberOwn.{own_device, own_second, two}
+use Rattle.bx_mirror_cluster.proofs.MemberOwn.{two}
 use Rattle.bx_mirror_cluster.proofs.MemberPieces.{PieceComes, target_goes, target_step}
 use Rattle.bx_mirror_cluster.proofs.MemberQuiet.{quiet_goes, quiet_step}
 use Rattle.bx_mirror_cluster.proofs.MemberRepeats.{ComesAgain, again_coming, again_data, again_step, owe_goes, owe_step}

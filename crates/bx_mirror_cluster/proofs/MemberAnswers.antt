@@ -1,5 +1,5 @@
 -- A member answers a read with what its sectors read as: the answer is one to a read that was sent, and has what stands.
-use Rattle.std.proofs.Common.{◌≡◌, ◌≢◌, ◌⊎◌, inl, inr, ℕ, ◌+◌, ◌-◌, ◌*◌, ◌/◌, ◌<◌, ◌≤◌, Bool, true, false, Contains, List, [], ◌∷◌, ◌++◌, length, Option, Some, refl, sym, ◌∙◌, ap, subst, arith}
+use Rattle.std.proofs.Common.{◌≡◌, ◌⊎◌, inl, inr, ℕ, ◌+◌, ◌-◌, ◌<◌, ◌≤◌, Bool, true, false, Contains, List, [], ◌∷◌, ◌++◌, Some, refl, sym, ◌∙◌, ap, subst, arith}
 use Rattle.std.specs.Prelude.{not}
 use Rattle.bx_base.specs.declared.names.Actor.{Actor}
 use Rattle.bx_base.specs.declared.names.Actor.TheVariants.{Member, Node}
@@ -8,17 +8,15 @@ use Rattle.bx_facts.specs.Chains.{last}
 use Rattle.bx_facts.specs.Writes.{StorePast}
 use Rattle.bx_post.specs.declared.packets.Letter.{Letter}
 use Rattle.bx_rows.specs.Modes.{IsSource}
-use Rattle.bx_rows.specs.declared.device.DeviceRow.{DeviceRow}
-use Rattle.bx_mirror_laws.specs.Acting.{Acts, FromEpoch, IsRow, boot_in}
-use Rattle.bx_mirror_laws.specs.Sides.{Side, WriteLetter}
+use Rattle.bx_mirror_laws.specs.Acting.{Acts, FromEpoch, boot_in}
+use Rattle.bx_mirror_laws.specs.Sides.{WriteLetter}
 use Rattle.bx_mirror_laws.proofs.Small.{answers_so}
 use Rattle.bx_mirror_packets.specs.DeviceMessages.{Spells, body_text}
 use Rattle.bx_mirror_packets.specs.declared.message.DataBody.{DataBody}
-use Rattle.bx_mirror_packets.specs.declared.message.DeviceMessage.{DeviceMessage}
-use Rattle.bx_mirror_packets.specs.declared.message.DeviceMessage.TheVariants.{Write, Wrote as WroteOf, Read, Data, Copy, Copied as CopiedOf, Alive}
+use Rattle.bx_mirror_packets.specs.declared.message.DeviceMessage.TheVariants.{Read, Data}
 use Rattle.bx_mirror_packets.specs.declared.message.ReadBody.{ReadBody}
 use Rattle.bx_mirror_member.specs.Acting.{IsReadAt, IsReadHere}
-use Rattle.bx_mirror_member.specs.Standing.{Standing as Serving, device_in, disk_in, is_second, me}
+use Rattle.bx_mirror_member.specs.Standing.{Standing as Serving, disk_in, me}
 use Rattle.bx_mirror_client.specs.Sends.{member_at}
 use Rattle.bx_mirror_client.specs.declared.asking.Asking.{Asking}
 use Rattle.bx_mirror_server.specs.Serving.{AnswersRead}

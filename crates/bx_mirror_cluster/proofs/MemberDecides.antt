@@ -1,7 +1,6 @@
 -- What a member tells apart: whether an answer is owed already, and whether a piece's answer is that of its current one.
-use Rattle.std.proofs.Common.{◌≡◌, ◌≢◌, ◌⊎◌, inl, inr, ⊎_elim, ℕ, zero, suc, ◌+◌, ◌<◌, ◌≤◌, Bool, true, false, Contains, List, [], ◌∷◌, Option, Some, None, refl, sym, ◌∙◌, ap, subst, arith}
+use Rattle.std.proofs.Common.{◌≡◌, ◌≢◌, ◌⊎◌, inl, inr, ⊎_elim, ℕ, Bool, true, false, Contains, List, [], ◌∷◌, Option, Some, None, refl, sym, ◌∙◌, ap, subst, arith}
 use Rattle.bx_base.specs.declared.names.Actor.{Actor}
-use Rattle.bx_base.specs.declared.names.Actor.TheVariants.{Member, Node, Replica, Server}
 use Rattle.bx_facts.proofs.Lists.{behind, front, front_or_behind, nothing}
 use Rattle.bx_facts.proofs.Machines.{is_itself, is_one}
 use Rattle.bx_facts.specs.Machines.{is_same}

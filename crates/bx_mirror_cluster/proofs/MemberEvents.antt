@@ -1,5 +1,5 @@
 -- All that a member does in one event, as an event of the whole store: it learns the state, begins a copy where its row says so, and takes what comes.
-use Rattle.std.proofs.Common.{◌≡◌, ◌≢◌, ◌⊎◌, inl, inr, ℕ, ◌+◌, ◌-◌, ◌*◌, ◌/◌, ◌<◌, ◌≤◌, Bool, true, false, Contains, List, [], ◌∷◌, ◌++◌, length, min, max, Option, Some, None, refl, sym, ◌∙◌, ap, subst, arith}
+use Rattle.std.proofs.Common.{◌≡◌, ◌≢◌, ◌⊎◌, inl, inr, ℕ, ◌+◌, ◌-◌, ◌*◌, ◌/◌, ◌<◌, ◌≤◌, Bool, true, false, List, [], ◌++◌, min, Option, Some, None, refl, sym, ◌∙◌, ap, subst, arith}
 use Rattle.std.specs.Prelude.{◌==◌, ◌&&◌, not, slice_get, if◌then◌else◌}
 use Rattle.std.proofs.lemmas.Bool.Decides.{nat_tests}
 use Rattle.std.proofs.lemmas.List.{append_assoc}
@@ -20,7 +20,6 @@ use Rattle.bx_global.specs.declared.change.Change.{Change}
 use Rattle.bx_global.specs.declared.state.GlobalState.{GlobalState}
 use Rattle.bx_post.specs.declared.packets.Letter.{Letter}
 use Rattle.bx_rows.specs.declared.device.DeviceRow.{DeviceRow}
-use Rattle.bx_mirror_client.proofs.Telling.{both as both_true}
 use Rattle.bx_mirror_member.specs.Standing.{Standing as Serving, copies, device_in, first_piece, first_piece_in, is_news, learned, learned_row, piece_at, room_in, with_row}
 use Rattle.bx_mirror_member.specs.declared.copies.Piece.{Piece}
 use Rattle.bx_mirror_client.specs.Sends.{member_at}
@@ -29,9 +28,9 @@ use Rattle.bx_mirror_cluster.specs.Fitting.{Keeps, Parts}
 use Rattle.bx_mirror_cluster.specs.GoesFurther.{GoesFurther}
 use Rattle.bx_mirror_cluster.specs.Learning.{with_clock}
 use Rattle.bx_mirror_cluster.specs.MemberSteps.{IsFor, MayServe, history_of, served, with_member, with_serving}
-use Rattle.bx_mirror_cluster.proofs.MemberActs.{piece_goes, stays_goes}
+use Rattle.bx_mirror_cluster.proofs.MemberActs.{piece_goes}
 use Rattle.bx_mirror_cluster.proofs.MemberInputs.{input_goes}
-use Rattle.bx_mirror_cluster.proofs.MemberLearns.{begins_then, fixed_then, is_row, knew_else, learn_goes, learn_step, no_change, source_then}
+use Rattle.bx_mirror_cluster.proofs.MemberLearns.{begins_then, fixed_then, is_row, knew_else, learn_goes, learn_step, source_then}
 use Rattle.bx_mirror_cluster.proofs.MemberMoves.{both_go, clock_goes, plain_goes}
 use Rattle.bx_mirror_cluster.proofs.MemberOwn.{own_device}
 use Rattle.bx_mirror_cluster.proofs.MemberQuiet.{quiet_goes, quiet_step}

@@ -1,5 +1,5 @@
 -- A disk fails during an event of a member: it has learned the state, and all goes on fitting; what stands goes on.
-use Rattle.std.proofs.Common.{◌≡◌, ◌≢◌, ℕ, ◌+◌, ◌<◌, ◌≤◌, Bool, true, false, List, ◌++◌, Option, Some, None, refl, sym, ◌∙◌, ap, subst, arith}
+use Rattle.std.proofs.Common.{◌≡◌, ◌≢◌, ℕ, ◌<◌, Bool, true, false, List, ◌++◌, Option, Some, None, refl, sym, ◌∙◌, ap, subst}
 use Rattle.std.specs.Prelude.{slice_get, if◌then◌else◌}
 use Rattle.bx_base.specs.declared.names.Actor.TheVariants.{Member}
 use Rattle.bx_disk.specs.Disks.{Disks, Stays}
@@ -12,17 +12,6 @@ use Rattle.bx_global.specs.declared.state.GlobalState.{GlobalState}
 use Rattle.bx_post.specs.Posts.{letter_of}
 use Rattle.bx_post.specs.declared.packets.Letter.{Letter}
 use Rattle.bx_rows.specs.declared.device.DeviceRow.{DeviceRow}
-<<<<<<< HEAD
-use Rattle.bx_mirror_laws.specs.Steps.{PartlyTaken}
-use Rattle.bx_mirror_packets.specs.declared.message.WriteBody.{WriteBody}
-use Rattle.bx_mirror_member.specs.Acting.{IsTaken}
-use Rattle.bx_mirror_member.specs.Standing.{Standing as Serving, device_in, disk_in, is_news, learned, learned_row, with_row}
-use Rattle.bx_mirror_client.specs.Sends.{member_at}
-use Rattle.bx_mirror_server.specs.Sides.{letter_to, side_of as side_by}
-use Rattle.bx_mirror_cluster.specs.Fitting.{Keeps, Parts}
-use Rattle.bx_mirror_cluster.specs.GoesFurther.{GoesFurther}
-use Rattle.bx_mirror_cluster.specs.MemberSteps.{IsFor, IsWriteIn, MayServe, with_serving}
-=======
 use Rattle.bx_mirror_laws.specs.Steps.{PartlyTaken, PieceChanged}
 use Rattle.bx_mirror_packets.specs.declared.message.CopyBody.{CopyBody}
 use Rattle.bx_mirror_packets.specs.declared.message.WriteBody.{WriteBody}
@@ -33,17 +22,13 @@ use Rattle.bx_mirror_server.specs.Sides.{letter_to, piece_from, side_of as side_
 use Rattle.bx_mirror_cluster.specs.Fitting.{Keeps, Parts}
 use Rattle.bx_mirror_cluster.specs.GoesFurther.{GoesFurther}
 use Rattle.bx_mirror_cluster.specs.MemberSteps.{IsFor, IsPieceIn, IsWriteIn, MayServe, with_serving}
->>>>>>> 6594b905
 use Rattle.bx_mirror_cluster.proofs.MemberEvents.{only_learns, serving_again, serving_here, steady_with}
 use Rattle.bx_mirror_cluster.proofs.MemberFaults.{cut_goes}
 use Rattle.bx_mirror_cluster.proofs.MemberKeeps.{kept_goes}
 use Rattle.bx_mirror_cluster.proofs.MemberMoves.{both_go}
 use Rattle.bx_mirror_cluster.proofs.MemberOwn.{own_disk}
-<<<<<<< HEAD
-=======
 use Rattle.bx_mirror_cluster.proofs.MemberPieceCut.{piece_cut_goes}
 use Rattle.bx_mirror_cluster.proofs.MemberPieces.{PieceComes}
->>>>>>> 6594b905
 use Rattle.bx_mirror_cluster.proofs.MemberTakes.{MayBeTaken}
 
 -- it is the member that it was
@@ -90,19 +75,14 @@ module _ (parts : Parts) (x y : Disks) (past : StorePast) (d : ℕ) (b : Bool) (
   faults_kept reads sure = as_one (kept_goes knowing_parts x y past_then learns.keeps d b within serve.up number disks lengths
       (λ s. subst (λ (k : ℕ). y.reads k s ≡ x.reads k s) (sym disk) (reads s)) (λ s. subst (λ (k : ℕ). x.unsure k s ≡ false → y.unsure k s ≡ false) (sym disk) (sure s)))
 
-<<<<<<< HEAD
-=======
   faults_on : (c : CopyBody) → PieceComes knowing_parts past_then d b c → ((by : Bool) → PieceChanged (is_second m) (piece_from by c) (side_by true m x) (side_by true m y)) → GoesFurther parts knowing_parts x y (store_with past before) past_then
   faults_on c comes cut = as_one (piece_cut_goes knowing_parts x y past_then learns.keeps d b within serve.up number disks lengths c comes
       (subst (λ (q : Serving). (by : Bool) → PieceChanged (is_second q) (piece_from by c) (side_by true q x) (side_by true q y)) (sym at) cut))
 
->>>>>>> 6594b905
   faults_in : (from : _) (reading : ℕ) (w : WriteBody) → MayBeTaken knowing_parts past_then d b from reading w → PartlyTaken (device_in m) (letter_to m w) (side_by true m x) (side_by true m y) → GoesFurther parts knowing_parts x y (store_with past before) past_then
   faults_in from reading w comes cut = as_one (cut_goes knowing_parts x y past_then learns.keeps d b within serve.up number disks lengths from reading w comes
       (subst (λ (q : Serving). PartlyTaken (device_in q) (letter_to q w) (side_by true q x) (side_by true q y)) (sym at) cut))
 
-<<<<<<< HEAD
-=======
 pub faults_piece : (parts : Parts) (x y : Disks) (past : StorePast) (d : ℕ) (b : Bool) → d < parts.made.devices → (before : List Letter) → Keeps parts x (store_with past before) → (known : GlobalState) → MayServe parts (store_with past before) (member_at d b) known
     → (input : Input) → Arrives (past.told.letters ++ before) input → IsFor (Member (member_at d b)) input → IsSteady past.told.greatest input → ((k s : ℕ) → k ≢ member_disk d b → Stays x y k s) → SameMemberLengths x y
     → (c : CopyBody) → IsPieceIn input c → IsCopiedHere (learned known (parts.members (member_at d b))) c
@@ -115,7 +95,6 @@ faults_piece parts x y past d b within before keeps known serve (Packet packet r
 faults_piece parts x y past d b within before keeps known serve (Tick r) arrives for_it steady disks lengths c is_piece here cut = absurd is_piece
 faults_piece parts x y past d b within before keeps known serve Synced arrives for_it steady disks lengths c is_piece here cut = absurd is_piece
 
->>>>>>> 6594b905
 pub faults_cut : (parts : Parts) (x y : Disks) (past : StorePast) (d : ℕ) (b : Bool) → d < parts.made.devices → (before : List Letter) → Keeps parts x (store_with past before) → (known : GlobalState) → MayServe parts (store_with past before) (member_at d b) known
     → (input : Input) → Arrives (past.told.letters ++ before) input → IsFor (Member (member_at d b)) input → IsSteady past.told.greatest input → ((k s : ℕ) → k ≢ member_disk d b → Stays x y k s) → SameMemberLengths x y
     → (reading : ℕ) (w : WriteBody) → IsWriteIn input reading w → IsTaken (learned known (parts.members (member_at d b))) reading w

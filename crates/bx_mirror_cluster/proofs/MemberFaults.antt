@@ -1,34 +1,26 @@
 -- A disk fails while its member takes a write: some of its runs may stand there, and the member is as it was; all goes on fitting, and what stands goes
 -- on where nothing else is written.
-use Rattle.std.proofs.Common.{◌≡◌, ◌≢◌, ◌⊎◌, inl, inr, ℕ, ◌+◌, ◌<◌, ◌≤◌, Bool, true, false, Contains, List, [], ◌∷◌, ◌++◌, Option, Some, None, refl, sym, ◌∙◌, ap, subst, arith}
-use Rattle.std.specs.Prelude.{◌==◌, not, if◌then◌else◌}
-use Rattle.std.proofs.lemmas.Bool.Decides.{nat_tests}
+use Rattle.std.proofs.Common.{◌≡◌, ◌≢◌, inl, inr, ℕ, ◌<◌, Bool, true, false, List, Some, refl, sym, ◌∙◌, subst, arith}
+use Rattle.std.specs.Prelude.{not}
 use Rattle.bx_base.specs.declared.names.Actor.{Actor}
 use Rattle.bx_base.specs.declared.names.Actor.TheVariants.{Member}
 use Rattle.bx_disk.specs.Disks.{Disks, Stays}
 use Rattle.bx_facts.specs.Chains.{last}
 use Rattle.bx_facts.specs.Disks.{SameMemberLengths}
 use Rattle.bx_facts.specs.Writes.{IsOnly, StorePast, WritesIn, member_disk, store_room}
-use Rattle.bx_post.specs.declared.packets.Letter.{Letter}
-use Rattle.bx_records.specs.declared.runs.Run.{Run}
-use Rattle.bx_rows.specs.Modes.{IsSource, IsWritten}
 use Rattle.bx_rows.specs.declared.device.DeviceRow.{DeviceRow}
-use Rattle.bx_mirror_laws.specs.Acting.{Acts, IsRow}
+use Rattle.bx_mirror_laws.specs.Acting.{IsRow}
 use Rattle.bx_mirror_laws.specs.Sides.{Among, Handing, Side, WriteLetter, Wrote}
 use Rattle.bx_mirror_laws.specs.Steps.{Ages, PartlyTaken, TakesWrite}
 use Rattle.bx_mirror_laws.proofs.Ages.{hands_age, rows_age, writes_age, wrotes_age}
 use Rattle.bx_mirror_laws.proofs.Faulting.{partly_ages, partly_lasts, partly_no_more, partly_outs, partly_stands}
-use Rattle.bx_mirror_packets.specs.DeviceMessages.{IsDeviceMessage, Spells}
-use Rattle.bx_mirror_packets.specs.declared.message.DeviceMessage.TheVariants.{Write}
 use Rattle.bx_mirror_packets.specs.declared.message.WriteBody.{WriteBody}
-use Rattle.bx_mirror_tables.specs.declared.answers.Owing.{Owing}
-use Rattle.bx_mirror_member.specs.Acting.{IsTaken}
-use Rattle.bx_mirror_member.specs.Standing.{Standing as Serving, device_in, disk_in, is_second}
+use Rattle.bx_mirror_member.specs.Standing.{Standing as Serving, device_in, is_second}
 use Rattle.bx_mirror_client.specs.Sends.{member_at}
 use Rattle.bx_mirror_server.specs.Sides.{letter_to, side_of as side_by}
-use Rattle.bx_mirror_cluster.specs.Fitting.{History, IsClaimed, IsComing, IsDeviceSound, IsOwing, Keeps, Parts, StandsFor, handings, knows_of, last_row, outs_of, rows_before, side_of}
+use Rattle.bx_mirror_cluster.specs.Fitting.{History, IsClaimed, IsComing, IsDeviceSound, Keeps, Parts, StandsFor, handings, knows_of, last_row, outs_of, rows_before, side_of}
 use Rattle.bx_mirror_cluster.specs.GoesFurther.{GoesFurther}
-use Rattle.bx_mirror_cluster.specs.MemberSteps.{DeviceHistory, history_of, served, with_histories, with_member, with_serving}
+use Rattle.bx_mirror_cluster.specs.MemberSteps.{history_of, served, with_histories, with_member, with_serving}
 use Rattle.bx_mirror_cluster.proofs.MemberOwn.{IsOwnStep, own_device, own_disk, own_down, own_known, own_labels, own_second, own_step, two}
 use Rattle.bx_mirror_cluster.proofs.MemberSteps.{IsMemberStep}
 use Rattle.bx_mirror_cluster.proofs.MemberMoves.{plain_goes}

@@ -1,5 +1,5 @@
 -- A member hands back a change of its device's mode: all goes on fitting, and what stands goes on.
-use Rattle.std.proofs.Common.{◌≡◌, ◌≢◌, ◌⊎◌, inl, inr, ℕ, ◌+◌, ◌<◌, ◌≤◌, Bool, true, false, List, [], ◌∷◌, Option, Some, None, refl, sym, ◌∙◌, ap, subst, arith}
+use Rattle.std.proofs.Common.{◌≡◌, ◌≢◌, ◌⊎◌, inl, inr, ℕ, ◌<◌, ◌≤◌, Bool, true, false, List, ◌∷◌, Some, refl, sym, ◌∙◌, ap, subst, arith}
 use Rattle.std.specs.Prelude.{◌==◌, not, if◌then◌else◌}
 use Rattle.std.proofs.lemmas.Bool.Decides.{nat_tests}
 use Rattle.bx_base.specs.declared.names.Actor.TheVariants.{Member}
@@ -9,7 +9,7 @@ use Rattle.bx_facts.specs.Writes.{StorePast, store_room}
 use Rattle.bx_global.specs.declared.change.Change.{Change}
 use Rattle.bx_rows.specs.Modes.{IsReachable, IsSource}
 use Rattle.bx_rows.specs.declared.device.DeviceRow.{DeviceRow}
-use Rattle.bx_mirror_laws.specs.Acting.{Acts, IsRow, MayLead}
+use Rattle.bx_mirror_laws.specs.Acting.{Acts, IsRow}
 use Rattle.bx_mirror_laws.specs.Sides.{Among, Copied, Handing, Side}
 use Rattle.bx_mirror_laws.specs.Sound.{AreHanded, AreOuts, Filled, Standing}
 use Rattle.bx_mirror_laws.proofs.Handing.{hands_hand, outs_hand, stands_hand}

@@ -1,12 +1,12 @@
 -- All that a member does once it knows the state: a packet, a tick or a sync, as an event of the whole store.
-use Rattle.std.proofs.Common.{◌≡◌, ◌≢◌, ◌⊎◌, inl, inr, ℕ, ◌+◌, ◌-◌, ◌*◌, ◌/◌, ◌<◌, ◌≤◌, Bool, true, false, Contains, List, [], ◌∷◌, ◌++◌, min, Option, Some, None, refl, sym, ◌∙◌, ap, subst, arith}
+use Rattle.std.proofs.Common.{◌≡◌, ◌≢◌, inl, inr, ℕ, ◌+◌, ◌-◌, ◌*◌, ◌/◌, ◌<◌, ◌≤◌, Bool, true, false, Contains, List, [], ◌∷◌, ◌++◌, Option, Some, None, refl, sym, ◌∙◌, ap, subst, arith}
 use Rattle.std.specs.Prelude.{◌==◌, ◌&&◌, ltb, not, if◌then◌else◌}
 use Rattle.std.proofs.lemmas.Bool.Decides.{nat_tests}
 use Rattle.std.proofs.lemmas.List.{append_assoc}
 use Rattle.std.proofs.lemmas.List.Elements.{Contains-append_left}
 use Rattle.bx_base.specs.declared.names.Actor.{Actor}
 use Rattle.bx_base.specs.declared.names.Actor.TheVariants.{Member}
-use Rattle.bx_disk.specs.Disks.{Disks, Image, Stays}
+use Rattle.bx_disk.specs.Disks.{Disks, Stays}
 use Rattle.bx_facts.specs.Chains.{with_change}
 use Rattle.bx_facts.specs.Disks.{SameMemberLengths}
 use Rattle.bx_facts.specs.Inputs.{IsComing as Arrives, IsSteady}
@@ -22,15 +22,12 @@ use Rattle.bx_rows.specs.declared.device.DeviceRow.{DeviceRow}
 use Rattle.bx_mirror_client.proofs.Telling.{both as both_true}
 use Rattle.bx_mirror_packets.specs.DeviceMessages.{Spells}
 use Rattle.bx_mirror_packets.specs.declared.message.CopiedBody.{CopiedBody}
-use Rattle.bx_mirror_packets.specs.declared.message.CopyBody.{CopyBody}
 use Rattle.bx_mirror_packets.specs.declared.message.DeviceMessage.{DeviceMessage}
 use Rattle.bx_mirror_packets.specs.declared.message.DeviceMessage.TheVariants.{Write, Wrote as WroteOf, Read, Data, Copy, Copied as CopiedOf, Alive}
-use Rattle.bx_mirror_packets.specs.declared.message.ReadBody.{ReadBody}
 use Rattle.bx_mirror_packets.specs.declared.message.WriteBody.{WriteBody}
 use Rattle.bx_mirror_member.specs.Acting.{IsNoted, Judges}
-use Rattle.bx_mirror_member.specs.Standing.{Standing as Serving, copies, current_piece, disk_in, hearing, piece_at, piece_in, room_in}
-use Rattle.bx_mirror_member.specs.Steps.{alive_letter, answer_letter, copied_of, gone_on, is_last_piece, owed_letters, owing, progress_in, proposes, proposes_in, released, shift, with_owing, with_piece, with_write, wrote_to}
-use Rattle.bx_mirror_member.specs.declared.copies.Piece.{Piece}
+use Rattle.bx_mirror_member.specs.Standing.{Standing as Serving, copies, current_piece, hearing, piece_at, piece_in, room_in}
+use Rattle.bx_mirror_member.specs.Steps.{alive_letter, answer_letter, copied_of, gone_on, is_last_piece, owed_letters, owing, progress_in, proposes_in, released, shift, with_owing, with_piece, with_write, wrote_to}
 use Rattle.bx_mirror_member.specs.declared.copies.Progress.{Progress}
 use Rattle.bx_mirror_member.specs.declared.copies.Progress.TheVariants.{Next, Unchanged, Whole}
 use Rattle.bx_mirror_member.specs.declared.judging.Judgement.{Judgement}

@@ -1,5 +1,5 @@
 -- A disk fails while nothing is written: it reads as it did, and what was sure is; all goes on fitting, and what stands goes on.
-use Rattle.std.proofs.Common.{◌≡◌, ◌≢◌, ◌⊎◌, inl, inr, ℕ, ◌+◌, ◌<◌, ◌≤◌, Bool, true, false, Contains, List, Option, Some, None, refl, sym, ◌∙◌, ap, subst, arith}
+use Rattle.std.proofs.Common.{◌≡◌, ◌≢◌, ◌⊎◌, inl, inr, ℕ, ◌<◌, ◌≤◌, Bool, true, false, List, Some, refl, sym, ◌∙◌, ap, subst, arith}
 use Rattle.std.specs.Prelude.{not}
 use Rattle.bx_base.specs.declared.names.Actor.TheVariants.{Member}
 use Rattle.bx_disk.specs.Disks.{Disks, Stays}
@@ -8,8 +8,8 @@ use Rattle.bx_facts.specs.Disks.{SameMemberLengths}
 use Rattle.bx_facts.specs.Writes.{StorePast, member_disk, store_room}
 use Rattle.bx_rows.specs.declared.device.DeviceRow.{DeviceRow}
 use Rattle.bx_mirror_laws.specs.Acting.{Acts, Been, Counts, IsRow, MayAct, Moved}
-use Rattle.bx_mirror_laws.specs.Sides.{Among, Copied, Handing, Out, Side, WriteLetter, Wrote}
-use Rattle.bx_mirror_laws.specs.Sound.{HasTaken, IsOut, MayCome}
+use Rattle.bx_mirror_laws.specs.Sides.{Among, Handing, Out, Side}
+use Rattle.bx_mirror_laws.specs.Sound.{HasTaken}
 use Rattle.bx_mirror_laws.specs.Steps.{Ages, LastsGoOn}
 use Rattle.bx_mirror_laws.proofs.Ages.{copies_age, hands_age, rows_age, writes_age, wrotes_age}
 use Rattle.bx_mirror_laws.proofs.Still.{outs_still, stands_still}
@@ -91,11 +91,7 @@ module _ (parts : Parts) (x y : Disks) (past : StorePast) (keeps : Keeps parts x
     may = λ t r is. each (λ s q. MayAct t q r → MayAct t s r) (λ s k f z. record { up = z.up; named = z.named; knows = z.knows }) t;
     boot = each (λ s q. s.boot ≤ q.boot) (λ s k f. omega arith);
     known = λ t r. each (λ s q. (s.row ≡ Some r → IsRow last_ older_ r) → q.row ≡ Some r → IsRow last_ older_ r) (λ s k f z. z) t (sound.rows.known t r);
-<<<<<<< HEAD
-    targets = λ t r s is a none low high. inl (each (λ z q. q.reads s ≡ z.reads s) (λ z k f. refl) t);
-=======
     targets = λ t r s is a none low high was_it. each (λ z q. q.reads s ≡ z.reads s) (λ z k f. refl) t ∙ was_it;
->>>>>>> 6594b905
     filled = λ t s copying none been evidence low reads. (each (λ z q. q.reads s ≡ z.reads s) (λ z k f. refl) t ∙ reads, each (λ z q. z.unsure s ≡ false → q.unsure s ≡ false) (λ z k f was_sure. f s was_sure) t);
     sources = λ t r s is been leads_it. refl;
   }

@@ -1,21 +1,18 @@
 -- Each step of a member as an event of the whole store.
-use Rattle.std.proofs.Common.{◌≡◌, ◌≢◌, ◌⊎◌, inl, inr, ℕ, ◌+◌, ◌-◌, ◌<◌, ◌≤◌, Bool, true, false, Contains, List, [], ◌∷◌, ◌++◌, length, min, Option, Some, None, refl, sym, ◌∙◌, ap, subst, arith}
-use Rattle.std.specs.Prelude.{not, slice_get}
+use Rattle.std.proofs.Common.{◌≡◌, ◌⊎◌, inl, inr, ℕ, ◌+◌, ◌-◌, ◌<◌, ◌≤◌, Bool, Contains, List, Some, refl, ◌∙◌, ap, subst, arith}
 use Rattle.bx_base.specs.declared.names.Actor.{Actor}
-use Rattle.bx_base.specs.declared.names.Actor.TheVariants.{Member, Node}
-use Rattle.bx_disk.specs.Disks.{Disks, Stays, sector_of}
-use Rattle.bx_facts.specs.Chains.{IsPlace, last}
-use Rattle.bx_facts.specs.Disks.{SameMemberLengths}
-use Rattle.bx_facts.specs.Writes.{IsOnly, Sent, StorePast, WritesTo, member_disk, store_room}
+use Rattle.bx_base.specs.declared.names.Actor.TheVariants.{Node}
+use Rattle.bx_disk.specs.Disks.{Disks, sector_of}
+use Rattle.bx_facts.specs.Chains.{last}
+use Rattle.bx_facts.specs.Writes.{IsOnly, Sent, StorePast, store_room}
 use Rattle.bx_global.specs.declared.change.Change.{Change}
-use Rattle.bx_global.specs.declared.state.GlobalState.{GlobalState}
 use Rattle.bx_post.specs.declared.packets.Letter.{Letter}
 use Rattle.bx_rows.specs.declared.device.DeviceRow.{DeviceRow}
 use Rattle.bx_mirror_member.specs.Standing.{Standing as Serving}
 use Rattle.bx_mirror_client.specs.Streams.{Streaming}
 use Rattle.bx_mirror_client.specs.Sends.{member_at}
 use Rattle.bx_mirror_client.specs.declared.asking.Asking.{Asking}
-use Rattle.bx_mirror_cluster.specs.Fitting.{IsData, IsDrawn, IsSettledOn, Keeps, Parts, StandsFor, StandsOn, WillReadOn}
+use Rattle.bx_mirror_cluster.specs.Fitting.{IsData, IsDrawn, Keeps, Parts, StandsFor, WillReadOn}
 use Rattle.bx_mirror_cluster.specs.GoesFurther.{GoesFurther}
 use Rattle.bx_mirror_cluster.specs.Learning.{with_clock}
 use Rattle.bx_mirror_cluster.specs.MemberSteps.{DeviceHistory, served, with_serving}

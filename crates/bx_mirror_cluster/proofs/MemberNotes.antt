@@ -1,17 +1,17 @@
 -- The source of a copy notes the answer to its piece: it goes on to the next one, or behind the last one both members are whole.
-use Rattle.std.proofs.Common.{◌≡◌, ◌≢◌, ◌⊎◌, inl, inr, ℕ, ◌+◌, ◌<◌, ◌≤◌, Bool, true, false, Contains, List, Option, Some, None, refl, sym, ◌∙◌, ap, subst, arith}
+use Rattle.std.proofs.Common.{◌≡◌, ◌⊎◌, inl, inr, ℕ, ◌+◌, ◌<◌, ◌≤◌, Bool, true, false, Contains, List, Some, refl, sym, ◌∙◌, ap, subst, arith}
 use Rattle.std.specs.Prelude.{not}
 use Rattle.bx_base.specs.declared.names.Actor.TheVariants.{Member}
 use Rattle.bx_disk.specs.Disks.{Disks}
 use Rattle.bx_facts.specs.Chains.{last}
 use Rattle.bx_facts.specs.Writes.{StorePast, store_room}
 use Rattle.bx_post.specs.declared.packets.Letter.{Letter}
-use Rattle.bx_rows.specs.Modes.{IsSource, both}
+use Rattle.bx_rows.specs.Modes.{IsSource}
 use Rattle.bx_rows.specs.declared.device.DeviceRow.{DeviceRow}
 use Rattle.bx_mirror_laws.specs.Acting.{Acts, Been, Counts, IsRow, MayAct, Moved, boot_in}
-use Rattle.bx_mirror_laws.specs.Sides.{Among, Copied, Handing, Out, Side, WriteLetter, Wrote}
-use Rattle.bx_mirror_laws.specs.Sound.{Filled, HasTaken, IsDoneTo, IsOut, MayCome, wrote_of}
-use Rattle.bx_mirror_laws.specs.Steps.{Ages, LastsGoOn, TakesNoMore}
+use Rattle.bx_mirror_laws.specs.Sides.{Among, Copied, Handing, Out, Side}
+use Rattle.bx_mirror_laws.specs.Sound.{Filled, HasTaken}
+use Rattle.bx_mirror_laws.specs.Steps.{Ages, LastsGoOn}
 use Rattle.bx_mirror_laws.proofs.Ages.{hands_age, rows_age, writes_age, wrotes_age}
 use Rattle.bx_mirror_laws.proofs.Handing.{all_filled}
 use Rattle.bx_mirror_laws.proofs.Small.{copies_note}
@@ -20,9 +20,8 @@ use Rattle.bx_mirror_packets.specs.DeviceMessages.{Spells}
 use Rattle.bx_mirror_packets.specs.declared.message.CopiedBody.{CopiedBody}
 use Rattle.bx_mirror_packets.specs.declared.message.DeviceMessage.TheVariants.{Copied as CopiedOf}
 use Rattle.bx_mirror_member.specs.Acting.{IsNoted}
-use Rattle.bx_mirror_member.specs.Standing.{Standing as Serving, copy_from, device_in, is_second}
+use Rattle.bx_mirror_member.specs.Standing.{Standing as Serving, copy_from, is_second}
 use Rattle.bx_mirror_client.specs.Sends.{member_at}
-use Rattle.bx_mirror_server.specs.Sides.{side_of as side_by}
 use Rattle.bx_mirror_cluster.specs.Fitting.{History, IsClaimed, IsComing, IsDeviceSound, Keeps, Parts, StandsFor, handings, knows_of, last_row, outs_of, rows_before, side_of}
 use Rattle.bx_mirror_cluster.specs.MemberSteps.{history_of, served, with_histories, with_member, with_serving}
 use Rattle.bx_mirror_cluster.proofs.MemberLearns.{no_change}

@@ -1,5 +1,5 @@
 -- A member with its disk, before and after a step of it, as the laws of devices speak of it.
-use Rattle.std.proofs.Common.{◌≡◌, ◌≢◌, ◌⊎◌, inl, inr, ℕ, ◌+◌, ◌*◌, ◌/◌, ◌%◌, ◌<◌, ◌≤◌, Bool, true, false, List, [], Option, Some, None, refl, sym, ◌∙◌, ap, subst, arith}
+use Rattle.std.proofs.Common.{◌≡◌, ◌≢◌, ◌⊎◌, inl, inr, ℕ, ◌+◌, ◌*◌, ◌/◌, ◌%◌, ◌<◌, Bool, true, false, List, [], Some, None, refl, sym, ◌∙◌, ap, subst, arith}
 use Rattle.std.specs.Prelude.{◌==◌, not, slice_get, if◌then◌else◌}
 use Rattle.std.proofs.lemmas.Bool.Decides.{nat_tests}
 use Rattle.bx_base.specs.declared.names.Actor.{Actor}
@@ -12,12 +12,12 @@ use Rattle.bx_global.specs.declared.change.Change.{Change}
 use Rattle.bx_global.specs.declared.state.GlobalState.{GlobalState}
 use Rattle.bx_post.specs.declared.packets.Letter.{Letter}
 use Rattle.bx_rows.specs.declared.device.DeviceRow.{DeviceRow}
-use Rattle.bx_mirror_laws.specs.Sides.{Copied, Handing, Side}
+use Rattle.bx_mirror_laws.specs.Sides.{Copied}
 use Rattle.bx_mirror_tables.specs.Lasts.{last_in}
 use Rattle.bx_mirror_member.specs.Standing.{Standing as Serving, device_in, disk_in, is_second}
 use Rattle.bx_mirror_client.specs.Sends.{member_at}
 use Rattle.bx_mirror_server.specs.Sides.{copied_in, side_of as side_by, wrote_in}
-use Rattle.bx_mirror_cluster.specs.Fitting.{HasLabel, History, IsDeviceSound, Keeps, NeedsLabel, Parts, handings, last_row, side_of}
+use Rattle.bx_mirror_cluster.specs.Fitting.{HasLabel, Keeps, NeedsLabel, Parts, handings, last_row, side_of}
 use Rattle.bx_mirror_cluster.specs.MemberSteps.{served, with_member}
 use Rattle.bx_mirror_cluster.proofs.Labels.{label_kept, lengths_at}
 use Rattle.bx_mirror_cluster.proofs.MemberSteps.{other_member}

@@ -1,5 +1,5 @@
 -- The target of a copy takes a piece: it stands on its disk, and its answer is owed; all goes on fitting, and what stands goes on.
-use Rattle.std.proofs.Common.{◌≡◌, ◌≢◌, ◌⊎◌, inl, inr, ℕ, ◌+◌, ◌-◌, ◌/◌, ◌<◌, ◌≤◌, Bool, true, false, Contains, List, [], ◌∷◌, ◌++◌, length, Option, Some, None, refl, sym, ◌∙◌, ap, subst, arith}
+use Rattle.std.proofs.Common.{◌≡◌, ◌≢◌, inl, inr, ℕ, ◌/◌, ◌<◌, ◌≤◌, Bool, true, false, Contains, List, [], ◌∷◌, refl, sym, ◌∙◌, ap, subst, arith}
 use Rattle.std.specs.Prelude.{not}
 use Rattle.std.proofs.lemmas.List.Elements.{Contains-append_cases}
 use Rattle.bx_base.specs.declared.names.Actor.{Actor}
@@ -21,9 +21,8 @@ use Rattle.bx_mirror_packets.specs.DeviceMessages.{Spells}
 use Rattle.bx_mirror_packets.specs.declared.message.CopyBody.{CopyBody}
 use Rattle.bx_mirror_packets.specs.declared.message.DeviceMessage.TheVariants.{Copy}
 use Rattle.bx_mirror_tables.specs.declared.answers.Answer.TheVariants as answers
-use Rattle.bx_mirror_tables.specs.declared.answers.Owing.{Owing}
 use Rattle.bx_mirror_member.specs.Acting.{IsCopiedHere}
-use Rattle.bx_mirror_member.specs.Standing.{Standing as Serving, copy_from, device_in, disk_in, is_second}
+use Rattle.bx_mirror_member.specs.Standing.{Standing as Serving, copy_from, is_second}
 use Rattle.bx_mirror_member.specs.Steps.{copied_of, owing, with_piece}
 use Rattle.bx_mirror_client.specs.Sends.{member_at}
 use Rattle.bx_mirror_server.proofs.Taking.{piece}
@@ -32,7 +31,7 @@ use Rattle.bx_mirror_server.specs.Sides.{piece_from, side_of as side_by}
 use Rattle.bx_mirror_cluster.specs.Fitting.{History, IsClaimed, IsComing, IsDeviceSound, IsOwing, Keeps, Parts, StandsFor, handings, knows_of, last_row, outs_of, rows_before, side_of}
 use Rattle.bx_mirror_cluster.specs.MemberSteps.{history_of, served, with_histories, with_member, with_serving}
 use Rattle.bx_mirror_cluster.proofs.MemberLearns.{one_source}
-use Rattle.bx_mirror_cluster.proofs.MemberOwn.{IsOwnStep, inside_at, own_device, own_disk, own_down, own_known, own_labels, own_second, own_step}
+use Rattle.bx_mirror_cluster.proofs.MemberOwn.{IsOwnStep, inside_at, own_device, own_down, own_known, own_labels, own_second, own_step}
 use Rattle.bx_mirror_cluster.proofs.MemberSteps.{IsMemberStep}
 
 -- A piece comes to a member that is the copy's target.

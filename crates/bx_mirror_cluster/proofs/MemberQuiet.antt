@@ -1,6 +1,6 @@
 -- A member hears its partner, or is handed a state with the row that it knows: all goes on fitting, and what stands goes on.
-use Rattle.std.proofs.Common.{◌≡◌, ◌≢◌, ◌⊎◌, inl, inr, ℕ, ◌<◌, ◌≤◌, Bool, true, false, Contains, List, Option, Some, refl, sym, ◌∙◌, ap, subst, arith}
-use Rattle.std.specs.Prelude.{not, slice_get}
+use Rattle.std.proofs.Common.{◌≡◌, ◌≢◌, ◌⊎◌, inl, inr, ℕ, ◌<◌, Bool, true, false, Contains, List, Some, refl, sym, ◌∙◌, subst}
+use Rattle.std.specs.Prelude.{slice_get}
 use Rattle.bx_base.specs.declared.names.Actor.{Actor}
 use Rattle.bx_base.specs.declared.names.Actor.TheVariants.{Member}
 use Rattle.bx_disk.specs.Disks.{Disks}
@@ -8,7 +8,7 @@ use Rattle.bx_facts.specs.Chains.{IsPlace, last}
 use Rattle.bx_facts.specs.Writes.{StorePast, store_room}
 use Rattle.bx_global.specs.declared.state.GlobalState.{GlobalState}
 use Rattle.bx_rows.specs.declared.device.DeviceRow.{DeviceRow}
-use Rattle.bx_mirror_laws.specs.Sides.{Among, Handing, Side, WriteLetter}
+use Rattle.bx_mirror_laws.specs.Sides.{Among, Side, WriteLetter}
 use Rattle.bx_mirror_laws.specs.Sound.{AreCopies, AreHanded, AreOuts, AreRows, AreWrites, AreWrotes, Standing}
 use Rattle.bx_mirror_tables.specs.Lasts.{last_in}
 use Rattle.bx_mirror_tables.specs.declared.lasts.Last.{Last}

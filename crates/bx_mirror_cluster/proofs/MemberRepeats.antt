@@ -1,5 +1,5 @@
 -- A write comes to a member again that it took: it is answered at once, or with the sync that is owed; all goes on fitting, and what stands goes on.
-use Rattle.std.proofs.Common.{◌≡◌, ◌≢◌, ◌⊎◌, inl, inr, ℕ, ◌+◌, ◌<◌, ◌≤◌, Bool, true, false, Contains, List, [], ◌∷◌, ◌++◌, Option, Some, None, refl, sym, ◌∙◌, ap, subst, arith}
+use Rattle.std.proofs.Common.{◌≡◌, ◌⊎◌, inl, inr, ℕ, ◌<◌, ◌≤◌, Bool, true, false, Contains, List, [], ◌∷◌, ◌++◌, refl, sym, ◌∙◌, ap, subst, arith}
 use Rattle.std.specs.Prelude.{not}
 use Rattle.std.proofs.lemmas.List.Elements.{Contains-append_cases}
 use Rattle.bx_base.specs.declared.names.Actor.{Actor}
@@ -11,25 +11,23 @@ use Rattle.bx_facts.specs.Writes.{StorePast, store_room}
 use Rattle.bx_post.specs.declared.packets.Letter.{Letter}
 use Rattle.bx_rows.specs.declared.device.DeviceRow.{DeviceRow}
 use Rattle.bx_mirror_laws.specs.Acting.{Acts, IsRow, boot_in}
-use Rattle.bx_mirror_laws.specs.Sides.{Among, Copied, Handing, Out, Side, WriteLetter, Wrote}
+use Rattle.bx_mirror_laws.specs.Sides.{Among, Handing, Out, Side, WriteLetter, Wrote}
 use Rattle.bx_mirror_laws.specs.Sound.{AreCopies, AreHanded, AreOuts, AreRows, AreWrites, AreWrotes, HasAcked, HasTaken, IsAnswer, IsWrote, Sends, Standing, wrote_of}
 use Rattle.bx_mirror_laws.specs.Steps.{answer_to}
 use Rattle.bx_mirror_packets.specs.DeviceMessages.{IsDeviceMessage, Spells}
-use Rattle.bx_mirror_packets.specs.declared.message.DeviceMessage.{DeviceMessage}
-use Rattle.bx_mirror_packets.specs.declared.message.DeviceMessage.TheVariants.{Write, Wrote as WroteOf, Read, Data, Copy, Copied as CopiedOf, Alive}
+use Rattle.bx_mirror_packets.specs.declared.message.DeviceMessage.TheVariants.{Write, Wrote as WroteOf}
 use Rattle.bx_mirror_packets.specs.declared.message.WriteBody.{WriteBody}
 use Rattle.bx_mirror_packets.specs.declared.message.WroteBody.{WroteBody}
-use Rattle.bx_mirror_tables.specs.Owed.{message_of}
 use Rattle.bx_mirror_tables.specs.declared.answers.Owing.{Owing}
 use Rattle.bx_mirror_member.specs.Acting.{IsRepeated}
-use Rattle.bx_mirror_member.specs.Standing.{Standing as Serving, device_in, is_second}
+use Rattle.bx_mirror_member.specs.Standing.{Standing as Serving, is_second}
 use Rattle.bx_mirror_member.specs.Steps.{answer_letter, owing, with_owing, wrote_to}
 use Rattle.bx_mirror_client.specs.Sends.{member_at}
-use Rattle.bx_mirror_server.proofs.Owing.{copied_same, wrote_it, wrote_only, wrote_still}
+use Rattle.bx_mirror_server.proofs.Owing.{copied_same, wrote_only, wrote_still}
 use Rattle.bx_mirror_server.specs.Sides.{side_of as side_by, wrote_in}
 use Rattle.bx_mirror_cluster.specs.Fitting.{History, IsAnswering, IsClaimed, IsComing, IsData, IsDeviceSound, IsOwing, Keeps, Parts, StandsFor, handings, knows_of, last_row, outs_of, rows_before, side_of}
 use Rattle.bx_mirror_cluster.specs.MemberSteps.{DeviceHistory, history_of, served, with_histories, with_member, with_serving}
-use Rattle.bx_mirror_cluster.proofs.Answered.{answer_below, answer_is, answer_wrote, outs_answered, owing_copies, owing_hands, owing_rows, owing_sides, owing_stands, taken_before, writes_answered}
+use Rattle.bx_mirror_cluster.proofs.Answered.{answer_below, answer_wrote, outs_answered, owing_copies, owing_hands, owing_rows, owing_sides, owing_stands, taken_before, writes_answered}
 use Rattle.bx_mirror_cluster.proofs.MemberLearns.{no_change}
 use Rattle.bx_mirror_cluster.proofs.MemberOwn.{IsOwnStep, inside_at, own_device, own_down, own_known, own_labels, own_second, own_step, two}
 use Rattle.bx_mirror_cluster.proofs.MemberSays.{from_member, old_coming, old_copied, old_copying, old_data, one_more, one_says, one_spoken, says_step}

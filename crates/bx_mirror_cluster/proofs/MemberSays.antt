@@ -1,5 +1,5 @@
 -- A member speaks and stays as it is: it sends a piece of a copy, answers a read or a write again, gives a sign of life, or hands back a change.
-use Rattle.std.proofs.Common.{◌≡◌, ◌≢◌, ◌⊎◌, inl, inr, ℕ, ◌+◌, ◌-◌, ◌*◌, ◌/◌, ◌%◌, ◌^◌, ◌<◌, ◌≤◌, Bool, true, false, Contains, List, [], ◌∷◌, ◌++◌, length, Option, Some, None, min, refl, sym, ◌∙◌, ap, subst, arith}
+use Rattle.std.proofs.Common.{◌≡◌, ◌≢◌, ◌⊎◌, inl, inr, ℕ, ◌+◌, ◌-◌, ◌*◌, ◌/◌, ◌%◌, ◌<◌, ◌≤◌, Bool, true, false, Contains, List, [], ◌∷◌, ◌++◌, length, Some, min, refl, sym, ◌∙◌, ap, subst, arith}
 use Rattle.std.specs.Prelude.{◌==◌, not, if◌then◌else◌}
 use Rattle.std.proofs.lemmas.Bool.Decides.{nat_tests}
 use Rattle.std.proofs.lemmas.List.Elements.{Contains-append_cases}
@@ -7,7 +7,7 @@ use Rattle.bx_base.specs.declared.names.Actor.{Actor}
 use Rattle.bx_base.specs.declared.names.Actor.TheVariants.{Member}
 use Rattle.bx_disk.specs.Disks.{Disks, sector_of}
 use Rattle.bx_facts.proofs.Lists.{front_or_behind, nothing}
-use Rattle.bx_facts.specs.Writes.{StorePast, member_disk, store_room}
+use Rattle.bx_facts.specs.Writes.{StorePast, store_room}
 use Rattle.bx_global.specs.declared.change.Change.{Change}
 use Rattle.bx_post.specs.declared.packets.Letter.{Letter}
 use Rattle.bx_rows.specs.Conditions.{Fits}
@@ -16,13 +16,12 @@ use Rattle.bx_rows.specs.Modes.{IsSource}
 use Rattle.bx_mirror_laws.specs.Acting.{Acts, IsRow, boot_in}
 use Rattle.bx_mirror_laws.specs.Sides.{Among, Copied, CopyLetter, Side, WriteLetter, Wrote}
 use Rattle.bx_mirror_laws.proofs.Small.{copies_send}
-use Rattle.bx_mirror_packets.specs.DeviceMessages.{IsDeviceMessage, Spells, body_text, kind_of}
+use Rattle.bx_mirror_packets.specs.DeviceMessages.{Spells, body_text, kind_of}
 use Rattle.bx_mirror_packets.specs.declared.message.CopyBody.{CopyBody}
 use Rattle.bx_mirror_packets.specs.declared.message.DeviceMessage.{DeviceMessage}
 use Rattle.bx_mirror_packets.specs.declared.message.DeviceMessage.TheVariants.{Write, Wrote as WroteOf, Read, Data, Copy, Copied as CopiedOf, Alive}
 use Rattle.bx_mirror_packets.proofs.Spelled.{one_message}
 use Rattle.bx_mirror_member.specs.Standing.{Standing as Serving, copies, copy_from, device_in, disk_in, is_second, me, partner, room_in}
-use Rattle.bx_mirror_member.specs.declared.copies.Piece.{Piece}
 use Rattle.bx_mirror_client.specs.Sends.{member_at}
 use Rattle.bx_mirror_server.specs.Serving.{SendsPiece}
 use Rattle.bx_mirror_cluster.specs.Fitting.{History, IsAnswering, IsComing, IsCopiedTo, IsCopying, IsData, IsDeviceSound, IsFromMember, Keeps, Parts, handings, last_row, rows_before, side_of}

@@ -1,19 +1,18 @@
 -- A step of a member: where it leaves its own device fitting, all members and streams fit.
-use Rattle.std.proofs.Common.{◌≡◌, ◌≢◌, ◌⊎◌, inl, inr, ℕ, ◌+◌, ◌-◌, ◌*◌, ◌<◌, ◌≤◌, Bool, true, false, Contains, List, Option, Some, refl, sym, ◌∙◌, ap, subst, arith}
+use Rattle.std.proofs.Common.{◌≡◌, ◌≢◌, ◌⊎◌, inl, inr, ℕ, ◌+◌, ◌-◌, ◌<◌, ◌≤◌, Bool, true, false, Contains, List, sym, ◌∙◌, ap, subst, arith}
 use Rattle.std.specs.Prelude.{◌==◌, not, if◌then◌else◌}
 use Rattle.std.proofs.lemmas.Bool.Decides.{nat_tests}
 use Rattle.bx_base.specs.declared.names.Actor.{Actor}
 use Rattle.bx_base.specs.declared.names.Actor.TheVariants.{Member, Node}
 use Rattle.bx_disk.specs.Disks.{Disks, Stays, sector_of}
-use Rattle.bx_facts.specs.Chains.{IsPlace, last}
+use Rattle.bx_facts.specs.Chains.{last}
 use Rattle.bx_facts.specs.Disks.{SameMemberLengths}
 use Rattle.bx_facts.specs.Writes.{StorePast, member_disk, store_room}
 use Rattle.bx_global.specs.declared.change.Change.{Change}
-use Rattle.bx_global.specs.declared.state.GlobalState.{GlobalState}
 use Rattle.bx_post.specs.declared.packets.Letter.{Letter}
 use Rattle.bx_rows.specs.declared.device.DeviceRow.{DeviceRow}
 use Rattle.bx_mirror_laws.specs.Acting.{FromEpoch}
-use Rattle.bx_mirror_laws.specs.Sides.{Among, Copied, CopyLetter, Handing, Side, WriteLetter, Wrote}
+use Rattle.bx_mirror_laws.specs.Sides.{Among, Handing, Side, WriteLetter, Wrote}
 use Rattle.bx_mirror_laws.specs.Sound.{AreCopies, AreHanded, AreOuts, AreRows, AreWrites, AreWrotes, Standing}
 use Rattle.bx_mirror_packets.specs.DeviceMessages.{Spells}
 use Rattle.bx_mirror_packets.specs.declared.message.DeviceMessage.{DeviceMessage}
@@ -24,7 +23,7 @@ use Rattle.bx_mirror_member.specs.Standing.{Standing as Serving}
 use Rattle.bx_mirror_client.specs.Sends.{member_at}
 use Rattle.bx_mirror_client.specs.declared.asking.Asking.{Asking}
 use Rattle.bx_mirror_server.specs.Sides.{copied_in, wrote_in}
-use Rattle.bx_mirror_cluster.specs.Fitting.{History, IsAnswering, IsClaimed, IsComing, IsCopiedTo, IsCopying, IsData, IsDeviceSound, IsDrawn, IsFromMember, IsOwing, IsOwnOrLeft, IsReading, IsSettledOn, Keeps, KnownFrom, NeedsLabel, Nowhere, Parts, StandsFor, StandsOn, WillReadOn, handings, knows_of, last_row, outs_of, rows_before, side_of}
+use Rattle.bx_mirror_cluster.specs.Fitting.{History, IsClaimed, IsComing, IsData, IsDeviceSound, IsDrawn, IsFromMember, IsOwing, IsOwnOrLeft, IsReading, IsSettledOn, Keeps, KnownFrom, NeedsLabel, Nowhere, Parts, StandsFor, StandsOn, WillReadOn, handings, knows_of, last_row, outs_of, rows_before, side_of}
 use Rattle.bx_mirror_cluster.proofs.Labels.{label_kept, lengths_at}
 use Rattle.bx_mirror_cluster.specs.MemberSteps.{DeviceHistory, at_device, history_of, served, with_histories, with_member, with_serving}
 

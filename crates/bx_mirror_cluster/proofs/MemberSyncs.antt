@@ -1,6 +1,5 @@
 -- A member has synced its disk, and sends all that it owed: all goes on fitting, and what stands goes on.
-use Rattle.std.proofs.Common.{◌≡◌, ◌≢◌, ◌⊎◌, inl, inr, ℕ, ◌+◌, ◌/◌, ◌<◌, ◌≤◌, Bool, true, false, Contains, List, [], ◌++◌, Option, Some, None, refl, sym, ◌∙◌, ap, subst, arith}
-use Rattle.std.specs.Prelude.{slice_get}
+use Rattle.std.proofs.Common.{◌≡◌, ◌≢◌, ◌⊎◌, inl, inr, ℕ, ◌/◌, ◌<◌, ◌≤◌, Bool, true, false, Contains, List, ◌++◌, refl, sym, ◌∙◌, ap, subst, arith}
 use Rattle.std.proofs.lemmas.List.Elements.{Contains-append_cases}
 use Rattle.bx_base.specs.declared.names.Actor.{Actor}
 use Rattle.bx_base.specs.declared.names.Actor.TheVariants.{Member}
@@ -11,13 +10,13 @@ use Rattle.bx_facts.specs.Disks.{SameMemberLengths}
 use Rattle.bx_facts.specs.Writes.{StorePast, member_disk, store_room}
 use Rattle.bx_post.specs.declared.packets.Letter.{Letter}
 use Rattle.bx_rows.specs.declared.device.DeviceRow.{DeviceRow}
-use Rattle.bx_mirror_laws.specs.Sides.{Among, Copied, CopyLetter, Handing, Side, WriteLetter, Wrote}
+use Rattle.bx_mirror_laws.specs.Sides.{Among, Copied, Handing, Side, WriteLetter, Wrote}
 use Rattle.bx_mirror_laws.specs.Steps.{Ages, Synced}
 use Rattle.bx_mirror_laws.proofs.Ages.{hands_age, rows_age}
 use Rattle.bx_mirror_laws.proofs.Syncing.{sync_ages, sync_copies, sync_outs, sync_stands, sync_writes, sync_wrotes}
 use Rattle.bx_mirror_packets.specs.DeviceMessages.{Spells, kind_of}
 use Rattle.bx_mirror_packets.specs.declared.message.DeviceMessage.{DeviceMessage}
-use Rattle.bx_mirror_packets.specs.declared.message.DeviceMessage.TheVariants.{Write, Wrote as WroteOf, Read, Data, Copy, Copied as CopiedOf, Alive}
+use Rattle.bx_mirror_packets.specs.declared.message.DeviceMessage.TheVariants.{Write, Wrote as WroteOf, Data, Copy, Copied as CopiedOf}
 use Rattle.bx_mirror_tables.specs.Owed.{message_of}
 use Rattle.bx_mirror_tables.specs.declared.answers.Answer.{Answer}
 use Rattle.bx_mirror_tables.specs.declared.answers.Answer.TheVariants as answers
@@ -26,7 +25,7 @@ use Rattle.bx_mirror_member.specs.Standing.{Standing as Serving, disk_in, is_sec
 use Rattle.bx_mirror_member.specs.Steps.{answer_letter, owed_letters, released}
 use Rattle.bx_mirror_client.specs.Sends.{member_at}
 use Rattle.bx_mirror_server.specs.Sides.{copied_in, side_of as side_by, wrote_in}
-use Rattle.bx_mirror_cluster.specs.Fitting.{History, IsAnswering, IsClaimed, IsComing, IsCopiedTo, IsCopying, IsData, IsDeviceSound, IsFromMember, Keeps, NeedsLabel, OfDevice, Parts, StandsFor, handings, knows_of, last_row, outs_of, rows_before, side_of}
+use Rattle.bx_mirror_cluster.specs.Fitting.{History, IsAnswering, IsClaimed, IsComing, IsCopiedTo, IsData, IsDeviceSound, IsFromMember, Keeps, NeedsLabel, OfDevice, Parts, StandsFor, handings, knows_of, last_row, outs_of, rows_before, side_of}
 use Rattle.bx_mirror_cluster.specs.MemberSteps.{DeviceHistory, served, with_histories, with_member, with_serving}
 use Rattle.bx_mirror_cluster.proofs.MemberOwn.{IsOwnStep, own_device, own_disk, own_down, own_known, own_labels, own_second, own_step}
 use Rattle.bx_mirror_cluster.proofs.MemberSteps.{IsMemberStep}

@@ -1,7 +1,6 @@
 -- A member takes a write: its runs stand on its disk, and its answer is owed; all goes on fitting, and what stands goes on where nothing else is written.
-use Rattle.std.proofs.Common.{◌≡◌, ◌≢◌, ◌⊎◌, inl, inr, ℕ, ◌+◌, ◌<◌, ◌≤◌, Bool, true, false, Contains, List, [], ◌∷◌, ◌++◌, Option, Some, None, refl, sym, ◌∙◌, ap, subst, arith}
-use Rattle.std.specs.Prelude.{◌==◌, not, if◌then◌else◌}
-use Rattle.std.proofs.lemmas.Bool.Decides.{nat_tests}
+use Rattle.std.proofs.Common.{◌≡◌, ◌≢◌, ◌⊎◌, inl, inr, ℕ, ◌+◌, ◌<◌, ◌≤◌, Bool, true, false, Contains, List, [], ◌∷◌, Some, refl, sym, ◌∙◌, ap, subst, arith}
+use Rattle.std.specs.Prelude.{not}
 use Rattle.std.proofs.lemmas.List.Elements.{Contains-append_cases}
 use Rattle.bx_base.specs.declared.names.Actor.{Actor}
 use Rattle.bx_base.specs.declared.names.Actor.TheVariants.{Member}
@@ -11,7 +10,6 @@ use Rattle.bx_facts.specs.Chains.{last}
 use Rattle.bx_facts.specs.Disks.{SameMemberLengths}
 use Rattle.bx_facts.specs.Writes.{IsOnly, StorePast, WritesIn, member_disk, store_room}
 use Rattle.bx_post.specs.declared.packets.Letter.{Letter}
-use Rattle.bx_records.specs.declared.runs.Run.{Run}
 use Rattle.bx_rows.specs.Modes.{IsSource, IsWritten}
 use Rattle.bx_rows.specs.declared.device.DeviceRow.{DeviceRow}
 use Rattle.bx_mirror_laws.specs.Acting.{Acts, IsRow}
@@ -20,11 +18,10 @@ use Rattle.bx_mirror_laws.specs.Sound.{AreCopies, AreRows, IsDoneTo}
 use Rattle.bx_mirror_laws.specs.Steps.{Ages, KeepsMemory, Taken, TakesWrite}
 use Rattle.bx_mirror_laws.proofs.Ages.{copies_age, hands_age, rows_age, writes_age}
 use Rattle.bx_mirror_laws.proofs.Taking.{take_ages, take_lasts, take_no_more, take_outs, take_stands, take_wrotes}
-use Rattle.bx_mirror_packets.specs.DeviceMessages.{IsDeviceMessage, Spells}
+use Rattle.bx_mirror_packets.specs.DeviceMessages.{Spells}
 use Rattle.bx_mirror_packets.specs.declared.message.DeviceMessage.TheVariants.{Write}
 use Rattle.bx_mirror_packets.specs.declared.message.WriteBody.{WriteBody}
 use Rattle.bx_mirror_tables.specs.Lasts.{last_in}
-use Rattle.bx_mirror_tables.specs.Owed.{message_of}
 use Rattle.bx_mirror_tables.specs.declared.answers.Owing.{Owing}
 use Rattle.bx_mirror_member.specs.Acting.{IsTaken}
 use Rattle.bx_mirror_member.specs.Standing.{Standing as Serving, device_in, disk_in, is_second}
@@ -34,7 +31,7 @@ use Rattle.bx_mirror_server.specs.Serving.{PutsWrite}
 use Rattle.bx_mirror_server.specs.Sides.{IsOnce, letter_to, side_of as side_by}
 use Rattle.bx_mirror_server.proofs.Taking.{took}
 use Rattle.bx_mirror_cluster.specs.Fitting.{History, IsClaimed, IsComing, IsDeviceSound, IsOwing, Keeps, Parts, StandsFor, handings, knows_of, last_row, outs_of, rows_before, side_of}
-use Rattle.bx_mirror_cluster.specs.MemberSteps.{DeviceHistory, history_of, served, with_histories, with_member, with_serving}
+use Rattle.bx_mirror_cluster.specs.MemberSteps.{history_of, served, with_histories, with_member, with_serving}
 use Rattle.bx_mirror_cluster.proofs.MemberOwn.{IsOwnStep, own_device, own_disk, own_down, own_known, own_labels, own_second, own_step, two}
 use Rattle.bx_mirror_cluster.proofs.MemberSteps.{IsMemberStep}
 

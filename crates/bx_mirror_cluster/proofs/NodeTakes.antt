@@ -1,5 +1,5 @@
 -- What a stream does in an event: it learns the state that its node is handed, ends its write where it is done, tells members of its read, and hears answers.
-use Rattle.std.proofs.Common.{◌≡◌, ◌≢◌, ◌⊎◌, inl, inr, ℕ, ◌≤◌, Bool, true, false, Contains, List, [], length, Option, Some, None, refl, sym, ◌∙◌, ap, subst, arith}
+use Rattle.std.proofs.Common.{◌≡◌, ◌≢◌, ◌⊎◌, inl, inr, ℕ, ◌≤◌, Bool, true, false, Contains, List, [], Option, Some, None, refl, sym, ◌∙◌, ap, subst, arith}
 use Rattle.std.specs.Prelude.{◌==◌, ◌&&◌, slice_get, if◌then◌else◌}
 use Rattle.std.proofs.lemmas.Bool.Decides.{nat_tests}
 use Rattle.bx_disk.specs.Disks.{Disks}
@@ -246,11 +246,7 @@ ack_heard parts x past n member w letter keeps there from says = by (parts.nodes
 pub reads_more : (parts : Parts) (x : Disks) (past : StorePast) (n : ℕ) (before : List DeviceRow) (keeps : Keeps parts x past) → (parts.nodes n).node ≡ n → (a : Asking) → (parts.nodes n).asks ≡ Some a
     → GoesOn parts keeps.history parts.nodes × AreReads parts.nodes (read_letters before (parts.nodes n).node (Some a) (parts.nodes n).rows)
 reads_more parts x past n before keeps itself_is a e = (
-<<<<<<< HEAD
-  record { out = λ m. refl; rows = λ m. refl; session = λ m. refl; sequence = λ m. refl; boot = λ m. refl; tag = λ m. omega arith; sendable = keeps.sendable; askable = keeps.askable; noted = keeps.noted; asking = keeps.asking; asked = λ m b is. inl (b, is, itself_asked b) },
-=======
   record { out = λ m. refl; rows = λ m. refl; session = λ m. refl; sequence = λ m. refl; boot = λ m. refl; tag = λ m. omega arith; sendable = keeps.sendable; askable = keeps.askable; holding = keeps.holding; noted = keeps.noted; asking = keeps.asking; asked = λ m b is. inl (b, is, itself_asked b) },
->>>>>>> 6594b905
   record { kinds = λ letter there. ap (λ (l : Letter). l.kind) (is_asked before (parts.nodes n).node a (parts.nodes n).rows letter there).is; each = each },
 )
   where

@@ -1,6 +1,6 @@
 -- New devices fit each disks that are labelled, where no row names a boot that a machine doesn't have.
-use Rattle.std.proofs.Common.{◌≡◌, ◌⊎◌, inl, inr, ℕ, ◌<◌, ◌≤◌, Bool, true, false, List, [], length, Option, Some, None, refl, sym, ◌∙◌, ap, subst, arith}
-use Rattle.std.specs.Prelude.{IfSome, slice_get}
+use Rattle.std.proofs.Common.{◌≡◌, ◌⊎◌, inl, inr, ℕ, ◌<◌, ◌≤◌, Bool, false, List, [], length, Some, None, refl, sym, ◌∙◌, ap, subst, arith}
+use Rattle.std.specs.Prelude.{slice_get}
 use Rattle.std.proofs.lemmas.Option.{slice_get_cases}
 use Rattle.bx_base.specs.declared.names.Actor.{Actor}
 use Rattle.bx_base.specs.declared.names.Actor.TheVariants.{Member}
@@ -14,7 +14,7 @@ use Rattle.bx_mirror_laws.specs.Sides.{Among, Out}
 use Rattle.bx_mirror_laws.specs.Acting.{IsRow, MayAct, MayLead, boot_in}
 use Rattle.bx_mirror_tables.specs.declared.answers.Owing.{Owing}
 use Rattle.bx_mirror_client.specs.Sends.{member_at}
-use Rattle.bx_mirror_cluster.specs.Fitting.{IsDeviceSound, IsNewParts, NeedsLabel, Parts, StandsOn, opening_history, out_by, outs_of, row_of, row_or, side_of}
+use Rattle.bx_mirror_cluster.specs.Fitting.{IsDeviceSound, IsNewParts, NeedsLabel, Parts, StandsOn, opening_history, out_by, outs_of, row_of, side_of}
 use Rattle.bx_mirror_server.specs.Sides.{copied_in, wrote_in}
 
 -- a past in which nothing was done yet, of machines that know this, have these boots, and are down or up

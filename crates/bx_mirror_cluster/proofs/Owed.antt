@@ -1,10 +1,9 @@
 -- What members owe, as letters and as the laws of devices speak of it.
-use Rattle.std.proofs.Common.{◌≡◌, ◌⊎◌, inl, inr, ℕ, ◌<◌, Bool, Contains, List, [], ◌∷◌, ◌++◌, map, refl, sym, ◌∙◌, ap, subst, arith}
-use Rattle.bx_base.specs.declared.names.Actor.TheVariants.{Member}
+use Rattle.std.proofs.Common.{◌≡◌, ◌⊎◌, inl, inr, ◌<◌, Bool, Contains, List, [], ◌∷◌, ◌++◌, map, refl, sym, ◌∙◌, ap, subst, arith}
 use Rattle.bx_facts.proofs.Lists.{behind, front, front_or_behind, nothing}
 use Rattle.bx_post.specs.declared.packets.Letter.{Letter}
 use Rattle.bx_mirror_laws.specs.Sides.{Among, Copied, Wrote}
-use Rattle.bx_mirror_packets.specs.DeviceMessages.{IsDeviceMessage, Spells, body_text, kind_of}
+use Rattle.bx_mirror_packets.specs.DeviceMessages.{IsDeviceMessage, Spells, kind_of}
 use Rattle.bx_mirror_packets.specs.declared.message.CopiedBody.{CopiedBody}
 use Rattle.bx_mirror_packets.specs.declared.message.DeviceMessage.{DeviceMessage}
 use Rattle.bx_mirror_packets.specs.declared.message.DeviceMessage.TheVariants as messages

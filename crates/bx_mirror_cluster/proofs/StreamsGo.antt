@@ -1,5 +1,5 @@
 -- Steps of a node's event, each of which leaves what an event does.
-use Rattle.std.proofs.Common.{◌≡◌, ◌≢◌, ◌⊎◌, inl, inr, ℕ, ◌+◌, ◌*◌, ◌-◌, ◌<◌, ◌≤◌, Bool, true, false, Contains, List, [], ◌++◌, length, Option, Some, None, refl, sym, ◌∙◌, ap, subst, arith}
+use Rattle.std.proofs.Common.{◌≡◌, ◌≢◌, ◌⊎◌, inl, inr, ℕ, ◌+◌, ◌*◌, ◌-◌, ◌<◌, ◌≤◌, Bool, true, false, Contains, List, [], length, Option, Some, None, refl, sym, ◌∙◌, ap, subst, arith}
 use Rattle.std.specs.Prelude.{◌==◌, ◌&&◌, slice_get, if◌then◌else◌}
 use Rattle.std.proofs.lemmas.Bool.Decides.{nat_tests}
 use Rattle.std.proofs.lemmas.List.{append_assoc}
@@ -14,30 +14,22 @@ use Rattle.bx_mirror_packets.specs.DeviceMessages.{Spells}
 use Rattle.bx_mirror_packets.specs.declared.message.DataBody.{DataBody}
 use Rattle.bx_mirror_packets.specs.declared.message.DeviceMessage.TheVariants.{Data, Wrote}
 use Rattle.bx_mirror_packets.specs.declared.message.WroteBody.{WroteBody}
-use Rattle.bx_mirror_client.specs.Asks.{fits, is_answer, is_awaited}
+use Rattle.bx_mirror_client.specs.Asks.{fits, is_awaited}
 use Rattle.bx_mirror_client.specs.Events.{asks_answered, out_acked}
 use Rattle.bx_mirror_client.specs.Letters.{is_new_for, letters_from, read_letters, write_letters}
-<<<<<<< HEAD
-use Rattle.bx_mirror_client.specs.Streams.{Streaming, asks_in, is_session, learned, letters_since}
-=======
 use Rattle.bx_mirror_client.specs.Streams.{Streaming, answered, asks_in, is_session, learned, letters_since}
->>>>>>> 6594b905
 use Rattle.bx_mirror_client.specs.declared.asking.Asking.{Asking}
 use Rattle.bx_mirror_client.specs.declared.sending.Sending.{Sending}
 use Rattle.bx_mirror_client.proofs.Telling.{both}
 use Rattle.bx_mirror_cluster.specs.Fitting.{IsData, IsSettledOn, Keeps, Parts, StandsFor, StandsOn, WillReadOn}
 use Rattle.bx_mirror_cluster.specs.GoesFurther.{StreamsGo}
-use Rattle.bx_mirror_cluster.specs.GoingOn.{AreReads, GoesOn, IsSameRead, letters_more}
-use Rattle.bx_mirror_cluster.specs.Learning.{Learned, MayLearn, knowing, with_clock}
+use Rattle.bx_mirror_cluster.specs.GoingOn.{IsSameRead, letters_more}
+use Rattle.bx_mirror_cluster.specs.Learning.{MayLearn, knowing, with_clock}
 use Rattle.bx_mirror_cluster.specs.Writing.{with_node, with_stream}
 use Rattle.bx_mirror_cluster.proofs.Clock.{clock_keeps, reads_clock, settles_clock, stands_clock}
 use Rattle.bx_mirror_cluster.proofs.GoingOn.{reads_on, settles_on, stands_still}
 use Rattle.bx_mirror_cluster.proofs.Learned.{others_learned, reads_learned, settles_learned, stands_learned}
-<<<<<<< HEAD
-use Rattle.bx_mirror_cluster.proofs.NodeSteps.{itself_asked, same_past}
-=======
 use Rattle.bx_mirror_cluster.proofs.NodeSteps.{answer_taken, itself_asked, left_is, same_past}
->>>>>>> 6594b905
 use Rattle.bx_mirror_cluster.proofs.NodeTakes.{ack_heard, again, at_out, base, base_so, data_heard, here_is, node_learned, other_is, out_of_own, reads_more, reads_told, session}
 use Rattle.bx_mirror_cluster.proofs.ToldAgain.{reads_told as reads_again, settles_told, stands_told, told_keeps}
 
@@ -288,8 +280,6 @@ data_goes parts x past n d letter keeps there to says =
               subst (λ (q : Asking). HasCome past n (parts.nodes n).rows b q) same (λ bytes it. inr (come.0, come.1, (let f : Some d.bytes ≡ Some bytes = it in subst (λ (bs : List ℕ). IsData past.told.letters n b.device b.session come.0.epoch b.tag bs) (let g : d.bytes ≡ bytes = cc in g) come.2))),
             )
         pick false e same_is = let same : b ≡ a = cc in (b, refl, subst (IsSameRead b) same (itself_asked b), subst (λ (q : Asking). HasCome past n (parts.nodes n).rows b q) same (λ bytes it. inl it))
-<<<<<<< HEAD
-=======
 
 -- ---- its answer is taken
 
@@ -299,4 +289,3 @@ answered_goes parts x past n keeps = stream_goes parts x past n (answered (parts
 -- and it is what was promised
 pub answer_is : (parts : Parts) (x : Disks) (past : StorePast) (n : ℕ) (a : Asking) (sector : ℕ) (content bytes : List ℕ) → WillReadOn parts x past n a sector content → a.answer ≡ Some bytes → a.place ≤ sector → sector < a.place + a.sectors → sector_of bytes (sector - a.place) ≡ content
 answer_is parts x past n a sector content bytes will is low high = will.came bytes is low high
->>>>>>> 6594b905

@@ -7,7 +7,7 @@ use Rattle.bx_disk.specs.Disks.{Disks, sector_of}
 use Rattle.bx_facts.specs.Chains.{Chain, IsPlace, LivesIn, last, session_of, state_after}
 use Rattle.bx_facts.specs.Pasts.{Told}
 use Rattle.bx_facts.specs.Sessions.{AreRows as AreSessions}
-use Rattle.bx_facts.specs.Writes.{IsSourceIn, Made, StorePast, WritesIn, label_on, member_disk, store_room}
+use Rattle.bx_facts.specs.Writes.{IsSourceIn, Made, StorePast, label_on, member_disk, store_room}
 use Rattle.bx_global.specs.declared.change.Change.{Change}
 use Rattle.bx_global.specs.declared.change.Change.TheVariants.{Renew, Take, Open, Expire, Claim, Close, Shift}
 use Rattle.bx_global.specs.declared.state.GlobalState.{GlobalState}

@@ -12,12 +12,8 @@ use Rattle.bx_post.specs.declared.packets.Letter.{Letter}
 use Rattle.bx_rows.specs.Conditions.{Fits}
 use Rattle.bx_rows.specs.declared.device.DeviceRow.{DeviceRow}
 use Rattle.bx_mirror_packets.specs.DeviceMessages.{Spells}
-<<<<<<< HEAD
-use Rattle.bx_mirror_packets.specs.declared.message.DeviceMessage.TheVariants.{Write}
-=======
 use Rattle.bx_mirror_packets.specs.declared.message.DeviceMessage.TheVariants.{Copy, Write}
 use Rattle.bx_mirror_packets.specs.declared.message.CopyBody.{CopyBody}
->>>>>>> 6594b905
 use Rattle.bx_mirror_packets.specs.declared.message.WriteBody.{WriteBody}
 use Rattle.bx_mirror_laws.specs.Sides.{Copied, CopyLetter, Wrote}
 use Rattle.bx_mirror_member.specs.Standing.{Standing as Serving}
@@ -69,15 +65,12 @@ IsWriteIn (Packet packet r) reading w = (r ≡ reading) × Spells (Write w) pack
 IsWriteIn (Tick r) reading w = ⊥
 IsWriteIn Synced reading w = ⊥
 
-<<<<<<< HEAD
-=======
 -- or a piece of a copy
 abbrev pub IsPieceIn : Input → CopyBody → Type 0
 IsPieceIn (Packet packet r) c = Spells (Copy c) packet.now.kind packet.now.body
 IsPieceIn (Tick r) c = ⊥
 IsPieceIn Synced c = ⊥
 
->>>>>>> 6594b905
 -- What a member is handed: it is up, the state is one of the chain, and no older than what it knew.
 pub record MayServe (parts : Parts) (past : StorePast) (n : ℕ) (known : GlobalState) : Type 0 where
   pub inside : n < 2 * parts.made.devices

@@ -1,5 +1,5 @@
 -- A node or a member starts again.
-use Rattle.std.specs.Prelude.{◌≡◌, ◌≢◌, ℕ, ◌<◌, ◌≤◌, ◌⊎◌, Bool, true, false, [], None}
+use Rattle.std.specs.Prelude.{◌≡◌, ◌≢◌, ℕ, ◌≤◌, ◌⊎◌, Bool, false, [], None}
 use Rattle.bx_base.specs.declared.names.Actor.TheVariants.{Member, Node}
 use Rattle.bx_disk.specs.Disks.{Disks, Stays}
 use Rattle.bx_facts.specs.Disks.{SameMemberLengths}

@@ -11,17 +11,6 @@ ghost use Rattle.bx_global.specs.declared.change.Change.{Change};
 ghost use Rattle.bx_global.specs.declared.state.GlobalState.{GlobalState};
 ghost use Rattle.bx_post.specs.declared.packets.Letter.{Letter};
 ghost use Rattle.bx_mirror_client.specs.Sends.{member_at};
-<<<<<<< HEAD
-ghost use Rattle.bx_mirror_member.specs.Acting.{IsTaken};
-ghost use Rattle.bx_mirror_member.specs.Standing.{Standing, device_in, learned};
-ghost use Rattle.bx_mirror_laws.specs.Steps.{PartlyTaken};
-ghost use Rattle.bx_mirror_packets.specs.declared.message.WriteBody.{WriteBody};
-ghost use Rattle.bx_mirror_server.specs.Sides.{letter_to, side_of as side_by};
-ghost use Rattle.bx_mirror_server.specs.Serving.{Does};
-ghost use Rattle.bx_mirror_cluster.specs.Fitting.{Keeps, Parts};
-ghost use Rattle.bx_mirror_cluster.specs.GoesFurther.{GoesFurther};
-ghost use Rattle.bx_mirror_cluster.specs.MemberSteps.{IsFor, IsWriteIn, MayServe, with_serving};
-=======
 ghost use Rattle.bx_mirror_member.specs.Acting.{IsCopiedHere, IsTaken};
 ghost use Rattle.bx_mirror_member.specs.Standing.{Standing, device_in, is_second, learned};
 ghost use Rattle.bx_mirror_laws.specs.Steps.{PartlyTaken, PieceChanged};
@@ -32,7 +21,6 @@ ghost use Rattle.bx_mirror_server.specs.Serving.{Does};
 ghost use Rattle.bx_mirror_cluster.specs.Fitting.{Keeps, Parts};
 ghost use Rattle.bx_mirror_cluster.specs.GoesFurther.{GoesFurther};
 ghost use Rattle.bx_mirror_cluster.specs.MemberSteps.{IsFor, IsPieceIn, IsWriteIn, MayServe, with_serving};
->>>>>>> 6594b905
 ghost use Rattle.bx_mirror_cluster.specs.Starting.{IsBooted};
 
 /// All that a member does in one event: it learns the state that it is handed, and takes what comes. Members and streams fit the past again, with its
@@ -44,13 +32,8 @@ pub fn a_member_takes()
         → GoesFurther parts (with_serving parts (member_at device second) new) x y (store_with past before) (store_with (store_heard past (Member (member_at device second)) known.index input change) after) }
 {}
 
-<<<<<<< HEAD
-/// A disk fails during an event of a member, which has learned the state: nothing was written, or the write that came was cut short. Members and streams
-/// fit the past again, and what was settled, stood or is read goes on, where members write nothing else.
-=======
 /// A disk fails during an event of a member, which has learned the state: nothing was written, or the write that came, or the piece of a copy, was cut
 /// short. Members and streams fit the past again, and what was settled, stood or is read goes on, where members write nothing else.
->>>>>>> 6594b905
 pub fn a_disk_fails_a_member()
     ensures kept { (parts : Parts) (x y : Disks) (past : StorePast) (device : ℕ) (second : Bool) (before : List Letter) (known : GlobalState) (input : Input) → Keeps parts x (store_with past before) → device < parts.made.devices
         → MayServe parts (store_with past before) (member_at device second) known → Arrives (past.told.letters ++ before) input → IsFor (Member (member_at device second)) input → IsSteady past.told.greatest input
@@ -62,14 +45,11 @@ pub fn a_disk_fails_a_member()
         → ((disk sector : ℕ) → disk ≢ member_disk device second → Stays x y disk sector) → SameMemberLengths x y → IsWriteIn input reading write → IsTaken (learned known (parts.members (member_at device second))) reading write
         → PartlyTaken (device_in (learned known (parts.members (member_at device second)))) (letter_to (learned known (parts.members (member_at device second))) write) (side_by true (learned known (parts.members (member_at device second))) x) (side_by true (learned known (parts.members (member_at device second))) y)
         → GoesFurther parts (with_serving parts (member_at device second) (learned known (parts.members (member_at device second)))) x y (store_with past before) (store_with (store_heard past (Member (member_at device second)) known.index input None) before) }
-<<<<<<< HEAD
-=======
     ensures piece { (parts : Parts) (x y : Disks) (past : StorePast) (device : ℕ) (second : Bool) (before : List Letter) (known : GlobalState) (input : Input) (piece : CopyBody) → Keeps parts x (store_with past before) → device < parts.made.devices
         → MayServe parts (store_with past before) (member_at device second) known → Arrives (past.told.letters ++ before) input → IsFor (Member (member_at device second)) input → IsSteady past.told.greatest input
         → ((disk sector : ℕ) → disk ≢ member_disk device second → Stays x y disk sector) → SameMemberLengths x y → IsPieceIn input piece → IsCopiedHere (learned known (parts.members (member_at device second))) piece
         → ((by : Bool) → PieceChanged (is_second (learned known (parts.members (member_at device second)))) (piece_from by piece) (side_by true (learned known (parts.members (member_at device second))) x) (side_by true (learned known (parts.members (member_at device second))) y))
         → GoesFurther parts (with_serving parts (member_at device second) (learned known (parts.members (member_at device second)))) x y (store_with past before) (store_with (store_heard past (Member (member_at device second)) known.index input None) before) }
->>>>>>> 6594b905
 {}
 
 /// A member that is down starts again in a later boot, with its label; or its disk fails, and it stays down: members and streams go on fitting the

@@ -93,10 +93,10 @@ returns-clause-stands g c = λ letters clocks course tree tells up steady comes 
       sent = λ past keeps. there _ (c.offer.ensures.sent z past keeps);
     } in
     let all = handed g.G.Register g.O.Owners g.S.Store (e.stands self.engine) (e.step self.engine) laws self.register c.take.new.self c.offer.new.self.register self.owners c.take-2.new.self self.store c.take-3.new.self x y z
-        letters box heard tended served out clocks (seen self.machines.items) at input change shift proposes.proposal course tree stands up steady comes register_took
-        (subst (λ (s : GlobalState). OwnersTook g.O.Owners self.owners c.take-2.new.self s at input change heard tended) c.known-known.ensures.knows owners_took)
-        (subst (λ (s : GlobalState). StoreTook g.S.Store self.store c.take-3.new.self y z s at input shift tended served) c.known-known.ensures.knows store_took)
-        (subst (λ (offer : Option Change). Offered g.G.Register c.take.new.self c.offer.new.self.register z at offer proposes.proposal served out) (c.or.ensures ∙ is_first change shift) offered) in
+    letters box heard tended served out clocks (seen self.machines.items) at input change shift proposes.proposal course tree stands up steady comes register_took
+    (subst (λ (s : GlobalState). OwnersTook g.O.Owners self.owners c.take-2.new.self s at input change heard tended) c.known-known.ensures.knows owners_took)
+    (subst (λ (s : GlobalState). StoreTook g.S.Store self.store c.take-3.new.self y z s at input shift tended served) c.known-known.ensures.knows store_took)
+    (subst (λ (offer : Option Change). Offered g.G.Register c.take.new.self c.offer.new.self.register z at offer proposes.proposal served out) (c.or.ensures ∙ is_first change shift) offered) in
     let parts = c.offer.ensures.parts in
     let then_letters = letters ++ out in
     let then_clocks = with_reading clocks input in

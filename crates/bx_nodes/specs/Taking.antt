@@ -1,5 +1,6 @@
 -- What a machine makes of an input that it is handed.
-use Rattle.std.specs.Prelude.{◌≡◌, Option, Some}
+use Rattle.std.specs.Prelude.{◌≡◌, IfSome, Option, Some}
+use Rattle.std.specs.Option.{option_or}
 use Rattle.bx_facts.specs.Chains.{GrowsBy}
 use Rattle.bx_facts.specs.Inputs.{greatest_with}
 use Rattle.bx_facts.specs.declared.input.Input.{Input}
@@ -22,3 +23,11 @@ pub record Hears (Stands_then : Course → Type 0) (c : Course) : Type 0 where
   pub later : Course
   pub grows : GrowsBy c.register.proposed c.register.chain later.register.chain
   pub stands : Stands_then later
+
+-- What owners and store hand back: the owners' change, or else the store's, is offered, and then this is said of it.
+pub record Offers (IsChange IsShift : Option Change → Type 0) (Says : Change → Type 0) : Type 0 where
+  pub change : Option Change
+  pub shift : Option Change
+  pub is_change : IsChange change
+  pub is_shift : IsShift shift
+  pub says : IfSome (option_or change shift) Says

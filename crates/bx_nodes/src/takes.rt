@@ -1,6 +1,6 @@
 //! What machines are handed.
 
-ghost use Rattle.std.specs.Prelude.{◌≡◌, ◌≢◌, ℕ, ◌++◌, ◌≤◌, false, List, OnOk, IsErrOf};
+ghost use Rattle.std.specs.Prelude.{◌≡◌, ◌≢◌, ◌⊎◌, ℕ, ◌++◌, ◌≤◌, false, List, IfSome, OnOk, IsErrOf};
 ghost use Rattle.bx_base.specs.declared.names.Actor.{Actor};
 ghost use Rattle.bx_base.specs.declared.names.Actor.TheVariants.{Node};
 ghost use Rattle.bx_disk.specs.Disks.{Disks};
@@ -11,9 +11,10 @@ ghost use Rattle.bx_facts.specs.Inputs.{IsComing, IsRegisters, IsSteady, SendsOn
 ghost use Rattle.bx_facts.specs.Machines.{IsMachine, OnlyAt};
 ghost use Rattle.bx_facts.specs.Pasts.{RegisterPast, register_with};
 ghost use Rattle.bx_facts.specs.declared.input.FactError.TheVariants.{Disk as DiskFails};
+ghost use Rattle.bx_global.specs.Table.{IsLegal};
 ghost use Rattle.bx_node_machines.specs.Nodes.{NodesStand};
 ghost use Rattle.bx_nodes.specs.Seen.{seen};
-ghost use Rattle.bx_nodes.specs.Taking.{Hears, Proposes, with_reading};
+ghost use Rattle.bx_nodes.specs.Taking.{Hears, Offers, Proposes, with_reading};
 ghost use Rattle.bx_post.specs.declared.packets.Letter.{Letter};
 ghost use Rattle.bx_world_standing.specs.Parts.{Clocks};
 ghost use Rattle.bx_world_standing.specs.Standing.{Course};
@@ -42,6 +43,8 @@ impl<G: Register, O: Owners, S: Store, E: Engine> Nodes<G, O, S, E> {
         ensures stands { (letters : List Letter) (clocks : Clocks) (c : Course) (tree : E.Tree) → R.tells rack.old → clocks.down at ≡ false → IsSteady clocks.greatest input.now → IsComing (letters ++ out.old) input.now
             → NodesStand G.Register O.Owners S.Store (E.stands self.old.engine) (E.step self.old.engine) self.old.register self.old.owners self.old.store (R.state rack.old) (letters ++ out.old) clocks (seen self.old.machines.items) c tree
             → OnOk result (Hears (λ later. NodesStand G.Register O.Owners S.Store (E.stands self.new.engine) (E.step self.new.engine) self.new.register self.new.owners self.new.store (R.state rack.new) (letters ++ out.new) (with_reading clocks input.now) (seen self.new.machines.items) later tree) c) }
+        ensures offers { OnOk result (Offers (O.hands self.old.owners (G.knows self.new.register at) at input.now) (S.hands self.old.store (G.knows self.new.register at) at input.now) (λ one. (G.is_busy self.old.register at ⊎ G.is_busy self.new.register at) ⊎ (IsLegal (G.knows self.new.register at) one → ⊥))) }
+        ensures steps { OnOk result (S.steps self.old.store (G.knows self.new.register at) at input.now self.new.store) }
         ensures machines { (self.new.machines ≡ self.old.machines) × (self.new.engine ≡ self.old.engine) }
         ensures knows { OnlyAt at (G.knows self.old.register) (G.knows self.new.register) }
         ensures rises { (who : Actor) → (G.knows self.old.register who).index ≤ (G.knows self.new.register who).index }
@@ -67,6 +70,7 @@ impl<G: Register, O: Owners, S: Store, E: Engine> Nodes<G, O, S, E> {
     ) -> Result<(), FactError>
         requires there { IsMachine (G.nodes self.old.register) at }
         ensures proposes { OnOk result (Proposes change (λ proposal. (x : Disks) (past : RegisterPast) → G.keeps self.old.register x (register_with past out.old) → past.down at ≡ false → G.keeps self.new.register x (register_with (record past { proposed = with_change proposal past.proposed }) out.new))) }
+        ensures offers { OnOk result (IfSome change (λ one. (G.is_busy self.old.register at ⊎ G.is_busy self.new.register at) ⊎ (IsLegal (G.knows self.new.register at) one → ⊥))) }
         ensures knows { (other : Actor) → G.knows self.new.register other ≡ G.knows self.old.register other }
         ensures sent { (x : Disks) (past : RegisterPast) → G.keeps self.old.register x (register_with past out.old) → OnOk result (SendsOnly IsRegisters out.old out.new) }
         ensures needs { NeedsNoMore (G.needs self.old.register) (G.needs self.new.register) }

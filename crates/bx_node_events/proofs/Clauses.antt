@@ -1,5 +1,5 @@
 -- What the clauses of `take` come to, where owners and store are handed an input one behind the other and letters are sent between and behind.
-use Rattle.std.proofs.Common.{◌≡◌, ◌≢◌, ◌⊎◌, ℕ, ◌≤◌, List, ◌++◌, Contains, Option, Some, None, arith}
+use Rattle.std.proofs.Common.{◌≡◌, ◌≢◌, ◌⊎◌, ℕ, List, ◌++◌, Contains, Option, Some, None}
 use Rattle.bx_base.specs.declared.names.Actor.{Actor}
 use Rattle.bx_base.specs.declared.names.Actor.TheVariants.{Node}
 use Rattle.bx_disk.specs.Disks.{Disks}
@@ -10,14 +10,13 @@ use Rattle.bx_facts.specs.Chains.{LivesIn, last, session_by}
 use Rattle.bx_facts.specs.Holds.{Holding, KeepsHolds, OwnersPast, owners_heard, owners_with}
 use Rattle.bx_facts.specs.Inputs.{AreAmong, IsComing, IsOwners, IsStores, greatest_with}
 use Rattle.bx_facts.specs.Pasts.{MayTake, Told, told_with}
-use Rattle.bx_facts.specs.Writes.{Asked, GoesOn, IsDone, IsOnly, Sent, StorePast, store_heard, store_with}
+use Rattle.bx_facts.specs.Writes.{GoesOn, IsDone, Sent, StorePast, store_heard, store_with}
 use Rattle.bx_global.specs.declared.change.Change.{Change}
 use Rattle.bx_global.specs.declared.state.GlobalState.{GlobalState}
 use Rattle.bx_owners.specs.declared.owners.Owners as owners
 use Rattle.bx_post.specs.declared.packets.Letter.{Letter}
 use Rattle.bx_node_events.proofs.Hears.{rises_then}
-use Rattle.bx_node_events.proofs.Taken.{TakesOwners, TakesStore, store_then_is}
-use Rattle.bx_world_stays.proofs.Heard.{told_then}
+use Rattle.bx_node_events.proofs.Taken.{TakesOwners, TakesStore}
 use Rattle.bx_world_stays.proofs.Stays.{only_stays}
 
 -- what comes still comes where letters are more

@@ -1,11 +1,11 @@
 -- A register was handed an input, so letters are under way and its disk is another; it may have decided a change that was proposed. All but its own past stands.
-use Rattle.std.proofs.Common.{◌≡◌, ◌⊎◌, inr, ℕ, ◌+◌, ◌<◌, ◌≤◌, false, List, Contains, Option, Some, refl, sym, subst, arith}
+use Rattle.std.proofs.Common.{◌≡◌, inr, ℕ, ◌+◌, ◌<◌, ◌≤◌, List, Contains, Some, refl, sym, subst, arith}
 use Rattle.std.specs.Prelude.{slice_get}
 use Rattle.bx_base.specs.declared.names.Actor.{Actor}
 use Rattle.bx_disk.specs.Disks.{Disks}
 use Rattle.bx_facts.specs.declared.register.Register as register
 use Rattle.bx_facts.specs.declared.store.Store as store
-use Rattle.bx_facts.specs.Chains.{AreLegal, HasRow, IsOwnersOwn, IsStoresOwn, LivesIn, grown, last, oldest}
+use Rattle.bx_facts.specs.Chains.{AreLegal, HasRow, IsOwnersOwn, IsStoresOwn, LivesIn, last, oldest}
 use Rattle.bx_facts.specs.Holds.{Hold, OwnersPast, owners_grown}
 use Rattle.bx_facts.specs.Writes.{GoesOn, StorePast, store_grown}
 use Rattle.bx_global.specs.declared.change.Change.{Change}

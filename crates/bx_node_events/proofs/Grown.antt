@@ -1,12 +1,12 @@
 -- A change that was proposed is decided: each node is still about what its session has under way, and a session that is opened is fresh.
-use Rattle.std.proofs.Common.{◌≡◌, ◌⊎◌, ⊎_elim, inl, inr, ◌∙◌, ℕ, ◌+◌, ◌<◌, ◌≤◌, Bool, false, List, [], Option, Some, None, refl, sym, ap, subst, arith}
+use Rattle.std.proofs.Common.{◌≡◌, ◌⊎◌, ⊎_elim, inl, inr, ℕ, ◌+◌, ◌<◌, ◌≤◌, Bool, false, List, [], Option, Some, None, refl, sym, subst, arith}
 use Rattle.std.specs.Prelude.{IsSomeAnd, slice_get}
 use Rattle.bx_base.specs.declared.names.Actor.TheVariants.{Node}
 use Rattle.bx_disk.specs.Disks.{Disks}
 use Rattle.bx_facts.specs.declared.register.Register as register
 use Rattle.bx_facts.specs.declared.store.Store as store
 use Rattle.bx_facts.specs.Chains.{grown, last}
-use Rattle.bx_facts.specs.Writes.{GoesOn, Made, store_grown}
+use Rattle.bx_facts.specs.Writes.{GoesOn, store_grown}
 use Rattle.bx_global.specs.Allowed.{IsAllowed}
 use Rattle.bx_global.specs.declared.change.Change.{Change}
 use Rattle.bx_global.specs.Table.{IsLegal}

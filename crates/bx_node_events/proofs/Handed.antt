@@ -26,7 +26,6 @@ use Rattle.bx_global.specs.Table.{IsLegal}
 use Rattle.bx_node_events.proofs.Clauses.{owners_taken, store_taken}
 use Rattle.bx_node_events.proofs.Decided as decided
 use Rattle.bx_node_events.proofs.Decided.{lettered}
-use Rattle.bx_node_events.proofs.Hears.{same_or_not}
 use Rattle.bx_node_events.proofs.Taken as taken
 use Rattle.bx_node_events.proofs.Taken.{TakesOwners, TakesStore, loose}
 use Rattle.bx_node_machines.specs.Machines.{AreAbout, MachineView}

@@ -1,10 +1,9 @@
 -- A state in which a session has a row is none before that in which it was opened.
-use Rattle.std.proofs.Common.{◌≡◌, inl, inr, ℕ, ◌+◌, ◌≤◌, Bool, true, false, ◌||◌, List, [], ◌∷◌, refl, sym, ◌∙◌, ap, subst, arith}
+use Rattle.std.proofs.Common.{◌≡◌, inl, inr, ℕ, ◌≤◌, Bool, true, false, ◌||◌, List, [], ◌∷◌, refl, sym, ◌∙◌, ap, arith}
 use Rattle.std.specs.Prelude.{if◌then◌else◌, is_some}
 use Rattle.bx_facts.specs.Chains.{Chain, HasRow, IsAmong, IsPlace, first_index, is_ever, opened_at, state_after}
 use Rattle.bx_global.specs.declared.change.Change.{Change}
 use Rattle.bx_global.specs.declared.state.GlobalState.{GlobalState}
-use Rattle.bx_global.specs.Table.{effect}
 use Rattle.bx_global.proofs.Rising.{index_rises}
 use Rattle.bx_rows.specs.Words.{row_in}
 

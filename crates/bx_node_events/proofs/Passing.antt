@@ -12,8 +12,8 @@ use Rattle.bx_facts.specs.Holds.{Hold, Holds, KeepsHolds, OwnersPast}
 use Rattle.bx_facts.specs.Pasts.{RegisterPast}
 use Rattle.bx_facts.specs.Writes.{Asked, IsOnly, IsOver, Made, MayWrite, Sent, StorePast, WritesIn, WritesTo}
 use Rattle.bx_global.specs.Allowed.{IsAllowed}
-use Rattle.bx_node_machines.specs.Machines.{AreAbout, IsAbout, IsFetched, IsFlying, IsLanded, IsWriting, MachineView, Scene, home_of}
-use Rattle.bx_node_machines.specs.Nodes.{IsOfNode, NodesStand, hinted, known_of, scene_of, shown}
+use Rattle.bx_node_machines.specs.Machines.{AreAbout, IsFlying, IsWriting, MachineView, Scene, home_of}
+use Rattle.bx_node_machines.specs.Nodes.{IsOfNode, NodesStand, known_of, scene_of}
 use Rattle.bx_node_machines.proofs.Hearing.{hears}
 use Rattle.bx_node_machines.proofs.Leaving.{Leaves}
 use Rattle.bx_node_machines.proofs.Owning as owning
@@ -32,8 +32,7 @@ use Rattle.bx_world_chains.proofs.Chains.{index_most, last_place}
 use Rattle.bx_world_chains.proofs.Rows.{lives_of}
 use Rattle.bx_world_standing.specs.Parts.{Clocks}
 use Rattle.bx_world_standing.specs.Rights.{IsWithin, MayTouch, Surely}
-use Rattle.bx_world_standing.specs.Standing.{Course, Known, StandsAt, SureOf, own_up}
-use Rattle.bx_world_standing.proofs.Owns.{own_of}
+use Rattle.bx_world_standing.specs.Standing.{Course, StandsAt, SureOf, own_up}
 use Rattle.bx_world_standing.proofs.Told.{one_owner, own_of_node}
 use Rattle.bx_world_stays.proofs.Stays.{within_stays}
 use Rattle.bx_world_views.specs.Views.{Allows}

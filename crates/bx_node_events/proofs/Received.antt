@@ -1,5 +1,5 @@
 -- What a node has read is handed to it, or nothing has come yet: the nodes stand.
-use Rattle.std.proofs.Common.{◌≡◌, ◌≢◌, ◌⊎◌, ⊎_elim, ◌∙◌, inl, inr, ℕ, ◌+◌, ◌-◌, ◌<◌, ◌≤◌, Bool, false, List, Option, Some, None, refl, sym, ap, subst, arith}
+use Rattle.std.proofs.Common.{◌≡◌, ◌≢◌, ⊎_elim, ◌∙◌, inl, ℕ, ◌+◌, ◌-◌, ◌<◌, ◌≤◌, false, List, Option, Some, None, refl, sym, ap, subst, arith}
 use Rattle.std.specs.Prelude.{slice_get}
 use Rattle.bx_base.specs.declared.names.Actor.TheVariants.{Node}
 use Rattle.bx_base.specs.declared.names.Mode.{Mode}
@@ -7,7 +7,7 @@ use Rattle.bx_disk.specs.Disks.{Disks, sector_of}
 use Rattle.bx_facts.specs.declared.register.Register as register
 use Rattle.bx_facts.specs.declared.store.Store as store
 use Rattle.bx_facts.specs.Chains.{last}
-use Rattle.bx_facts.specs.Writes.{Asked, GoesOn, IsOnly, Made}
+use Rattle.bx_facts.specs.Writes.{Asked, GoesOn, Made}
 use Rattle.bx_layout.specs.Blocks.{SpellsBlock}
 use Rattle.bx_node_machines.specs.Machines as words
 use Rattle.bx_node_machines.specs.Machines.{AreAbout, Fetch, IsAbout, IsFetched, IsFetching, MachineView, Scene, home_of}

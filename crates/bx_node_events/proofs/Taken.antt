@@ -1,6 +1,6 @@
 -- What the three parts make of an input of a machine that is up, by their clauses: the register may decide, then store and owners take the input with the state
 -- that the register knows, and a change may be proposed. The nodes stand.
-use Rattle.std.proofs.Common.{◌≡◌, ◌≢◌, ◌⊎◌, ⊎_elim, inl, inr, ◌∙◌, ℕ, ◌+◌, ◌<◌, ◌≤◌, false, List, Contains, Option, Some, None, refl, sym, ap, subst, arith}
+use Rattle.std.proofs.Common.{◌≡◌, ◌≢◌, ◌⊎◌, ◌∙◌, ℕ, ◌+◌, ◌<◌, ◌≤◌, false, List, Contains, Option, Some, None, refl, sym, ap, subst, arith}
 use Rattle.std.specs.Prelude.{slice_get}
 use Rattle.bx_base.specs.declared.names.Actor.{Actor}
 use Rattle.bx_base.specs.declared.names.Actor.TheVariants.{Node}
@@ -9,17 +9,14 @@ use Rattle.bx_facts.specs.declared.input.Input.{Input}
 use Rattle.bx_facts.specs.declared.input.Input.TheVariants.{Packet, Synced, Tick}
 use Rattle.bx_facts.specs.declared.register.Register as register
 use Rattle.bx_facts.specs.declared.store.Store as store
-use Rattle.bx_facts.specs.Chains.{AreLegal, Chain, GrowsBy, HasOwnBoot, HasRow, IsOwnersOwn, IsPlace, IsStoresOwn, LivesIn, grown, last, oldest, session_by, with_change}
-use Rattle.bx_facts.specs.Holds.{Hold, Holding, KeepsHolds, OwnersPast, owners_grown}
+use Rattle.bx_facts.specs.Chains.{AreLegal, Chain, HasOwnBoot, HasRow, IsPlace, LivesIn, last, oldest, session_by, with_change}
+use Rattle.bx_facts.specs.Holds.{Hold, Holding, KeepsHolds, OwnersPast}
 use Rattle.bx_facts.specs.Inputs.{IsComing, IsSteady}
-use Rattle.bx_facts.specs.Pasts.{MayTake, RegisterPast, Told}
+use Rattle.bx_facts.specs.Pasts.{MayTake}
 use Rattle.bx_facts.specs.Writes.{Asked, IsOnly, Sent, StorePast, WritesTo}
 use Rattle.bx_global.specs.declared.change.Change.{Change}
 use Rattle.bx_global.specs.declared.state.GlobalState.{GlobalState}
-use Rattle.bx_global.specs.Table.{IsLegal}
-use Rattle.bx_node_events.proofs.Grown as growing
 use Rattle.bx_node_events.proofs.Hears as hearing
-use Rattle.bx_node_events.proofs.Passing as passing
 use Rattle.bx_node_machines.specs.Machines.{AreAbout, MachineView}
 use Rattle.bx_node_machines.specs.Nodes.{IsOfNode, NodesStand, known_of, scene_of}
 use Rattle.bx_owners.specs.declared.owners.Owners as owners
@@ -30,9 +27,7 @@ use Rattle.bx_world_chains.specs.Entitled.{AreAllowed}
 use Rattle.bx_world_standing.specs.Labels.{LabelsStand}
 use Rattle.bx_world_standing.specs.Parts.{Clocks}
 use Rattle.bx_world_standing.specs.Standing.{Course, Known, StandsAt, SureOf, own_up}
-use Rattle.bx_world_standing.proofs.Grows.{grown_course, grows}
 use Rattle.bx_world_stays.proofs.Heard.{IsProposal, heard_clocks, told_then}
-use Rattle.bx_world_stops.proofs.Restarted.{remains}
 use Rattle.bx_world_views.specs.Views.{AreApart}
 
 -- a register of whose past nothing is asked

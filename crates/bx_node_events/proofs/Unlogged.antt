@@ -16,7 +16,7 @@ use Rattle.bx_views.specs.Truths.{Truth}
 use Rattle.bx_volume.specs.Overlay.{IsUnlogged, Logs}
 use Rattle.bx_volume.specs.Records.{LogWhere, Logged, newest_in}
 use Rattle.bx_world_chains.proofs.Rows.{has_of}
-use Rattle.bx_world_logs.specs.Logs.{Activity, IsInLog, LogsStand, Slot, SlotStands, begins, idle}
+use Rattle.bx_world_logs.specs.Logs.{IsInLog, LogsStand, Slot, SlotStands, begins, idle}
 use Rattle.bx_world_standing.specs.Rights.{HasBlock, RightsStand}
 use Rattle.bx_world_views.specs.Views.{AreApart}
 use Rattle.bx_world_volumes.proofs.Trees.{RowAt, row_at}

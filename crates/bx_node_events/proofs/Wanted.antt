@@ -1,14 +1,13 @@
 -- A node whose log rests lets a block go, and its session gives it up or wants it otherwise: the nodes stand.
-use Rattle.std.proofs.Common.{◌≡◌, ◌≢◌, ◌⊎◌, ⊎_elim, inl, inr, ◌∙◌, ℕ, ◌+◌, ◌<◌, ◌≤◌, Bool, true, false, eqb, List, Contains, Option, Some, None, refl, sym, ap, subst, arith}
+use Rattle.std.proofs.Common.{◌≡◌, ◌≢◌, ◌⊎◌, ⊎_elim, inl, inr, ◌∙◌, ℕ, ◌+◌, ◌<◌, false, List, Contains, Option, Some, None, refl, sym, ap, subst}
 use Rattle.std.specs.Prelude.{if◌then◌else◌, slice_get}
-use Rattle.std.proofs.lemmas.Bool.Decides.{nat_tests}
 use Rattle.bx_base.specs.declared.names.Actor.TheVariants.{Node}
 use Rattle.bx_base.specs.declared.names.Mode.{Mode}
 use Rattle.bx_disk.specs.Disks.{Disks}
 use Rattle.bx_facts.specs.declared.register.Register as register
 use Rattle.bx_facts.specs.declared.store.Store as store
 use Rattle.bx_facts.specs.Chains.{HasRow, LivesIn, last}
-use Rattle.bx_facts.specs.Holds.{Hold, Holds, KeepsOthers, given_floor, is_exclusive}
+use Rattle.bx_facts.specs.Holds.{Hold, Holds, KeepsOthers, is_exclusive}
 use Rattle.bx_facts.specs.Writes.{GoesOn, Sent}
 use Rattle.bx_node_holds.proofs.Released.{let_go_at, with_holds}
 use Rattle.bx_node_machines.specs.Machines as words
@@ -16,7 +15,6 @@ use Rattle.bx_node_machines.specs.Machines.{AreAbout, Fetch, IsAbout, IsAtWork, 
 use Rattle.bx_node_machines.proofs.Leaving.{given_on}
 use Rattle.bx_node_machines.specs.Nodes.{NodesStand, hinted, known_of, scene_of, shown}
 use Rattle.bx_node_views.specs.Changes.{Hides}
-use Rattle.bx_node_views.proofs.Knowing as knowing
 use Rattle.bx_node_events.proofs.Keeping.{keeping, shows_own}
 use Rattle.bx_node_events.proofs.Unlogged.{none_in}
 use Rattle.bx_owners.specs.declared.owners.Owners as owners
@@ -33,7 +31,7 @@ use Rattle.bx_world_chains.proofs.Rows.{lives_of}
 use Rattle.bx_world_standing.specs.Parts.{Clocks}
 use Rattle.bx_world_standing.specs.Rights.{IsReached, IsWithin, Surely}
 use Rattle.bx_world_standing.specs.Sessions.{IsOfNode}
-use Rattle.bx_world_standing.specs.Standing.{Course, Known, StandsAt, SureOf, own_up}
+use Rattle.bx_world_standing.specs.Standing.{Course, Known, SureOf, own_up}
 use Rattle.bx_world_standing.proofs.Owns.{own_is}
 use Rattle.bx_world_views.specs.Views.{Allows, AreApart}
 

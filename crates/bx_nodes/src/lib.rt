@@ -1,5 +1,5 @@
-//! The nodes of a cluster, over any register, owners, store and engine: what each has; what it reads, wants and gives back; turns that only answer, records that
-//! begin, and the steps of their logs.
+//! The nodes of a cluster, over any register, owners, store and engine: what each has, reads, wants and gives back; turns that only answer, records that begin, and
+//! the steps of their logs; and what machines are handed.
 #![tactic(auto)]
 
 mod answers;

@@ -1,6 +1,7 @@
 -- What the clauses of the three calls `take`, and of `propose`, come to where a machine that is up is handed an input: the register first, owners and store then, with
 -- the state that it knows, and last the register is handed the change that one of these handed back. The nodes stand.
 use Rattle.std.proofs.Common.{◌≡◌, ◌≢◌, ◌⊎◌, ⊎_elim, inl, inr, ◌∙◌, ℕ, ◌+◌, ◌<◌, ◌≤◌, false, List, ◌∷◌, ◌++◌, Contains, Option, Some, None, IfSome, refl, sym, ap, subst, arith}
+use Rattle.std.specs.Option.{option_or}
 use Rattle.std.specs.Prelude.{slice_get, slice_index}
 use Rattle.std.proofs.lemmas.List.Elements.{Contains-append_cases, Contains-append_left, Contains-append_right}
 use Rattle.bx_base.specs.declared.names.Actor.{Actor}
@@ -26,6 +27,7 @@ use Rattle.bx_global.specs.Table.{IsLegal}
 use Rattle.bx_node_events.proofs.Clauses.{owners_taken, store_taken}
 use Rattle.bx_node_events.proofs.Decided as decided
 use Rattle.bx_node_events.proofs.Decided.{lettered}
+use Rattle.bx_node_events.proofs.Handing.{not_owners, not_registers}
 use Rattle.bx_node_events.proofs.Taken as taken
 use Rattle.bx_node_events.proofs.Taken.{TakesOwners, TakesStore, loose}
 use Rattle.bx_node_machines.specs.Machines.{AreAbout, MachineView}
@@ -88,13 +90,8 @@ pub record Offered {G : Type 0} (g : register.Ghosts G) (old new : G) (z : Disks
   pub knows : (other : Actor) → g.knows new other ≡ g.knows old other
   pub sent : (past : RegisterPast) → g.keeps old z (register_with past box) → SendsOnly IsRegisters box box_then
 
--- the change that is offered: that of the owners, or else that of the store
-abbrev pub first_of : Option Change → Option Change → Option Change
-first_of None shift = shift
-first_of (Some change) shift = Some change
-
 -- one offered is one of theirs
-is_theirs : (change shift : Option Change) (handed_owners handed_store : List Change) (one : Change) → IfSome change IsOwnersKind → IfSome shift IsStoresKind → first_of change shift ≡ Some one
+is_theirs : (change shift : Option Change) (handed_owners handed_store : List Change) (one : Change) → IfSome change IsOwnersKind → IfSome shift IsStoresKind → option_or change shift ≡ Some one
     → IsProposal (with_change change handed_owners) (with_change shift handed_store) one
 is_theirs (Some change) shift handed_owners handed_store one kind other is =
     subst (λ (c : Change). IsProposal (change ∷ handed_owners) (with_change shift handed_store) c) (let e : change ≡ one = cc in e) (owners_kind change kind)
@@ -131,14 +128,8 @@ kept_by Is all old new sends letter has = ⊎_elim
     (λ in_box. Contains-append_right all new letter (sends.kept letter in_box))
     (Contains-append_cases all old letter has)
 
-stores_not_registers : (letter : Letter) → IsStores letter → IsRegisters letter → ⊥
-stores_not_registers letter one other = let a = one.least in let b = other.most in omega (arith, a, b)
-
 registers_not_stores : (letter : Letter) → IsRegisters letter → IsStores letter → ⊥
 registers_not_stores letter one other = let a = one.most in let b = other.least in omega (arith, a, b)
-
-stores_not_owners : (letter : Letter) → IsStores letter → IsOwners letter → ⊥
-stores_not_owners letter one other = let a = one.least in let b = other.most in omega (arith, a, b)
 
 owners_not_stores : (letter : Letter) → IsOwners letter → IsStores letter → ⊥
 owners_not_stores letter one other = let a = one.most in let b = other.least in omega (arith, a, b)
@@ -182,7 +173,7 @@ module _ {G O S T : Type 0} (g : register.Ghosts G) (o : owners.Ghosts O) (st : 
     (up : clocks.down who ≡ false) (steady : IsSteady clocks.greatest input) (comes : IsComing (letters ++ heard_box) input)
     (owners_took : OwnersTook o owners_are owners_then (g.knows register_heard who) who input change heard_box tended_box)
     (store_took : StoreTook st store_is store_then y z (g.knows register_heard who) who input shift tended_box served_box)
-    (offered : Offered g register_heard register_then z who (first_of change shift) proposal served_box last_box) where
+    (offered : Offered g register_heard register_then z who (option_or change shift) proposal served_box last_box) where
   -- Once what was decided is in the chain.
   module _ (c : Course) (tree : T)
       (at : StandsAt (loose g) o st Stands Step register_heard owners_are store_is y (known_of (loose g) o st Stands Step register_heard owners_are store_is y (letters ++ heard_box) clocks machines) (lettered c (letters ++ heard_box)) tree)
@@ -201,7 +192,7 @@ module _ {G O S T : Type 0} (g : register.Ghosts G) (o : owners.Ghosts O) (st : 
     register_served = laws.registers_lose register_heard z (record c.register { letters = letters ++ heard_box }) (letters ++ served_box)
         (laws.registers_elsewhere register_heard y z (record c.register { letters = letters ++ heard_box }) register_keeps (same_lengths y z store_took.sizes) store_took.replicas store_took.labels)
         (among_both IsRegisters (letters ++ served_box) (letters ++ tended_box) (letters ++ heard_box) (none_new IsRegisters IsOwners owners_not_registers letters heard_box tended_box owners_took.sent)
-        (none_new IsRegisters IsStores stores_not_registers letters tended_box served_box store_took.sent))
+        (none_new IsRegisters IsStores not_registers letters tended_box served_box store_took.sent))
 
     sent_last : SendsOnly IsRegisters served_box last_box
     sent_last = offered.sent (record c.register { letters = letters }) register_served
@@ -211,7 +202,7 @@ module _ {G O S T : Type 0} (g : register.Ghosts G) (o : owners.Ghosts O) (st : 
         (λ may. owners_took.keeps (record c.owners { told = record c.owners.told { letters = letters } }) at.parts.owners_keep may)
         (λ node may same. owners_took.session (record c.owners { told = record c.owners.told { letters = letters } }) node at.parts.owners_keep may same)
         owners_took.others (λ one some keeps among. laws.owners_lose owners_then one some keeps among)
-        (among_both IsOwners (letters ++ last_box) (letters ++ served_box) (letters ++ tended_box) (none_new IsOwners IsStores stores_not_owners letters tended_box served_box store_took.sent)
+        (among_both IsOwners (letters ++ last_box) (letters ++ served_box) (letters ++ tended_box) (none_new IsOwners IsStores not_owners letters tended_box served_box store_took.sent)
         (none_new IsOwners IsRegisters registers_not_owners letters served_box last_box sent_last))
 
     takes_store : TakesStore st store_is store_then y z (lettered c (letters ++ heard_box)).store (g.knows register_heard who) who input shift (letters ++ last_box)
@@ -255,7 +246,7 @@ module _ {G O S T : Type 0} (g : register.Ghosts G) (o : owners.Ghosts O) (st : 
     (register_took : RegisterTook g register_is register_heard x y who input box heard_box)
     (owners_took : OwnersTook o owners_are owners_then (g.knows register_heard who) who input change heard_box tended_box)
     (store_took : StoreTook st store_is store_then y z (g.knows register_heard who) who input shift tended_box served_box)
-    (offered : Offered g register_heard register_then z who (first_of change shift) proposal served_box last_box) where
+    (offered : Offered g register_heard register_then z who (option_or change shift) proposal served_box last_box) where
   decides : Decides (g.keeps register_heard y) (g.knows register_heard who) (record c.register { letters = letters ++ heard_box })
   decides = register_took.keeps (record c.register { letters = letters })
       (subst (λ (posted : List Letter). g.keeps register_is x (record c.register { letters = posted })) stands.at.pasts.letters stands.at.parts.register_keeps)

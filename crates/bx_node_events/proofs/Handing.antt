@@ -61,10 +61,10 @@ pub record IsTaken {S : Type 0} (st : store.Ghosts S) (old new : S) (node : ℕ)
   pub sent : SendsOnly IsStores box box_then
   pub made : st.made new ≡ st.made old
 
-not_registers : (letter : Letter) → IsStores letter → IsRegisters letter → ⊥
+pub not_registers : (letter : Letter) → IsStores letter → IsRegisters letter → ⊥
 not_registers letter one other = let a = one.least in let b = other.most in omega (arith, a, b)
 
-not_owners : (letter : Letter) → IsStores letter → IsOwners letter → ⊥
+pub not_owners : (letter : Letter) → IsStores letter → IsOwners letter → ⊥
 not_owners letter one other = let a = one.least in let b = other.most in omega (arith, a, b)
 
 module _ {G O S T : Type 0} (g : register.Ghosts G) (o : owners.Ghosts O) (st : store.Ghosts S) (Stands : Truth → Hints → T → Type 0) (Step : T → Deed → T → Type 0)

@@ -46,7 +46,7 @@ node_or_not (Replica n) = inr tt
 node_or_not (Server n) = inr tt
 node_or_not (Member n) = inr tt
 
-pub same_or_not : (who other : Actor) → (who ≡ other) ⊎ (who ≢ other)
+same_or_not : (who other : Actor) → (who ≡ other) ⊎ (who ≢ other)
 same_or_not who other = by (is_same who other) refl
   where
     by : (t : Bool) → is_same who other ≡ t → (who ≡ other) ⊎ (who ≢ other)

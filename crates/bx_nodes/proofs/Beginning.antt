@@ -18,7 +18,7 @@ use Rattle.bx_node_machines.specs.Machines.{act_of, number_of}
 use Rattle.bx_node_machines.specs.Nodes.{NodesStand}
 use Rattle.bx_node_tries.specs.declared.round.Begun.{Begun}
 use Rattle.bx_node_tries.specs.declared.round.Waiting.{Waiting}
-use Rattle.bx_nodes.specs.Logging.{Asks, Begins, IsFairBegun}
+use Rattle.bx_nodes.specs.Logging.{IsRecordingOf, Begins, IsFairBegun}
 use Rattle.bx_nodes.specs.Seen.{replying, seen, stage_of, view_of}
 use Rattle.bx_nodes.specs.Turns.{Turned}
 use Rattle.bx_nodes.specs.declared.machine.Machine.{Machine}
@@ -41,14 +41,14 @@ use Rattle.bx_world_standing.specs.Standing.{Course}
 use Rattle.bx_world_views.specs.Views.{Works}
 
 -- What a record changes its node holds for itself.
-pub held_draft : (moment areas : ℕ) (held : Held) (path : ℕ → Mode → Type 0) (call : Waiting) (attempt : Attempt) (recording : Recording) → Asks moment call attempt recording → IsFair areas held path attempt → IsHeldDraft held recording.pending.draft
+pub held_draft : (moment areas : ℕ) (held : Held) (path : ℕ → Mode → Type 0) (call : Waiting) (attempt : Attempt) (recording : Recording) → IsRecordingOf moment call attempt recording → IsFair areas held path attempt → IsHeldDraft held recording.pending.draft
 held_draft moment areas held path call (attempts.Need wants) recording asks fair = absurd asks
 held_draft moment areas held path call (attempts.Change draft done) recording asks fair = subst (λ (d : List Changed). IsHeldDraft held d) (sym (ap (λ (r : Recording). r.pending.draft) asks)) fair
 held_draft moment areas held path call (attempts.Inner draft) recording asks fair = subst (λ (d : List Changed). IsHeldDraft held d) (sym (ap (λ (r : Recording). r.pending.draft) asks.2)) fair
 held_draft moment areas held path call (attempts.Answer done) recording asks fair = absurd asks
 
 -- its point has its call's number
-pub numbered : (moment : ℕ) (call : Waiting) (attempt : Attempt) (recording : Recording) → Asks moment call attempt recording → recording.point.call ≡ number_of (replying recording.pending.call)
+pub numbered : (moment : ℕ) (call : Waiting) (attempt : Attempt) (recording : Recording) → IsRecordingOf moment call attempt recording → recording.point.call ≡ number_of (replying recording.pending.call)
 numbered moment call (attempts.Need wants) recording asks = absurd asks
 numbered moment call (attempts.Change draft done) recording asks = ap (λ (r : Recording). r.point.call) asks ∙ sym (ap (λ (r : Recording). number_of (replying r.pending.call)) asks)
 numbered moment call (attempts.Inner draft) recording asks = ap (λ (r : Recording). r.point.call) asks.2 ∙ sym (ap (λ (r : Recording). number_of (replying r.pending.call)) asks.2)
@@ -65,7 +65,7 @@ one_block areas (first ∷ draft) all at some = by (first.0 == at) refl (one_blo
 
 -- what an attempt gives, its record does
 module _ {T : Type 0} (Stands : Truth → Hints → T → Type 0) (Step : T → Deed → T → Type 0) (free moment : ℕ) (call : Waiting) (truth : Truth) (tree : T) where
-  works : (attempt : Attempt) (recording : Recording) → Asks moment call attempt recording → Gives Stands Step free call.client call.message moment truth tree attempt
+  works : (attempt : Attempt) (recording : Recording) → IsRecordingOf moment call attempt recording → Gives Stands Step free call.client call.message moment truth tree attempt
       → Works Stands Step (act_of (replying recording.pending.call) recording.point) recording.pending.draft truth tree
   works (attempts.Need wants) recording asks gives = absurd asks
   works (attempts.Change draft done) recording asks gives =
@@ -82,7 +82,7 @@ module _ {G O S T : Type 0} (g : register.Ghosts G) (o : owners.Ghosts O) (st : 
     (there : slice_get items node ≡ Some before) (mark : before.session ≡ Some session) (none_out : st.out_of old node ≡ None)
     (register_laws : RegisterLaws g register_is) (owners_laws : OwnersLaws o owners_are) (store_laws : StoreLaws st old)
     (free : Truth → ℕ) (areas moment : ℕ) (path : ℕ → List ℕ → Held → Hints → ℕ → Mode → Type 0) (begun : Begun) (recording : Recording) (runs : KindAndRuns)
-    (idle : before.stage ≡ stages.Idle) (fair : IsFairBegun Stands Step free areas path moment begun before) (asks : Asks moment begun.call begun.attempt recording) (begins : Begins recording before after runs)
+    (idle : before.stage ≡ stages.Idle) (fair : IsFairBegun Stands Step free areas path moment begun before) (asks : IsRecordingOf moment begun.call begun.attempt recording) (begins : Begins recording before after runs)
     (taken : IsTaken st old new node box box_then (record { session = session; until = until; runs = runs.1 })) (made_devices : before.cache.devices ≡ (st.made old).devices) (made_areas : before.cache.areas ≡ (st.made old).areas) where
   pub begun_there : Turned Step (NodesStand g o st Stands Step register_is owners_are new x (letters ++ box_then) clocks (seen (slice_set items node after))) c tree []
   begun_there =

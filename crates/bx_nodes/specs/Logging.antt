@@ -71,19 +71,19 @@ pub record IsFairBegun {T : Type 0} (Stands : Truth → Hints → T → Type 0) 
   pub tried : Tried Stands Step free areas (path begun.call.client begun.call.message (held_in machine.cache.kept) (hint_in machine.cache.hinted)) (held_in machine.cache.kept) (hint_in machine.cache.hinted) begun.call.client begun.call.message moment begun.attempt
 
 -- The record that an attempt asks for. One that only prepares is of no call: the call waits on, and counts it.
-abbrev pub Asks : ℕ → Waiting → Attempt → Recording → Type 0
-Asks moment call (attempts.Need wants) recording = ⊥
-Asks moment call (attempts.Change draft done) recording = recording ≡ record {
+abbrev pub IsRecordingOf : ℕ → Waiting → Attempt → Recording → Type 0
+IsRecordingOf moment call (attempts.Need wants) recording = ⊥
+IsRecordingOf moment call (attempts.Change draft done) recording = recording ≡ record {
   waits = None;
   pending = record { call = Some (call, done.reply); draft = draft };
   point = record { call = call.number; moment = moment; spare = done.spare; made = done.made };
 }
-Asks moment call (attempts.Inner draft) recording = (inners : ℕ) × (call.inners < 4294967295 → inners ≡ call.inners + 1) × (recording ≡ record {
+IsRecordingOf moment call (attempts.Inner draft) recording = (inners : ℕ) × (call.inners < 4294967295 → inners ≡ call.inners + 1) × (recording ≡ record {
   waits = Some (record call { inners = inners });
   pending = record { call = None; draft = draft };
   point = record { call = 0; moment = moment; spare = 8; made = 0 };
 })
-Asks moment call (attempts.Answer done) recording = ⊥
+IsRecordingOf moment call (attempts.Answer done) recording = ⊥
 
 -- So many calls came before that with a number.
 pub record IsPlace (number : ℕ) (calls : List Waiting) (place : ℕ) : Type 0 where
@@ -160,7 +160,7 @@ IsSentBy own until (Some runs) out = (session : ℕ) → own ≡ Some session �
 -- A call begins a record at a moment, and its body is sent.
 pub record BeginsBy (moment : ℕ) (begun : Begun) (own : Option ℕ) (until : ℕ) (out : Option Sent) (old new : Machine) : Type 0 where
   pub recording : Recording
-  pub asks : Asks moment begun.call begun.attempt recording
+  pub asks : IsRecordingOf moment begun.call begun.attempt recording
   pub runs : KindAndRuns
   pub begins : Begins recording old new runs
   pub sent : IsSentBy own until (Some runs) out

@@ -3,7 +3,7 @@
 ghost use Rattle.std.specs.Prelude.{◌≡◌, ℕ, ◌+◌, ◌<◌, ◌≤◌, IfOk, IfSome, OnOk, Some, slice_get};
 ghost use Rattle.bx_node_cache.specs.Kept.{held_in};
 ghost use Rattle.bx_node_tries.specs.Tries.{IsChange};
-ghost use Rattle.bx_nodes.specs.Logging.{Asks, Begins, FitsStage, IsPlace, IsPutBack, WaitsOn};
+ghost use Rattle.bx_nodes.specs.Logging.{IsRecordingOf, Begins, FitsStage, IsPlace, IsPutBack, WaitsOn};
 ghost use Rattle.bx_nodes.specs.declared.machine.Stage.TheVariants.{Idle};
 ghost use Rattle.bx_views.specs.Attempts.{IsHeldDraft};
 
@@ -31,7 +31,7 @@ pub struct Recording {
 /// The record that the attempt of a call asks for, at a moment in milliseconds.
 pub(crate) fn asked_by(begun: Begun, moment: u64) -> Recording
     requires changes { IsChange begun.attempt }
-    ensures { Asks moment begun.call begun.attempt result }
+    ensures { IsRecordingOf moment begun.call begun.attempt result }
 {
     let Begun { call, attempt } = begun;
     match attempt {
@@ -70,10 +70,7 @@ fn prepared(call: Waiting) -> Waiting
     ensures only { result ≡ record call { inners = result.inners } }
     ensures counts { call.inners < 4294967295 → result.inners ≡ call.inners + 1 }
 {
-    let inners = match call.inners.checked_add(1) {
-        Some(inners) => inners,
-        None => call.inners,
-    };
+    let inners = call.inners.saturating_add(1);
     Waiting { inners, ..call }
 }
 

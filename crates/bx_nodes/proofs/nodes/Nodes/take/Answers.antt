@@ -1,17 +1,11 @@
-use Rattle.std.proofs.Common.{◌≡◌, ◌∙◌, ◌++◌, Option, Some, None, Result, Ok, Err, OnOk, refl, sym, subst}
-use Rattle.std.specs.Option.{option_or}
+use Rattle.std.proofs.Common.{◌++◌, Option, Result, Ok, Err, OnOk, sym, subst}
 use Rattle.bx_global.specs.declared.change.Change.{Change}
 use Rattle.bx_global.specs.declared.state.GlobalState.{GlobalState}
-use Rattle.bx_node_events.proofs.Handed.{HandedLaws, Offered, OwnersTook, RegisterTook, StoreTook, first_of, handed}
+use Rattle.bx_node_events.proofs.Handed.{HandedLaws, Offered, OwnersTook, RegisterTook, StoreTook, handed}
 use Rattle.bx_node_machines.specs.Nodes.{NodesStand}
 use Rattle.bx_nodes.specs.Seen.{seen}
 use Rattle.bx_nodes.specs.Taking.{with_reading}
 use Rattle.bx_nodes.proofs.nodes.Nodes.take.Goals as goal
-
--- the change that is offered is the owners', or else the store's
-is_first : (change shift : Option Change) → option_or change shift ≡ first_of change shift
-is_first (Some change) shift = refl
-is_first None shift = refl
 
 -- where a call succeeds, what it promises of success holds
 where_ok : {A E P Q : Type 0} (result : Result A E) → (((X : Type 0) → OnOk result X → X) → P → Q) → OnOk result P → OnOk result Q
@@ -96,7 +90,7 @@ returns-clause-stands g c = λ letters clocks course tree tells up steady comes 
     letters box heard tended served out clocks (seen self.machines.items) at input change shift proposes.proposal course tree stands up steady comes register_took
     (subst (λ (s : GlobalState). OwnersTook g.O.Owners self.owners c.take-2.new.self s at input change heard tended) c.known-known.ensures.knows owners_took)
     (subst (λ (s : GlobalState). StoreTook g.S.Store self.store c.take-3.new.self y z s at input shift tended served) c.known-known.ensures.knows store_took)
-    (subst (λ (offer : Option Change). Offered g.G.Register c.take.new.self c.offer.new.self.register z at offer proposes.proposal served out) (c.or.ensures ∙ is_first change shift) offered) in
+    (subst (λ (offer : Option Change). Offered g.G.Register c.take.new.self c.offer.new.self.register z at offer proposes.proposal served out) c.or.ensures offered) in
     let parts = c.offer.ensures.parts in
     let then_letters = letters ++ out in
     let then_clocks = with_reading clocks input in

@@ -10,12 +10,13 @@ ghost use Rattle.bx_truth.specs.Keys.{entry_key, name_key};
 ghost use Rattle.bx_adding.specs.Finding.{OnRoomPath, ReadyIn, RoomIn};
 ghost use Rattle.bx_adding.specs.Lacking.{FindsBoth, IfFirst, MakesEither};
 
+use bx_base::{OutOfMemory, Raw};
 use bx_changes::ChangeError;
 use bx_entries::Known;
 use bx_handles::ChunkHandle;
 use bx_inodes::Stop;
 use bx_keys::{key_by_name, key_by_number};
-use bx_ready::ready;
+use bx_ready::{Target, ready};
 use bx_views::View;
 use std::alloc::Global;
 
@@ -44,79 +45,45 @@ pub fn room_for<V: View>(
     ensures taken { IfErr result (IfFirst (TakesSlots (V.held view.now) (parts_of directory.now.handle).area areas [])) }
     ensures full { IfErr result (IfFull (NoSlots (V.held view.now) (parts_of directory.now.handle).area areas [])) }
 {
-    let near = (ChunkHandle::of(directory.handle).area, areas);
-    let (root, number) = (directory.inode.tree, directory.inode.next);
-    match room_by_name(alloc, view, root, name, near) {
+    let Ok((by_name, by_number)) = keys_for(alloc, name, directory.inode.next) else {
+        return Err(ChangeError::Stopped(Stop::OutOfMemory));
+    };
+    let first = Target {
+        root: directory.inode.tree,
+        key: by_name.bytes(),
+        near: ChunkHandle::of(directory.handle).area,
+        areas,
+    };
+    let second = Target {
+        key: by_number.bytes(),
+        ..first
+    };
+    match room_at(alloc, view, &first) {
         Err(error) => Err(error),
-        Ok(()) => room_by_number(alloc, view, root, number, near),
+        Ok(()) => room_at(alloc, view, &second),
     }
 }
 
-/// The same of the key of a name alone, near an area and of so many.
-fn room_by_name<V: View>(
-    alloc: Global,
-    view: &V,
-    root: u64,
-    name: &[u8],
-    near: (u16, u16),
-) -> Result<(), ChangeError>
-    ensures step { (volume : ℕ) (truth : Truth) (tree : Tree) (handle : ℕ) (inode : Kept) → IsDirectoryOf volume near.1 (V.held view.now) (V.hints view.now) truth tree handle inode → inode.tree ≡ root
-        → ReadyIn near.1 truth root (name_key name.now) result }
-    ensures lacks { (volume : ℕ) (truth : Truth) (tree : Tree) (handle : ℕ) (inode : Kept) → IsDirectoryOf volume near.1 (V.held view.now) (V.hints view.now) truth tree handle inode → inode.tree ≡ root
-        → IfErr result (IfFirst (MakesRoom near.1 (V.held view.now) (V.hints view.now) truth root (name_key name.now))) }
-    ensures need { IfErr result (NeedsBy near.1 (V.held view.now) (OnReadyPath near.0 near.1 (V.held view.now) (V.hints view.now) root (name_key name.now))) }
-    ensures first { IfErr result (HoldsFirst (V.held view.now)) }
-    ensures taken { IfErr result (IfFirst (TakesSlots (V.held view.now) near.0 near.1 [])) }
-    ensures full { IfErr result (IfFull (NoSlots (V.held view.now) near.0 near.1 [])) }
+/// The two keys of an entry: that of its name, and that of its number.
+fn keys_for(alloc: Global, name: &[u8], number: u32) -> Result<(Raw, Raw), OutOfMemory>
+    ensures { IfOk result (λ keys. (keys.0 ≡ name_key name.now) × (keys.1 ≡ entry_key number)) }
 {
-    match key_by_name(alloc, name) {
-        Err(_) => Err(ChangeError::Stopped(Stop::OutOfMemory)),
-        Ok(key) => room_at(alloc, view, root, key.bytes(), near),
-    }
+    Ok((key_by_name(alloc, name)?, key_by_number(alloc, number)?))
 }
 
-/// The same of the key of a number.
-fn room_by_number<V: View>(
-    alloc: Global,
-    view: &V,
-    root: u64,
-    number: u32,
-    near: (u16, u16),
-) -> Result<(), ChangeError>
-    ensures step { (volume : ℕ) (truth : Truth) (tree : Tree) (handle : ℕ) (inode : Kept) → IsDirectoryOf volume near.1 (V.held view.now) (V.hints view.now) truth tree handle inode → inode.tree ≡ root
-        → ReadyIn near.1 truth root (entry_key number) result }
-    ensures lacks { (volume : ℕ) (truth : Truth) (tree : Tree) (handle : ℕ) (inode : Kept) → IsDirectoryOf volume near.1 (V.held view.now) (V.hints view.now) truth tree handle inode → inode.tree ≡ root
-        → IfErr result (IfFirst (MakesRoom near.1 (V.held view.now) (V.hints view.now) truth root (entry_key number))) }
-    ensures need { IfErr result (NeedsBy near.1 (V.held view.now) (OnReadyPath near.0 near.1 (V.held view.now) (V.hints view.now) root (entry_key number))) }
+/// Finds room for one entry.
+fn room_at<V: View>(alloc: Global, view: &V, at: &Target) -> Result<(), ChangeError>
+    ensures step { (volume : ℕ) (truth : Truth) (tree : Tree) (handle : ℕ) (inode : Kept) → IsDirectoryOf volume at.now.areas (V.held view.now) (V.hints view.now) truth tree handle inode → inode.tree ≡ at.now.root
+        → ReadyIn at.now.areas truth at.now.root at.now.key.now result }
+    ensures lacks { (volume : ℕ) (truth : Truth) (tree : Tree) (handle : ℕ) (inode : Kept) → IsDirectoryOf volume at.now.areas (V.held view.now) (V.hints view.now) truth tree handle inode → inode.tree ≡ at.now.root
+        → IfErr result (IfFirst (MakesRoom at.now.areas (V.held view.now) (V.hints view.now) truth at.now.root at.now.key.now)) }
+    ensures need { IfErr result (NeedsBy at.now.areas (V.held view.now) (OnReadyPath at.now.near at.now.areas (V.held view.now) (V.hints view.now) at.now.root at.now.key.now)) }
     ensures first { IfErr result (HoldsFirst (V.held view.now)) }
-    ensures taken { IfErr result (IfFirst (TakesSlots (V.held view.now) near.0 near.1 [])) }
-    ensures full { IfErr result (IfFull (NoSlots (V.held view.now) near.0 near.1 [])) }
+    ensures taken { IfErr result (IfFirst (TakesSlots (V.held view.now) at.now.near at.now.areas [])) }
+    ensures full { IfErr result (IfFull (NoSlots (V.held view.now) at.now.near at.now.areas [])) }
 {
-    match key_by_number(alloc, number) {
-        Err(_) => Err(ChangeError::Stopped(Stop::OutOfMemory)),
-        Ok(key) => room_at(alloc, view, root, key.bytes(), near),
-    }
-}
-
-/// The same of any key.
-fn room_at<V: View>(
-    alloc: Global,
-    view: &V,
-    root: u64,
-    key: &[u8],
-    near: (u16, u16),
-) -> Result<(), ChangeError>
-    ensures step { (volume : ℕ) (truth : Truth) (tree : Tree) (handle : ℕ) (inode : Kept) → IsDirectoryOf volume near.1 (V.held view.now) (V.hints view.now) truth tree handle inode → inode.tree ≡ root
-        → ReadyIn near.1 truth root key.now result }
-    ensures lacks { (volume : ℕ) (truth : Truth) (tree : Tree) (handle : ℕ) (inode : Kept) → IsDirectoryOf volume near.1 (V.held view.now) (V.hints view.now) truth tree handle inode → inode.tree ≡ root
-        → IfErr result (IfFirst (MakesRoom near.1 (V.held view.now) (V.hints view.now) truth root key.now)) }
-    ensures need { IfErr result (NeedsBy near.1 (V.held view.now) (OnReadyPath near.0 near.1 (V.held view.now) (V.hints view.now) root key.now)) }
-    ensures first { IfErr result (HoldsFirst (V.held view.now)) }
-    ensures taken { IfErr result (IfFirst (TakesSlots (V.held view.now) near.0 near.1 [])) }
-    ensures full { IfErr result (IfFull (NoSlots (V.held view.now) near.0 near.1 [])) }
-{
-    match ready(alloc, view, root, key, near.0, near.1) {
-        Err(error) => Err(ChangeError::of_tree(near.1, error)),
+    match ready(alloc, view, at) {
+        Err(error) => Err(ChangeError::of_tree(at.areas, error)),
         Ok(Some(draft)) => Err(ChangeError::Stopped(Stop::Inner(draft))),
         Ok(None) => Ok(()),
     }

@@ -1,7 +1,7 @@
 -- What an inode that was read has: its file, or that it is dead, and the chunks of its tree.
 use Rattle.std.specs.Prelude.{◌≡◌, ◌≢◌, ◌↔◌, ℕ, ◌++◌, List, Contains, Option, None, IfSome}
+pub use Rattle.bx_inodes.specs.Heads.{file_with}
 use Rattle.bx_layout.specs.declared.inode.Inode.{Inode}
-use Rattle.bx_tree_files.specs.declared.file.Body.{Body}
 use Rattle.bx_tree_files.specs.declared.file.File.{File}
 use Rattle.bx_tree_files.specs.Files.{IsFile}
 use Rattle.bx_truth.specs.PageTrees.{Chunks, Node, PageTree, IsTree, map_of}
@@ -12,21 +12,6 @@ use Rattle.bx_audit_bodies.specs.Claims.{AgreesWith, AreClaims, IsNamedBy}
 use Rattle.bx_audit_bodies.specs.Pieces.{ArePieces}
 use Rattle.bx_audit_bodies.specs.declared.claims.Claim.{Claim}
 use Rattle.bx_audit_bodies.specs.declared.pieces.Piece.{Piece}
-
--- the file with a handle and a body, whose other fields its inode has
-abbrev pub file_with : ℕ → Inode → Body → File
-file_with handle inode body = record {
-  handle = handle;
-  kind = inode.kind;
-  mode = inode.mode;
-  nlink = inode.nlink;
-  uid = inode.uid;
-  gid = inode.gid;
-  atime = inode.atime;
-  mtime = inode.mtime;
-  ctime = inode.ctime;
-  body = body;
-}
 
 -- Under the root is a tree whose entries are those of the pieces, and the claims are those of its pages and of the pieces.
 pub record HasPieces (chunks : Chunks) (root : ℕ) (pieces : List Piece) (claims : List Claim) : Type 0 where

@@ -1,7 +1,7 @@
 //! What inodes of each kind have.
 
 ghost use Rattle.std.specs.Prelude.{◌≡◌, ℕ, All, Contains, Option, IfOk, IsErrOf};
-ghost use Rattle.bx_audit_bodies.specs.Bodies.{HasPieces, IsBodyOf, file_with as file_with_body};
+ghost use Rattle.bx_audit_bodies.specs.Bodies.{HasPieces, IsBodyOf};
 ghost use Rattle.bx_audit_bodies.specs.Faults.{HasFaultIn};
 ghost use Rattle.bx_audit_bodies.specs.Outlines.{IsOutlineOf, IsRight};
 ghost use Rattle.bx_audit_bodies.specs.Parts.{IsPartWith, IsTornDead, IsTornTree};
@@ -23,8 +23,9 @@ use bx_audit_files::entries_of;
 use bx_audit_trees::{AuditError, torn_at, tree_under};
 use bx_base::Raw;
 use bx_homes::Blocks;
+use bx_inodes::file_with;
 use bx_layout::Inode;
-use bx_tree_files::{Body, File};
+use bx_tree_files::Body;
 use std::alloc::Global;
 
 /// The most bytes that a file has.
@@ -172,22 +173,4 @@ pub(crate) fn dead_of<B: Blocks>(
     let (pieces, claims) = pieces_under(alloc, blocks, areas, inode.tree)?;
     read_pieces(blocks, areas, &pieces)?;
     Ok(Outline::Dead(claims))
-}
-
-/// The file with a handle and a body, whose other fields its inode has.
-pub(crate) fn file_with(handle: u64, inode: &Inode, body: Body) -> File
-    ensures { result ≡ file_with_body handle inode.now body }
-{
-    File {
-        handle,
-        kind: inode.kind,
-        mode: inode.mode,
-        nlink: inode.nlink,
-        uid: inode.uid,
-        gid: inode.gid,
-        atime: inode.atime,
-        mtime: inode.mtime,
-        ctime: inode.ctime,
-        body,
-    }
 }

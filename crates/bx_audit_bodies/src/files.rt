@@ -12,12 +12,13 @@ ghost use Rattle.bx_tree_files.specs.declared.file.File.{File as Kept};
 ghost use Rattle.bx_tree_files.specs.Files.{IsFile};
 ghost use Rattle.bx_truth.specs.Stored.{Owner, Stored};
 
-use crate::bodies::{dead_of, directory_of, file_with, link_of, regular_of};
+use crate::bodies::{dead_of, directory_of, link_of, regular_of};
 use crate::contents::{bytes_of, check_pieces};
 use crate::outlines::{FileOutline, Outline, Parts};
 use bx_audit_files::inode_at;
 use bx_audit_trees::AuditError;
 use bx_homes::Blocks;
+use bx_inodes::file_with;
 use bx_tree_files::{Body, DIRECTORY, File, LINK, REGULAR};
 use std::alloc::Global;
 

@@ -16,14 +16,10 @@ pub(crate) fn by_number(alloc: Global, entry: &Entry) -> Result<Option<Name>, Ou
     ensures fits { IfOk result (λ found. IfSome found Fits) }
     ensures none { IfOk result (λ found. IfNone found ((name : Name) → Fits name → IsByNumber name entry.now → ⊥)) }
 {
-    let Some(number) = number_of(entry.key.bytes()) else {
-        return Ok(None);
-    };
-    let Some((handle, name)) = handle_in(entry.value.bytes()) else {
-        return Ok(None);
-    };
-    let name = name_with(alloc, number, name, handle)?;
-    Ok(Some(name))
+    match (number_of(entry.key.bytes()), handle_in(entry.value.bytes())) {
+        (Some(number), Some((handle, name))) => Ok(Some(name_with(alloc, number, name, handle)?)),
+        _ => Ok(None),
+    }
 }
 
 /// The name of which an entry is the one by name; `None` exactly where it is no name's.
@@ -32,14 +28,10 @@ pub(crate) fn by_name(alloc: Global, entry: &Entry) -> Result<Option<Name>, OutO
     ensures fits { IfOk result (λ found. IfSome found Fits) }
     ensures none { IfOk result (λ found. IfNone found ((name : Name) → Fits name → IsByName name entry.now → ⊥)) }
 {
-    let Some(name) = name_in(entry.key.bytes()) else {
-        return Ok(None);
-    };
-    let Some((number, handle)) = place_in(entry.value.bytes()) else {
-        return Ok(None);
-    };
-    let name = name_with(alloc, number, name, handle)?;
-    Ok(Some(name))
+    match (name_in(entry.key.bytes()), place_in(entry.value.bytes())) {
+        (Some(name), Some((number, handle))) => Ok(Some(name_with(alloc, number, name, handle)?)),
+        _ => Ok(None),
+    }
 }
 
 /// A name with its number and its handle.

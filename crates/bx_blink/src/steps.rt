@@ -148,7 +148,7 @@ fn onward<'a>(
 }
 
 /// Whether a page's keys are all below a key, so that the walk goes to the right.
-fn passes(page: &PageBytes, key: &[u8]) -> bool
+pub fn passes(page: &PageBytes, key: &[u8]) -> bool
     ensures { result ≡ passes page.now key.now }
 {
     match page.high() {
@@ -165,7 +165,7 @@ fn mode_at(target: u16, asked: Mode, level: u16) -> Mode
 }
 
 /// The handle at the greatest key that isn't above a key; 0 where there is none.
-fn child_of(page: &PageBytes, key: &[u8]) -> u64
+pub fn child_of(page: &PageBytes, key: &[u8]) -> u64
     ensures { result ≡ child_of page.now key.now }
 {
     match page.last_up_to(key) {
@@ -175,7 +175,7 @@ fn child_of(page: &PageBytes, key: &[u8]) -> u64
 }
 
 /// The handle that a value is; 0 where it hasn't got eight bytes.
-fn handle_in(value: &[u8]) -> u64
+pub fn handle_in(value: &[u8]) -> u64
     ensures { result ≡ handle_in value.now }
 {
     if value.len() == 8 {

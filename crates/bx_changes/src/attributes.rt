@@ -1,20 +1,11 @@
 //! SETATTR.
 
 ghost use Rattle.std.specs.Prelude.{◌≡◌, ℕ, false, List, IfOk, IsSome, Some};
-ghost use Rattle.bx_base.specs.declared.names.Mode.TheVariants.{Exclusive};
-ghost use Rattle.bx_handles.specs.Handles.{named};
-ghost use Rattle.bx_hints.specs.Fitting.{HintsFitAll};
-ghost use Rattle.bx_inodes.specs.Inodes.{HoldsInode, IsInodeOf};
-ghost use Rattle.bx_layout.specs.Inodes.{IsInode};
-ghost use Rattle.bx_model.specs.declared.tree.Tree.{Tree};
 ghost use Rattle.bx_model.specs.Writing.{setattr};
 ghost use Rattle.bx_tree_files.specs.Times.{is_given};
-ghost use Rattle.bx_truth.specs.Chunks.{IsChunked, block_at};
-ghost use Rattle.bx_views.specs.Attempts.{IsHeldDraft};
-ghost use Rattle.bx_views.specs.Truths.{Held, Hints, IsTruth, Truth, with_draft};
-ghost use Rattle.bx_inodes.specs.Stands.{Stands};
-ghost use Rattle.bx_inodes.specs.Stops.{NeedsOn, NeverInner, OnInode};
+ghost use Rattle.bx_truth.specs.Chunks.{IsChunked};
 ghost use Rattle.bx_changes.specs.Changes.{IsChange, IsOneBlock, NeedsNothing};
+ghost use Rattle.bx_changes.specs.Procedures.{Exclusive, Held, Hints, HintsFitAll, HoldsInode, IsHeldDraft, IsInode, IsInodeOf, IsTruth, NeedsOn, NeverInner, OnInode, Stands, Tree, Truth, block_at, named, with_draft};
 
 use crate::given::{is_forbidden, with_given};
 use crate::rewriting::rewritten;

@@ -3,29 +3,17 @@
 ghost use Rattle.std.specs.Prelude.{◌≡◌, ◌<◌, ◌≤◌, ◌↔◌, length, IsTrue, IfOk, IfSome};
 ghost use Rattle.bx_page.specs.Contents.{IsPage};
 ghost use Rattle.bx_page.specs.Keys.{IsBelow};
-ghost use Rattle.bx_truth.specs.PageTrees.{handle_in as handle_of};
 ghost use Rattle.bx_clean.specs.Pages.{AbsorbsNext, CutsFirst, LedBy, PutsFirst, StripsPage, TakesFirst};
 
 use crate::held::page_at;
 use crate::puts::{page_put, put_and_free};
 use bx_base::{OutOfMemory, Raw};
+use bx_blink::handle_in;
 use bx_chunks::ChunkError;
 use bx_page::{Entry, Page, PageError};
 use bx_records::Draft;
 use bx_views::View;
-use byteorder::{BigEndian, ByteOrder};
 use std::alloc::Global;
-
-/// The handle that a value is; 0 where it hasn't got eight bytes.
-pub(crate) fn handle_in(value: &[u8]) -> u64
-    ensures { result ≡ handle_of value.now }
-{
-    if value.len() == 8 {
-        BigEndian::read_u64(value)
-    } else {
-        0
-    }
-}
 
 /// Puts a root with its first entry alone: what its other entries name is still led to by right links.
 pub(crate) fn strip(alloc: Global, handle: u64, page: &Page) -> Result<Draft, ChunkError>

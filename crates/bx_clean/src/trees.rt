@@ -4,8 +4,9 @@ ghost use Rattle.bx_page.specs.Contents.{IsPage};
 ghost use Rattle.bx_clean.specs.Trees.{ShrinksAbove, ShrinksBelow};
 
 use crate::held::page_at;
-use crate::pages::{absorb, cut, handle_in, strip};
+use crate::pages::{absorb, cut, strip};
 use crate::puts::put_and_free;
+use bx_blink::handle_in;
 use bx_chunks::ChunkError;
 use bx_page::Page;
 use bx_records::Draft;

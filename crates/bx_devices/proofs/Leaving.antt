@@ -1,5 +1,5 @@
 -- What an event leaves of streams, of what is owed and needed, and of disks.
-use Rattle.std.proofs.Common.{◌≡◌, ◌≢◌, inl, inr, ⊎_elim, ℕ, ◌+◌, ◌-◌, ◌<◌, ◌≤◌, List, Option, Some, None, Result, refl, sym, ◌∙◌, ap, subst, arith}
+use Rattle.std.proofs.Common.{◌≡◌, ◌≢◌, inl, inr, ⊎_elim, ℕ, ◌+◌, ◌-◌, ◌*◌, ◌<◌, ◌≤◌, List, Option, Some, None, Result, refl, sym, ◌∙◌, ap, subst, arith}
 use Rattle.std.proofs.lemmas.Bool.{cases_eq, cases_lt}
 use Rattle.bx_base.specs.declared.names.Actor.{Actor}
 use Rattle.bx_base.specs.declared.names.Actor.TheVariants.{Node, Replica, Server, Member}
@@ -15,34 +15,38 @@ use Rattle.bx_global.specs.declared.change.Change.{Change}
 use Rattle.bx_global.specs.declared.state.GlobalState.{GlobalState}
 use Rattle.bx_post.specs.declared.packets.Letter.{Letter}
 use Rattle.bx_mirror_client.specs.Asks.{asked_in}
-use Rattle.bx_mirror_client.specs.Streams.{Streaming, sent_in}
+use Rattle.bx_mirror_client.specs.Streams.{IsOwnRead, Streaming, sent_in}
 use Rattle.bx_mirror_client.proofs.Leaving as leaving
 use Rattle.bx_mirror_member.specs.Standing.{Standing}
 use Rattle.bx_devices.specs.Disks.{DisksAt, DisksIn, LabelsAt}
 use Rattle.bx_devices.specs.Events.{Goes, TakesAt}
-use Rattle.bx_devices.specs.Machines.{DeviceMachines, IsShape, OnlyMachine, StaysAway, due_at, due_in, need_in, needs_of, no_stream, nodes_of, slot_of, stream_of}
-use Rattle.bx_devices.specs.Meanings.{AreNew, IsFor}
-use Rattle.bx_devices.proofs.Shapes.{beyond, needs_behind, needs_here, needs_none}
+use Rattle.bx_devices.specs.Machines.{DeviceMachines, IsShape, OnlyMachine, StaysAway, due_at, due_in, need_in, needs_of, slot_needs, slot_of, stream_of}
+use Rattle.bx_devices.specs.Needs.{needs_behind, needs_here, needs_none, slot_in, slot_out}
 
 -- ---- streams
 
-node_goes : (Told : Type 0) (n : ℕ) (known : GlobalState) (input : Input) (o new : DeviceMachines) (change : Option Change) (before after : List Letter) (old now : Disks) → TakesAt Told (Node n) known input o new change before after old now → Goes (stream_of o n) (stream_of new n)
-node_goes Told n known input o new change before after old now is =
+node_goes : (Told : Type 0) (n : ℕ) (known : GlobalState) (input : Input) (o new : DeviceMachines) (change : Option Change) (before after : List Letter) (old now : Disks) → IsOwnRead (stream_of o n).session (stream_of o n).asks
+    → TakesAt Told (Node n) known input o new change before after old now → Goes (stream_of o n) (stream_of new n)
+node_goes Told n known input o new change before after old now own is =
     let leaves = leaving.leaves (stream_of o n) known input (stream_of new n) before after is.takes in
-    record { out = ⊎_elim (λ gone. inl (ap sent_in gone)) (λ same. inr same) leaves.out; asks = ⊎_elim (λ gone. inl (ap asked_in gone)) (λ same. inr same) leaves.asks }
+    let out = ⊎_elim (λ gone. inl (ap sent_in gone)) (λ same. inr same) leaves.out in
+    elim (leaves.own_read own) [
+      | inl same ↦ record { out = out; asks = inr same.1; new_session = λ other. absurd (other same.0) }
+      | inr gone ↦ record { out = out; asks = inl gone.0; new_session = λ other. ap asked_in gone.1 }
+    ]
 
 same_goes : (c new : Streaming) → new ≡ c → Goes c new
-same_goes c new e = record { out = inr (ap (λ (k : Streaming). sent_in k.out) e); asks = inr (ap (λ (k : Streaming). asked_in k.asks) e) }
+same_goes c new e = record { out = inr (ap (λ (k : Streaming). sent_in k.out) e); asks = inr (ap (λ (k : Streaming). asked_in k.asks) e); new_session = λ other. absurd (other (ap (λ (k : Streaming). k.session) e)) }
 
-pub event_goes : (Told : Type 0) (at : Actor) (known : GlobalState) (input : Input) (o new : DeviceMachines) (change : Option Change) (before after : List Letter) (old now : Disks) (node : ℕ) → TakesAt Told at known input o new change before after old now → OnlyMachine at o new
-    → Goes (stream_of o node) (stream_of new node)
-event_goes Told (Node n) known input o new change before after old now node is others = elim (cases_eq node n) [
-  | inl here ↦ subst (λ (k : ℕ). Goes (stream_of o k) (stream_of new k)) (sym here) (node_goes Told n known input o new change before after old now is)
+pub event_goes : (Told : Type 0) (at : Actor) (known : GlobalState) (input : Input) (o new : DeviceMachines) (change : Option Change) (before after : List Letter) (old now : Disks) (node : ℕ) → ((n : ℕ) → at ≡ Node n → IsOwnRead (stream_of o n).session (stream_of o n).asks)
+    → TakesAt Told at known input o new change before after old now → OnlyMachine at o new → Goes (stream_of o node) (stream_of new node)
+event_goes Told (Node n) known input o new change before after old now node own is others = elim (cases_eq node n) [
+  | inl here ↦ subst (λ (k : ℕ). Goes (stream_of o k) (stream_of new k)) (sym here) (node_goes Told n known input o new change before after old now (own n refl) is)
   | inr apart ↦ same_goes (stream_of o node) (stream_of new node) (others.streams node (λ same. apart cc))
 ]
-event_goes Told (Replica n) known input o new change before after old now node is others = same_goes (stream_of o node) (stream_of new node) (others.streams node (λ same. absurd cc))
-event_goes Told (Server n) known input o new change before after old now node is others = same_goes (stream_of o node) (stream_of new node) (others.streams node (λ same. absurd cc))
-event_goes Told (Member n) known input o new change before after old now node is others = same_goes (stream_of o node) (stream_of new node) (others.streams node (λ same. absurd cc))
+event_goes Told (Replica n) known input o new change before after old now node own is others = same_goes (stream_of o node) (stream_of new node) (others.streams node (λ same. absurd cc))
+event_goes Told (Server n) known input o new change before after old now node own is others = same_goes (stream_of o node) (stream_of new node) (others.streams node (λ same. absurd cc))
+event_goes Told (Member n) known input o new change before after old now node own is others = same_goes (stream_of o node) (stream_of new node) (others.streams node (λ same. absurd cc))
 
 pub event_session : (Told : Type 0) (at : Actor) (n : ℕ) (known : GlobalState) (input : Input) (o new : DeviceMachines) (change : Option Change) (before after : List Letter) (old now : Disks) → at ≡ Node n → TakesAt Told at known input o new change before after old now
     → (stream_of new n).session ≡ session_of known (stream_of o n).node (stream_of o n).boot
@@ -66,18 +70,27 @@ need_less room then None new same away = subst (λ (one : Option Standing). need
 need_less room then (Some m) None same away = omega arith
 need_less room then (Some m) (Some k) same away = omega (arith, same)
 
+slot_less : (o new : DeviceMachines) (n : ℕ) → new.made ≡ o.made → StaysAway o new → slot_needs new n ≤ slot_needs o n
+slot_less o new n made stays = elim (cases_lt n (2 * o.made.devices)) [
+  | inl less ↦ subst (λ (k : ℕ). k ≤ slot_needs o n) (sym (slot_in new n (subst (λ (m : Made). n < 2 * m.devices) (sym made) less)))
+      (subst (λ (k : ℕ). need_in (store_room new.made) (slot_of new n) ≤ k) (sym (slot_in o n less)) (need_less (store_room o.made) (store_room new.made) (slot_of o n) (slot_of new n) (ap store_room made) (stays.away n)))
+  | inr far ↦ subst (λ (k : ℕ). k ≤ slot_needs o n) (sym (slot_out new n (subst (λ (m : Made). 2 * m.devices ≤ n) (sym made) far))) (omega arith)
+]
+
 pub needs_no_more : (o new : DeviceMachines) → new.made ≡ o.made → StaysAway o new → NeedsNoMore (needs_of o) (needs_of new)
 needs_no_more o new made stays = record {
   each = λ disk. elim (cases_lt disk 3) [
     | inl less ↦ subst (λ (k : ℕ). k ≤ needs_of o disk) (sym (needs_none new disk less)) (omega arith)
-    | inr far ↦ subst (λ (k : ℕ). k ≤ needs_of o disk) (sym (needs_behind new disk far)) (subst (λ (k : ℕ). need_in (store_room new.made) (slot_of new (disk - 3)) ≤ k) (sym (needs_behind o disk far))
-        (need_less (store_room o.made) (store_room new.made) (slot_of o (disk - 3)) (slot_of new (disk - 3)) (ap store_room made) (stays.away (disk - 3))))
+    | inr far ↦ subst (λ (k : ℕ). k ≤ needs_of o disk) (sym (needs_behind new disk far)) (subst (λ (k : ℕ). slot_needs new (disk - 3) ≤ k) (sym (needs_behind o disk far)) (slot_less o new (disk - 3) made stays))
   ];
 }
 
 -- one that isn't up needs nothing
 pub needs_away : (o : DeviceMachines) (n : ℕ) → slot_of o n ≡ None → needs_of o (3 + n) ≡ 0
-needs_away o n none = needs_here o n ∙ ap (λ (slot : Option Standing). need_in (store_room o.made) slot) none
+needs_away o n none = needs_here o n ∙ elim (cases_lt n (2 * o.made.devices)) [
+  | inl less ↦ slot_in o n less ∙ ap (λ (slot : Option Standing). need_in (store_room o.made) slot) none
+  | inr far ↦ slot_out o n far
+]
 
 -- ---- disks
 
@@ -118,17 +131,3 @@ module _ {R : Type 0} (rack : racks.Ghosts R) (old new : R) (tells : rack.tells 
 
   pub replicas_kept : (at : Actor) (known : GlobalState) (input : Input) (o : DeviceMachines) → ((n : ℕ) → at ≡ Member n → IsShape o) → DisksAt rack old new at known input o → SameReplicas (rack.state old) (rack.state new) × SameLabels (rack.state old) (rack.state new)
   replicas_kept at known input o shape works = (record { each = λ d s less some. replica_kept at known input o shape works d s less }, record { each = λ d less. replica_kept at known input o shape works d 0 less })
-
--- ---- new ones
-
-pub new_own : (s : GlobalState) (o : DeviceMachines) (node : ℕ) → IsFor s o → node < nodes_of o → (stream_of o node).session ≡ session_of s node 0
-new_own s o node is less = ap (λ (c : Streaming). c.session) (is.made.streams node less)
-
-abbrev IsIdle : Streaming → Type 0
-IsIdle c = (sent_in c.out ≡ None) × (asked_in c.asks ≡ None)
-
-pub new_idle : (o : DeviceMachines) (node : ℕ) → AreNew o → IsIdle (stream_of o node)
-new_idle o node is = elim (cases_lt node (nodes_of o)) [
-  | inl there ↦ subst IsIdle (sym (is.made.streams node there)) (refl, refl)
-  | inr far ↦ subst IsIdle (sym (beyond o.streams node (no_stream node) (let long = is.shape.streams in omega (arith, far, long)))) (refl, refl)
-]

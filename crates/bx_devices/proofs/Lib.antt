@@ -1,7 +1,17 @@
 pub mod Shapes
 pub mod Owning
 pub mod Making
+pub mod Beginning
 pub mod Labelling
 pub mod Stepping
 pub mod Leaving
 pub mod Results
+pub mod Parts
+pub mod Going
+pub mod Serving
+pub mod Taken
+pub mod Cut
+pub mod Called
+pub mod Stopped
+pub mod Restarted
+pub mod Calling

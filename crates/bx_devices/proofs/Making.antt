@@ -8,7 +8,8 @@ use Rattle.bx_mirror_client.specs.Streams as streams
 use Rattle.bx_mirror_client.specs.Streams.{Streaming}
 use Rattle.bx_mirror_member.specs.Standing.{Standing, new_member}
 use Rattle.bx_devices.specs.Machines.{AreMade, IsOwn, IsShape, machines, no_stream}
-use Rattle.bx_devices.proofs.Shapes.{beyond}
+use Rattle.bx_devices.proofs.Owning.{some_room}
+use Rattle.bx_devices.specs.Needs.{beyond}
 
 -- so many members are made, and so many streams
 pub record AreMembers (made : Made) (count : ℕ) (members : List (Option Standing)) : Type 0 where
@@ -56,10 +57,13 @@ module _ (volume nodes devices areas : ℕ) (s : GlobalState) (members : List (O
       long far = let is = are_members.length_is in omega (arith, far, is)
 
       new_own : (n : ℕ) (m : Standing) → Some (new_member n Made_) ≡ Some m → IsOwn Made_ n m
-      new_own n m e = let same : new_member n Made_ ≡ m = cc in subst (λ (k : Standing). IsOwn Made_ n k) same (record { number = refl_number; made_is = refl_made })
+      new_own n m e = let same : new_member n Made_ ≡ m = cc in subst (λ (k : Standing). IsOwn Made_ n k) same (record { number = refl_number; made_is = refl_made; place = let some = some_room Made_ in omega (arith, some); quiet = λ due. refl_owed })
         where
           refl_number : n ≡ n
           refl_number = cc
 
           refl_made : Made_ ≡ Made_
           refl_made = cc
+
+          refl_owed : (new_member n Made_).owed ≡ []
+          refl_owed = cc

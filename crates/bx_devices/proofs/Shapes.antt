@@ -1,20 +1,14 @@
 -- The machines keep their shape as one of them changes, and members that are up have room.
-use Rattle.std.proofs.Common.{◌≡◌, inl, inr, ℕ, zero, suc, ◌+◌, ◌-◌, ◌*◌, ◌<◌, ◌≤◌, Bool, true, false, List, [], ◌∷◌, length, Option, Some, None, refl, sym, ◌∙◌, ap, subst, arith}
-use Rattle.std.specs.Prelude.{nat_lt, slice_index, slice_index_or, slice_set, if◌then◌else◌}
+use Rattle.std.proofs.Common.{◌≡◌, inl, inr, ℕ, ◌+◌, ◌*◌, ◌<◌, ◌≤◌, List, length, Option, Some, None, sym, ◌∙◌, ap, subst, arith}
+use Rattle.std.specs.Prelude.{slice_index, slice_index_or, slice_set}
 use Rattle.std.proofs.lemmas.Bool.{cases_eq, cases_lt}
-use Rattle.std.proofs.lemmas.Bool.Decides.{nat_tests}
 use Rattle.std.proofs.lemmas.List.{get_or-set_other, get_or-set_same, length-set}
 use Rattle.bx_facts.specs.Disks.{HasRoom}
 use Rattle.bx_facts.specs.Writes.{Made, store_room}
 use Rattle.bx_mirror_client.specs.Streams.{Streaming}
 use Rattle.bx_mirror_member.specs.Standing.{Standing, disk_in, room_in}
 use Rattle.bx_devices.specs.Machines.{DeviceMachines, IsOwn, IsShape, machines, need_in, needs_of, slot_of}
-
--- nothing stands beyond the end
-pub beyond : {A : Type 0} (all : List A) (n : ℕ) (none : A) → length all ≤ n → slice_index_or all n none ≡ none
-beyond [] n none far = refl
-beyond (one ∷ all) zero none far = absurd (omega (arith, far))
-beyond (one ∷ all) (suc n) none far = beyond all n none (omega (arith, far))
+use Rattle.bx_devices.specs.Needs.{beyond, needs_here, slot_in}
 
 module _ (volume nodes devices areas : ℕ) (streams : List Streaming) where
   abbrev Made_ : Made
@@ -60,42 +54,18 @@ module _ (volume nodes devices areas : ℕ) (streams : List Streaming) where
 
 -- ---- room
 
-pub needs_here : (o : DeviceMachines) (n : ℕ) → needs_of o (3 + n) ≡ need_in (store_room o.made) (slot_of o n)
-needs_here o n =
-    let e : nat_lt (3 + n) 3 ≡ false = grind (arith, nat_tests) in
-    let same : 3 + n - 3 ≡ n = omega arith in
-    ap (λ (b : Bool). if b then 0 else need_in (store_room o.made) (slot_of o (3 + n - 3))) e ∙ ap (λ (k : ℕ). need_in (store_room o.made) (slot_of o k)) same
-
 pub room_of : (o : DeviceMachines) (n : ℕ) (m : Standing) (sizes : List ℕ) → IsShape o → HasRoom (needs_of o) sizes → slot_of o n ≡ Some m → room_in m ≤ slice_index sizes (disk_in m)
 room_of o n m sizes shape room is =
     let own = shape.each n m is in
-    let needs : needs_of o (3 + n) ≡ store_room o.made = needs_here o n ∙ ap (λ (slot : Option Standing). need_in (store_room o.made) slot) is in
+    let needs : needs_of o (3 + n) ≡ store_room o.made = needs_here o n ∙ slot_in o n within ∙ ap (λ (slot : Option Standing). need_in (store_room o.made) slot) is in
     let here : store_room o.made ≤ slice_index sizes (3 + n) = subst (λ (k : ℕ). k ≤ slice_index sizes (3 + n)) needs (room.each (3 + n)) in
     subst (λ (made : Made). store_room made ≤ slice_index sizes (3 + m.number)) (sym own.made_is) (subst (λ (k : ℕ). store_room o.made ≤ slice_index sizes (3 + k)) (sym own.number) here)
+  where
+    nobody : None ≡ Some m → ⊥
+    nobody e = cc
 
--- ---- what is needed
-
-pub needs_none : (o : DeviceMachines) (disk : ℕ) → disk < 3 → needs_of o disk ≡ 0
-needs_none o disk less =
-    let e : nat_lt disk 3 ≡ true = grind (arith, nat_tests, less) in
-    ap (λ (b : Bool). if b then 0 else need_in (store_room o.made) (slot_of o (disk - 3))) e
-
-pub needs_behind : (o : DeviceMachines) (disk : ℕ) → 3 ≤ disk → needs_of o disk ≡ need_in (store_room o.made) (slot_of o (disk - 3))
-needs_behind o disk far =
-    let e : nat_lt disk 3 ≡ false = grind (arith, nat_tests, far) in
-    ap (λ (b : Bool). if b then 0 else need_in (store_room o.made) (slot_of o (disk - 3))) e
-
-slot_little : (room : ℕ) (slot : Option Standing) → need_in room slot ≤ room
-slot_little room None = omega arith
-slot_little room (Some m) = omega arith
-
-pub needs_little : (o : DeviceMachines) (disk : ℕ) → needs_of o disk ≤ store_room o.made
-needs_little o disk = elim (cases_lt disk 3) [
-  | inl less ↦ subst (λ (k : ℕ). k ≤ store_room o.made) (sym (needs_none o disk less)) (omega arith)
-  | inr far ↦ subst (λ (k : ℕ). k ≤ store_room o.made) (sym (needs_behind o disk far)) (slot_little (store_room o.made) (slot_of o (disk - 3)))
-]
-
-pub needs_of_volume : (o : DeviceMachines) (disk : ℕ) → length o.members ≡ 2 * o.made.devices → 3 + 2 * o.made.devices ≤ disk → needs_of o disk ≡ 0
-needs_of_volume o disk long past =
-    let none : slot_of o (disk - 3) ≡ None = beyond o.members (disk - 3) None (omega (arith, past, long)) in
-    needs_behind o disk (omega (arith, past)) ∙ ap (λ (slot : Option Standing). need_in (store_room o.made) slot) none
+    within : n < 2 * o.made.devices
+    within = elim (cases_lt n (2 * o.made.devices)) [
+      | inl less ↦ less
+      | inr far ↦ absurd (nobody (sym (beyond o.members n None (let long = shape.members in omega (arith, far, long))) ∙ is))
+    ]

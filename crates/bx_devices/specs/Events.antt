@@ -1,5 +1,5 @@
 -- What comes to a machine, and what becomes of it.
-use Rattle.std.specs.Prelude.{◌≡◌, ℕ, ◌*◌, ◌<◌, ◌⊎◌, List, Option, Some, None, if◌then◌else◌}
+use Rattle.std.specs.Prelude.{◌≡◌, ◌≢◌, ℕ, ◌*◌, ◌<◌, ◌⊎◌, List, Option, Some, None, if◌then◌else◌}
 use Rattle.bx_base.specs.declared.names.Actor.{Actor}
 use Rattle.bx_base.specs.declared.names.Actor.TheVariants.{Node, Replica, Server, Member}
 use Rattle.bx_disk.specs.Disks.{Disks}
@@ -60,10 +60,11 @@ TakesAt Told (Replica n) known input o new change before after old now = Passes 
 TakesAt Told (Server n) known input o new change before after old now = Passes o new change before after old now
 TakesAt Told (Member n) known input o new change before after old now = SlotTakes Told n (slot_of o n) known input new change before after old now
 
--- What a stream had out stays, or goes.
+-- What a stream had out stays, or goes: its read with its session alone.
 pub record Goes (c new : Streaming) : Type 0 where
   pub out : (sent_in new.out ≡ None) ⊎ (sent_in new.out ≡ sent_in c.out)
-  pub asks : (asked_in new.asks ≡ None) ⊎ (asked_in new.asks ≡ asked_in c.asks)
+  pub asks : (new.session ≢ c.session) ⊎ (asked_in new.asks ≡ asked_in c.asks)
+  pub new_session : new.session ≢ c.session → asked_in new.asks ≡ None
 
 -- A disk failed: its member knows the state, and all else is as it was.
 abbrev pub SlotFaults : GlobalState → Option Standing → Option Standing → Type 0

@@ -43,10 +43,12 @@ or_new made n (Some m) = m
 abbrev pub member_of : DeviceMachines → ℕ → Standing
 member_of o n = or_new o.made n (slot_of o n)
 
--- A member is the one of its number, of this volume.
+-- A member is the one of its number, of this volume. Its current piece begins within the device, and where no sync is owed nothing is.
 pub record IsOwn (made : Made) (n : ℕ) (m : Standing) : Type 0 where
   pub number : m.number ≡ n
   pub made_is : m.made ≡ made
+  pub place : m.place < store_room made
+  pub quiet : m.due ≡ false → m.owed ≡ []
 
 -- There are two members for each device, 1 to 4, and a stream for each node.
 pub record IsShape (o : DeviceMachines) : Type 0 where
@@ -86,13 +88,16 @@ due_at o (Replica n) = false
 due_at o (Server n) = false
 due_at o (Member n) = due_in (slot_of o n)
 
--- a member that is up needs all its sectors
+-- a member of the volume that is up needs all its sectors
 abbrev pub need_in : ℕ → Option Standing → ℕ
 need_in room None = 0
 need_in room (Some m) = room
 
+abbrev pub slot_needs : DeviceMachines → ℕ → ℕ
+slot_needs o n = if nat_lt n (2 * o.made.devices) then need_in (store_room o.made) (slot_of o n) else 0
+
 abbrev pub needs_of : DeviceMachines → ℕ → ℕ
-needs_of o disk = if nat_lt disk 3 then 0 else need_in (store_room o.made) (slot_of o (disk - 3))
+needs_of o disk = if nat_lt disk 3 then 0 else slot_needs o (disk - 3)
 
 -- and one that starts will
 abbrev pub wanted_in : Made → Actor → ℕ → ℕ

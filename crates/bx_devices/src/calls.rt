@@ -3,8 +3,9 @@
 ghost use Rattle.std.specs.Prelude.{◌≡◌, ◌≤◌, [], ◌++◌, IsSome, MatchOption, None, OnOk, is_some, length, not};
 ghost use Rattle.bx_base.specs.declared.names.Actor.TheVariants.{Node};
 ghost use Rattle.bx_facts.specs.Inputs.{IsStores, SendsOnly};
-ghost use Rattle.bx_mirror_client.specs.Asks.{answer_in};
+ghost use Rattle.bx_mirror_client.specs.Asks.{FitIfAsked, answer_in};
 ghost use Rattle.bx_mirror_client.specs.Letters.{read_letters, write_letters};
+ghost use Rattle.bx_mirror_client.specs.Sends.{FitIfOut};
 ghost use Rattle.bx_mirror_client.specs.Streams.{answered, asking, sending};
 ghost use Rattle.bx_devices.specs.Machines.{OnlyMachine, stream_of};
 
@@ -66,6 +67,7 @@ impl Devices {
         ensures sends { OnOk result (out.new ≡ out.old ++ write_letters [] (stream_of self.old node).node (stream_of self.new node).out (stream_of self.old node).rows) }
         ensures sent { OnOk result (SendsOnly IsStores out.old out.new) }
         ensures stays { ((stream_of self.new node).session ≡ (stream_of self.old node).session) × ((stream_of self.new node).asks ≡ (stream_of self.old node).asks) }
+        ensures numbers { OnOk result (FitIfOut (stream_of self.new node).out) }
         ensures only { OnlyMachine (Node node) self.old self.new }
     {
         self.streams[node as usize].write(runs, until, out)
@@ -86,6 +88,7 @@ impl Devices {
         ensures sends { OnOk result (out.new ≡ out.old ++ read_letters [] (stream_of self.old node).node (stream_of self.new node).asks (stream_of self.old node).rows) }
         ensures sent { OnOk result (SendsOnly IsStores out.old out.new) }
         ensures stays { ((stream_of self.new node).session ≡ (stream_of self.old node).session) × ((stream_of self.new node).out ≡ (stream_of self.old node).out) }
+        ensures numbers { OnOk result (FitIfAsked (stream_of self.new node).asks) }
         ensures only { OnlyMachine (Node node) self.old self.new }
     {
         self.streams[node as usize].read(device, place, sectors, out)

@@ -10,6 +10,7 @@ ghost use Rattle.bx_facts.specs.Inputs.{IsStores, SendsOnly};
 ghost use Rattle.bx_facts.specs.Machines.{IsMachine, OnlyAt};
 ghost use Rattle.bx_facts.specs.Writes.{label_on, store_room};
 ghost use Rattle.bx_facts.specs.declared.input.Input.TheVariants.{Synced};
+ghost use Rattle.bx_mirror_client.specs.Streams.{IsOwnRead};
 ghost use Rattle.bx_mirror_member.specs.Standing.{new_member};
 ghost use Rattle.bx_devices.specs.Disks.{DisksAt, Labels, LabelsAt};
 ghost use Rattle.bx_devices.specs.Events.{FaultsAt, Goes, RestartsAt, StopsAt, TakesAt, input_for};
@@ -103,6 +104,7 @@ impl Devices {
         ensures only { OnlyMachine at self.old self.new }
         ensures away { StaysAway self.old self.new }
         ensures shape { (n : ℕ) → at ≡ Member n → IsShape self.old }
+        ensures own_read { (node : ℕ) → at ≡ Node node → IsOwnRead (stream_of self.old node).session (stream_of self.old node).asks }
         ensures rack { Fails R.Rack rack.old rack.new result }
     {
         match at {
@@ -208,6 +210,7 @@ impl Devices {
         requires disk { HasRoom (wanted_of self.old who) (R.state rack.old).sizes }
         ensures restarts { OnOk result (RestartsAt who boot reading self.old self.new) }
         ensures failed { OnErr result (StopsAt who self.old self.new) }
+        ensures fails { OnErr result ((n : ℕ) × (who ≡ Member n)) }
         ensures labels { LabelsAt R.Rack rack.old rack.new (made_of self.old) who result }
         ensures only { OnlyMachine who self.old self.new }
         ensures disks { R.tells rack.old → OnlyDiskOf who (R.state rack.old) (R.state rack.new) }

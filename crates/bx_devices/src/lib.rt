@@ -5,6 +5,7 @@ mod calls;
 mod devices;
 mod events;
 mod laws;
+mod store;
 
 pub use devices::Devices;
-pub use laws::{new_ones_are_idle, what_is_owed_and_needed};
+pub use laws::made_for;

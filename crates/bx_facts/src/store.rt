@@ -1,6 +1,6 @@
 //! Stores: mirrored devices.
 
-ghost use Rattle.std.specs.Prelude.{◌≡◌, ◌≢◌, ℕ, ◌+◌, ◌-◌, ◌*◌, ◌<◌, ◌≤◌, ◌⊎◌, Bool, true, false, List, [], OnOk, IfOk, IfSome, IsErrOf, Option, Some, None, IsNone, IsSome};
+ghost use Rattle.std.specs.Prelude.{◌≡◌, ◌≢◌, ℕ, ◌+◌, ◌-◌, ◌*◌, ◌<◌, ◌≤◌, ◌⊎◌, Bool, true, false, List, [], OnOk, IfOk, IfSome, IsErrOf, Option, Some, None, IsNone, IsSome, is_some};
 ghost use Rattle.bx_base.specs.declared.names.Actor.{Actor};
 ghost use Rattle.bx_base.specs.declared.names.Actor.TheVariants.{Node, Member};
 ghost use Rattle.bx_disk.specs.Disks.{Disks, blanked, sector_of};
@@ -83,6 +83,14 @@ pub trait Store: Drop {
 
     /// What an event of a machine makes of it, exactly.
     ghost steps: { Self → GlobalState → Actor → Input → Self → Type 0 };
+
+    /// The session that the node's packets carry; `None` exactly where it has no live session that it knows. It takes no memory.
+    fn session(&self, node: u32) -> Option<u64>
+        ensures { result ≡ own self.now node };
+
+    /// Whether the node's read is out, or its answer wasn't taken yet. It takes no memory.
+    fn is_reading(&self, node: u32) -> bool
+        ensures { result ≡ is_some (asked self.now node) };
 
     /// Sends a write, of the node's session.
     fn write(
@@ -181,8 +189,8 @@ pub trait Store: Drop {
         ensures new_session_faulted { (node : ℕ) → IsErrOf result DiskFails → own self.new node ≢ own self.old node → asked self.new node ≡ None }
         ensures out { (node : ℕ) → OnOk result ((out_of self.new node ≡ None) ⊎ (out_of self.new node ≡ out_of self.old node)) }
         ensures out_faulted { (node : ℕ) → IsErrOf result DiskFails → (out_of self.new node ≡ None) ⊎ (out_of self.new node ≡ out_of self.old node) }
-        ensures asked { (reader : ℕ) → OnOk result ((asked self.new reader ≡ None) ⊎ (asked self.new reader ≡ asked self.old reader)) }
-        ensures asked_faulted { (reader : ℕ) → IsErrOf result DiskFails → (asked self.new reader ≡ None) ⊎ (asked self.new reader ≡ asked self.old reader) }
+        ensures asked { (reader : ℕ) → OnOk result ((own self.new reader ≢ own self.old reader) ⊎ (asked self.new reader ≡ asked self.old reader)) }
+        ensures asked_faulted { (reader : ℕ) → IsErrOf result DiskFails → (own self.new reader ≢ own self.old reader) ⊎ (asked self.new reader ≡ asked self.old reader) }
         ensures kind { IfOk result (λ change. IfSome change IsStoresKind) }
         ensures hands { IfOk result (hands self.old known.now at input.now) }
         ensures steps { OnOk result (steps self.old known.now at input.now self.new) }

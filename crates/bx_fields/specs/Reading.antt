@@ -1,6 +1,7 @@
 -- Reading parts from the front of bytes. A part is a value and the bytes behind it.
-use Rattle.std.specs.Prelude.{◌≡◌, ℕ, zero, suc, Bool, List, [], ◌∷◌, length, take, drop, Option, Some, None, Result, Ok, Err, nat_lt, if◌then◌else◌}
+use Rattle.std.specs.Prelude.{◌≡◌, ℕ, zero, suc, Bool, List, [], ◌∷◌, length, take, drop, replicate, Option, Some, None, Result, Ok, Err, nat_lt, if◌then◌else◌}
 use Rattle.std.specs.Int.{Width, byte_len, from_be_bytes}
+use Rattle.bx_base.specs.declared.memory.OutOfMemory.{OutOfMemory}
 use Rattle.bx_fields.specs.declared.error.ReadError.{ReadError}
 use Rattle.bx_fields.specs.declared.error.ReadError.TheVariants as errors
 
@@ -17,6 +18,24 @@ Fails errors.Malformed read = read ≡ None
 abbrev pub Gives : {X Y : Type 0} → (X → Y) → Result X ReadError → Option Y → Type 0
 Gives view (Ok x) read = read ≡ Some (view x)
 Gives view (Err e) read = Fails e read
+
+-- A value with these bytes behind it is all of the bytes: none are behind it.
+abbrev pub IsAll : {T : Type 0} → T → List ℕ → Result T ReadError → Type 0
+IsAll value rest (Ok x) = (x ≡ value) × (rest ≡ [])
+IsAll value rest (Err error) = (error ≡ errors.Malformed) × (rest ≡ [] → ⊥)
+
+-- these bytes are zeros
+abbrev pub AreZeros : List ℕ → Type 0
+AreZeros bytes = bytes ≡ replicate (length bytes) 0
+
+-- What a function returned, seen by view, is a value with only zeros behind it, unless memory ran out.
+abbrev pub IsBeforeZeros : {X T : Type 0} → (X → T × List ℕ) → Result X ReadError → Result (Option T) OutOfMemory → Type 0
+IsBeforeZeros view (Ok x) (Ok (Some value)) = ((view x).0 ≡ value) × AreZeros (view x).1
+IsBeforeZeros view (Ok x) (Ok None) = AreZeros (view x).1 → ⊥
+IsBeforeZeros view (Ok x) (Err error) = ⊥
+IsBeforeZeros view (Err errors.Malformed) result = result ≡ Ok None
+IsBeforeZeros view (Err errors.OutOfMemory) (Ok found) = ⊥
+IsBeforeZeros view (Err errors.OutOfMemory) (Err error) = Unit {0}
 
 -- what reads a part
 abbrev pub Reader : Type 0 → Type 0

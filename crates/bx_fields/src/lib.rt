@@ -9,5 +9,5 @@ mod writing;
 
 pub use error::ReadError;
 pub use laws::writes_are_whole;
-pub use reading::{are_zeros, front_at, u16_at, u32_at, u64_at};
+pub use reading::{all_of, are_zeros, before_zeros, front_at, u16_at, u32_at, u64_at};
 pub use writing::{clear_from, push, push_u32, push_u64, put, put_u16, put_u32, put_u64};

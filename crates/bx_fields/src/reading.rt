@@ -2,10 +2,11 @@
 
 ghost use Rattle.std.specs.Prelude.{◌≡◌, ◌↔◌, IsTrue, IfErr, length, replicate};
 ghost use Rattle.std.specs.Int.{w16, w32, w64};
-ghost use Rattle.bx_fields.specs.Reading.{Gives, number_at, bytes_at};
+ghost use Rattle.bx_fields.specs.Reading.{Gives, IsAll, IsBeforeZeros, number_at, bytes_at};
 ghost use Rattle.bx_fields.specs.declared.error.ReadError.TheVariants.{Malformed};
 
 use crate::error::ReadError;
+use bx_base::OutOfMemory;
 use byteorder::{BigEndian, ByteOrder};
 
 /// The number of two bytes at the front, and the bytes behind it; `Malformed` exactly where there are fewer bytes.
@@ -44,6 +45,29 @@ pub fn front_at(bytes: &[u8], len: usize) -> Result<(&[u8], &[u8]), ReadError>
         return Err(ReadError::Malformed);
     }
     Ok(bytes.split_at(len))
+}
+
+/// What was read, where no bytes are left behind it; `Malformed` exactly where some are.
+pub fn all_of<T: Drop>(read: (T, &[u8])) -> Result<T, ReadError>
+    ensures { IsAll read.entry.0 read.entry.1.now result }
+{
+    let (value, rest) = read;
+    if rest.is_empty() {
+        Ok(value)
+    } else {
+        Err(ReadError::Malformed)
+    }
+}
+
+/// What was read, where only zeros are left behind it; `None` exactly where the bytes are malformed or something else is left.
+pub fn before_zeros<T: Drop>(read: Result<(T, &[u8]), ReadError>) -> Result<Option<T>, OutOfMemory>
+    ensures { IsBeforeZeros (λ x. (x.0, x.1.now)) read.entry result }
+{
+    match read {
+        Ok((value, rest)) if are_zeros(rest) => Ok(Some(value)),
+        Ok(_) | Err(ReadError::Malformed) => Ok(None),
+        Err(ReadError::OutOfMemory) => Err(OutOfMemory),
+    }
 }
 
 /// Whether all bytes are zero.

@@ -6,7 +6,7 @@ mod pieces;
 mod reading;
 mod searching;
 
-pub use keys::{content_key, handle_in};
+pub use keys::content_key;
 pub use pieces::PIECE;
 pub use reading::{MOST_BYTES, read};
 pub use searching::{needed, value_at};

@@ -12,8 +12,9 @@ ghost use Rattle.bx_inodes.specs.Stops.{NeedsOn, NeverInner};
 ghost use Rattle.bx_files.specs.Paths.{IsBlockOf, OnPiece};
 ghost use Rattle.bx_files.specs.Reads.{Tells};
 
-use crate::keys::{content_key, handle_in};
+use crate::keys::content_key;
 use crate::searching::{needed, value_at};
+use bx_blink::handle_in;
 use bx_chunks::ChunkError;
 use bx_inodes::Stop;
 use bx_layout::Block;

@@ -5,7 +5,7 @@ use Rattle.bx_fields.specs.Writing.{padded}
 use Rattle.bx_layout.specs.declared.block.Block.{Block}
 use Rattle.bx_layout.specs.declared.label.Label.{Label}
 use Rattle.bx_layout.specs.Labels.{label_text}
-use Rattle.bx_places.specs.Places.{IsBlock, block_area, block_slot, disk_count, disk_sectors}
+use Rattle.bx_places.specs.Places.{IsBlock, IsVolume, block_area, block_slot, disk_count, disk_sectors}
 use Rattle.bx_truth.specs.Opening.{area_block, free_block, opening_truth}
 use Rattle.bx_views.specs.Truths.{Truth}
 use Rattle.bx_volume.specs.Images.{devices_of}
@@ -50,6 +50,11 @@ pub record HasLabels (image : Image) (first : Label) (disks : ℕ) : Type 0 wher
 pub record HasSizes (sizes : List ℕ) (devices areas : ℕ) : Type 0 where
   pub count : length sizes ≡ disk_count devices
   pub each : (disk : ℕ) → disk < disk_count devices → slice_index sizes disk ≡ disk_sectors devices areas disk
+
+-- so many devices and areas are a volume's, and there are disks of the sizes that it has
+pub record FitsVolume (disks : List ℕ) (devices areas : ℕ) : Type 0 where
+  pub volume : IsVolume devices areas
+  pub sizes : HasSizes disks devices areas
 
 -- A volume that was just made, and nothing but that: labels, the blocks of the opening truth, zeros in the logs and on the disks of
 -- replicas, and all of it sure.

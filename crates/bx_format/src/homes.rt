@@ -7,7 +7,7 @@ ghost use Rattle.bx_places.specs.Places.{IsVolume, IsBlock};
 ghost use Rattle.bx_truth.specs.Opening.{page_block, root_block};
 ghost use Rattle.bx_views.specs.Truths.{Truth};
 ghost use Rattle.bx_format.specs.Moments.{IsLabelSector, Spares};
-ghost use Rattle.bx_format.specs.Formats.{areas_truth, HasSizes, HoldsBlocks, KeepsFront, with_block};
+ghost use Rattle.bx_format.specs.Formats.{areas_truth, FitsVolume, HasSizes, HoldsBlocks, KeepsFront, with_block};
 
 use crate::blocks::{inode_block, own_block, tree_block};
 use bx_calls::write_some;
@@ -48,8 +48,7 @@ pub(crate) fn write_areas<R: Rack>(
     devices: u32,
     areas: u16,
 ) -> Result<(), RackError>
-    requires volume { IsVolume devices areas }
-    requires sizes { HasSizes (R.state rack.old).sizes devices areas }
+    requires { FitsVolume (R.state rack.old).sizes devices areas }
     ensures blocks { R.tells rack.old → HoldsBlocks (R.state rack.old).reads devices areas (areas_truth 0) → OnOk result (HoldsBlocks (R.state rack.new).reads devices areas (areas_truth areas)) }
     ensures spares { R.tells rack.old → Spares IsLabelSector (R.state rack.old) (R.state rack.new) (R.moment rack.old) (R.moment rack.new) (R.left_since rack.old) (R.left_since rack.new) }
     ensures front { R.tells rack.old → KeepsFront (R.state rack.old) (R.state rack.new) }
@@ -69,8 +68,7 @@ pub(crate) fn write_root<R: Rack>(
     devices: u32,
     areas: u16,
 ) -> Result<(), RackError>
-    requires volume { IsVolume devices areas }
-    requires sizes { HasSizes (R.state rack.old).sizes devices areas }
+    requires { FitsVolume (R.state rack.old).sizes devices areas }
     ensures puts { (truth : Truth) → R.tells rack.old → HoldsBlocks (R.state rack.old).reads devices areas truth → OnOk result (HoldsBlocks (R.state rack.new).reads devices areas (with_block (with_block truth 0 root_block) 1 page_block)) }
     ensures spares { R.tells rack.old → Spares IsLabelSector (R.state rack.old) (R.state rack.new) (R.moment rack.old) (R.moment rack.new) (R.left_since rack.old) (R.left_since rack.new) }
     ensures front { R.tells rack.old → KeepsFront (R.state rack.old) (R.state rack.new) }

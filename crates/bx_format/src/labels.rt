@@ -2,9 +2,9 @@
 
 ghost use Rattle.std.specs.Prelude.{◌≡◌, ℕ, ◌+◌, ◌*◌, ◌<◌, false, OnOk};
 ghost use Rattle.bx_disk.specs.Kept.{Fails, Faults};
-ghost use Rattle.bx_places.specs.Places.{IsVolume, disk_count};
+ghost use Rattle.bx_places.specs.Places.{disk_count};
 ghost use Rattle.bx_format.specs.Moments.{IsAnySector, IsBehindLabel, Spares};
-ghost use Rattle.bx_format.specs.Formats.{HasLabels, HasSizes, KeepsBehind};
+ghost use Rattle.bx_format.specs.Formats.{FitsVolume, HasLabels, KeepsBehind};
 
 use bx_calls::{sync_disk, write_some};
 use bx_disk::{DiskFault, Rack, RackError};
@@ -17,8 +17,7 @@ pub(crate) fn write_labels<R: Rack>(
     devices: u32,
     areas: u16,
 ) -> Result<(), RackError>
-    requires volume { IsVolume devices areas }
-    requires sizes { HasSizes (R.state rack.old).sizes devices areas }
+    requires { FitsVolume (R.state rack.old).sizes devices areas }
     ensures labels { R.tells rack.old → OnOk result (HasLabels (R.state rack.new).reads (record { volume = volume; disk = 0; devices = devices; areas = areas }) (disk_count devices)) }
     ensures spares { R.tells rack.old → Spares IsBehindLabel (R.state rack.old) (R.state rack.new) (R.moment rack.old) (R.moment rack.new) (R.left_since rack.old) (R.left_since rack.new) }
     ensures behind { R.tells rack.old → KeepsBehind (R.state rack.old) (R.state rack.new) }

@@ -5,14 +5,21 @@ use Rattle.bx_rows.specs.declared.device.DeviceRow.{DeviceRow}
 use Rattle.bx_rows.specs.declared.session.SessionRow.{SessionRow}
 use Rattle.bx_rows.specs.Modes.{both}
 
--- the session that a node begins with: its slot has the node's number
-abbrev pub node_row : ℕ → SessionRow
-node_row node = record { number = node + 1; node = node; boot = 0; slot = node; until = 4000; dead = 0; by = 0 }
+-- the session of a node that lasts up to a moment: its slot has the node's number
+abbrev pub row_until : ℕ → ℕ → SessionRow
+row_until until node = record { number = node + 1; node = node; boot = 0; slot = node; until = until; dead = 0; by = 0 }
 
--- the sessions of the first nodes
+-- such sessions of the first nodes
+abbrev pub rows_until : ℕ → ℕ → List SessionRow
+rows_until until zero = []
+rows_until until (suc n) = rows_until until n ++ row_until until n ∷ []
+
+-- the sessions that nodes begin with
+abbrev pub node_row : ℕ → SessionRow
+node_row node = row_until 4000 node
+
 abbrev pub node_rows : ℕ → List SessionRow
-node_rows zero = []
-node_rows (suc n) = node_rows n ++ node_row n ∷ []
+node_rows nodes = rows_until 4000 nodes
 
 -- a device of which no mode was ever set
 abbrev pub first_device : DeviceRow

@@ -1,7 +1,7 @@
 //! States to begin with.
 
 ghost use Rattle.std.specs.Prelude.{◌≡◌, IfOk, replicate};
-ghost use Rattle.bx_global.specs.Opening.{first_device, formatted_state, node_rows, opening_state};
+ghost use Rattle.bx_global.specs.Opening.{first_device, formatted_state, opening_state, rows_until};
 
 use bx_base::{List, OutOfMemory};
 use bx_global::GlobalState;
@@ -25,7 +25,7 @@ pub fn opening(alloc: Global, nodes: u32, devices: u32) -> Result<GlobalState, O
         term: 1,
         term_end: FIRST_TERM_END,
         next_session: u64::from(nodes) + 1,
-        sessions: first_sessions(alloc, nodes)?,
+        sessions: sessions_until(alloc, nodes, FIRST_UNTIL)?,
         devices: first_devices(alloc, devices)?,
     })
 }
@@ -46,9 +46,13 @@ pub fn formatted(alloc: Global, devices: u32) -> Result<GlobalState, OutOfMemory
     })
 }
 
-/// The sessions of this many nodes.
-fn first_sessions(alloc: Global, nodes: u32) -> Result<List<SessionRow>, OutOfMemory>
-    ensures { IfOk result (λ rows. rows ≡ node_rows nodes) }
+/// The sessions of this many nodes, which last up to a moment.
+pub fn sessions_until(
+    alloc: Global,
+    nodes: u32,
+    until: u64,
+) -> Result<List<SessionRow>, OutOfMemory>
+    ensures { IfOk result (λ rows. rows ≡ rows_until until nodes) }
 {
     let mut rows = List::new(alloc);
     for node in 0..nodes {
@@ -57,7 +61,7 @@ fn first_sessions(alloc: Global, nodes: u32) -> Result<List<SessionRow>, OutOfMe
             node,
             boot: 0,
             slot: node,
-            until: FIRST_UNTIL,
+            until,
             dead: 0,
             by: 0,
         })?;

@@ -5,7 +5,7 @@ mod begin;
 mod byte_laws;
 mod laws;
 
-pub use begin::{formatted, opening};
+pub use begin::{formatted, opening, sessions_until};
 pub use byte_laws::{most_bytes, one_reading, written_reads};
 pub use laws::{
     begins_allowed, modes_follow, numbers_rise, others_stay, sessions_end, stays_allowed,

@@ -1,5 +1,5 @@
 -- What every read of blocks asks, keeps and counts.
-use Rattle.std.specs.Prelude.{◌≡◌, ◌≤◌, ℕ, Result, OnOk, IsErrOf}
+use Rattle.std.specs.Prelude.{◌<◌, ◌≡◌, ◌≤◌, ℕ, Result, OnOk, IsErrOf}
 use Rattle.bx_base.specs.Faults.{Rose}
 use Rattle.bx_disk.specs.declared.fault.RackError.{RackError}
 use Rattle.bx_disk.specs.declared.fault.RackError.TheVariants.{Fault, OutOfMemory}
@@ -10,6 +10,12 @@ pub record CanRead {B : Type 0} (blocks : givers.Ghosts B) (areas : ℕ) (now : 
   pub ready : blocks.ready now
   pub areas_are : blocks.areas now ≡ areas
   pub most : areas ≤ 64
+
+-- those of one of its areas can be
+pub record CanReadArea {B : Type 0} (blocks : givers.Ghosts B) (area : ℕ) (now : B) : Type 0 where
+  pub ready : blocks.ready now
+  pub there : area < blocks.areas now
+  pub most : blocks.areas now ≤ 64
 
 -- A read that a fault may end, or want of memory: a fault is counted, and nothing else. The volume has as many areas as before, it can be read on, and
 -- what tells the blocks goes on to tell them.

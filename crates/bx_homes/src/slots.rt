@@ -6,7 +6,7 @@ ghost use Rattle.bx_places.specs.Places.{IsBlock};
 ghost use Rattle.bx_truth.specs.Chunks.{IsAreaBlock, IsChunked, own_block};
 ghost use Rattle.bx_views.specs.Truths.{Truth};
 ghost use Rattle.bx_homes.specs.Slots.{AreBlocks, HasBlock, HasArea, HasHandle, HasHeader, IsAreaChunked, IsAreaFault, IsFirstFault, StaysSo, wanted_handle};
-ghost use Rattle.bx_homes.specs.Reading.{CanRead, ReadsBlocks};
+ghost use Rattle.bx_homes.specs.Reading.{CanRead, CanReadArea, ReadsBlocks};
 
 use crate::blocks::Blocks;
 use bx_base::OutOfMemory;
@@ -58,9 +58,7 @@ fn fault_in<B: Blocks>(
     blocks: &mut B,
     area: u16,
 ) -> Result<Option<WrongBlock>, RackError>
-    requires ready { B.ready blocks.old }
-    requires area { area < B.areas blocks.old }
-    requires most { B.areas blocks.old ≤ 64 }
+    requires area { CanReadArea B.Blocks area blocks.old }
     ensures none { B.tells blocks.old → IfOk result (λ found. IfNone found ((truth : Truth) → AreBlocks (B.areas blocks.old) (B.stands blocks.old) truth → IsAreaChunked truth area)) }
     ensures there { B.tells blocks.old → IfOk result (λ found. IfNone found (HasArea (B.stands blocks.old) area)) }
     ensures some { B.tells blocks.old → IfOk result (λ found. IfSome found (λ wrong. (truth : Truth) → AreBlocks (B.areas blocks.old) (B.stands blocks.old) truth → IsAreaFault truth area wrong.at)) }
@@ -89,9 +87,7 @@ fn wrong_block<B: Blocks>(
     slot: u16,
     wanted: u64,
 ) -> Result<WrongBlock, RackError>
-    requires ready { B.ready blocks.old }
-    requires area { area < B.areas blocks.old }
-    requires most { B.areas blocks.old ≤ 64 }
+    requires area { CanReadArea B.Blocks area blocks.old }
     requires slot { slot ≤ 960 }
     ensures at { IfOk result (λ wrong. wrong.at ≡ 1024 * area + slot) }
     ensures found { B.tells blocks.old → IfOk result (λ wrong. HasHandle (B.stands blocks.old) wrong.at wrong.found) }
@@ -113,9 +109,7 @@ fn slots_of<B: Blocks>(
     blocks: &mut B,
     area: u16,
 ) -> Result<Option<AreaBlock>, RackError>
-    requires ready { B.ready blocks.old }
-    requires area { area < B.areas blocks.old }
-    requires most { B.areas blocks.old ≤ 64 }
+    requires area { CanReadArea B.Blocks area blocks.old }
     ensures there { B.tells blocks.old → IfOk result (λ found. IfSome found (λ slots. HasBlock (B.stands blocks.old) (own_block area))) }
     ensures own { B.tells blocks.old → IfOk result (λ found. IfSome found (λ slots. (truth : Truth) → AreBlocks (B.areas blocks.old) (B.stands blocks.old) truth → IsAreaBlock area (truth (own_block area)))) }
     ensures spells { B.tells blocks.old → IfOk result (λ found. IfSome found (λ slots. (truth : Truth) → AreBlocks (B.areas blocks.old) (B.stands blocks.old) truth → SpellsArea slots (truth (own_block area)).payload)) }

@@ -1,6 +1,6 @@
 -- What an inode that is put into a draft makes of a tree, and that it is held.
 use Rattle.std.proofs.Common.{◌≡◌, ℕ, Bool, true, false, eqb-true, List, [], ◌∷◌, sym, ap, ◌∙◌, subst, refl, Option, Some, None}
-use Rattle.std.specs.Prelude.{◌==◌, if◌then◌else◌, IsSome, OnOk, Result, Ok, Err, unwrap_or}
+use Rattle.std.specs.Prelude.{◌==◌, if◌then◌else◌, IsSome, unwrap_or}
 use Rattle.bx_base.specs.declared.names.Mode.TheVariants.{Exclusive}
 use Rattle.bx_layout.specs.declared.block.Block.{Block}
 use Rattle.bx_layout.specs.declared.inode.Inode.{Inode}
@@ -54,7 +54,7 @@ module _ (areas : ℕ) (truth : Truth) (old_draft new_draft : List Changed) (tre
   abbrev after : Tree
   after = record tree { files = with_file tree.files file_now }
 
-  put_stands : PutsInode old_draft new_draft handle new → StandsFor areas (with_draft truth new_draft) after
+  pub put_stands : PutsInode old_draft new_draft handle new → StandsFor areas (with_draft truth new_draft) after
   put_stands p =
       let c = chunk_is areas (with_draft truth old_draft) handle holds.block holds.chunk in
       let header : holds.block.handle ≡ handle = ap (λ (b : Block). b.handle) (sym c.is_block) ∙ is.chunked.used (block_at handle) c.slot c.used ∙ sym c.is_handle in
@@ -63,14 +63,10 @@ module _ (areas : ℕ) (truth : Truth) (old_draft new_draft : List Changed) (tre
       (stands_same areas (with_draft (with_draft truth old_draft) ((block_at handle, p.block) ∷ [])) (with_draft truth (with_block old_draft (block_at handle) p.block))
       (λ at in_volume. truth_with (block_at handle) p.block truth old_draft at) after laid)
 
-  pub tree_put : {E : Type 0} (result : Result (Unit {0}) E) → OnOk result (PutsInode old_draft new_draft handle new) → OnOk result (StandsFor areas (with_draft truth new_draft) after)
-  tree_put (Ok done) p = put_stands p
-  tree_put (Err error) p = tt
-
 -- ---- what is held
 
 module _ (held : Held) (old new : List Changed) (handle : ℕ) (inode : Inode) (is : IsHeldDraft held old) (some : IsSome (held (block_at handle) Exclusive)) where
-  put_held : PutsInode old new handle inode → IsHeldDraft held new
+  pub put_held : PutsInode old new handle inode → IsHeldDraft held new
   put_held p = subst (IsHeldDraft held) (sym p.put) (record {
     each = λ at found. each_test at (block_at handle == at) refl (subst (λ (o : Option Block). IsSome o) (found_with (block_at handle) p.block old at) found);
     parts = λ are at block found. parts_test are at block (block_at handle == at) (sym (found_with (block_at handle) p.block old at) ∙ found);
@@ -83,7 +79,3 @@ module _ (held : Held) (old new : List Changed) (handle : ℕ) (inode : Inode) (
       parts_test : AreBlocks held → (at : ℕ) (block : Block) (test : Bool) → (if test then Some p.block else block_in old at) ≡ Some block → HasParts block
       parts_test are at block true found = let same : p.block ≡ block = cc in subst HasParts same p.is.parts
       parts_test are at block false found = is.parts are at block found
-
-  pub held_put : {E : Type 0} (result : Result (Unit {0}) E) → OnOk result (PutsInode old new handle inode) → OnOk result (IsHeldDraft held new)
-  held_put (Ok done) p = put_held p
-  held_put (Err error) p = tt

@@ -1,7 +1,7 @@
 //! What an inode says of its file.
 
 ghost use Rattle.std.specs.Prelude.{◌≡◌, IfOk};
-ghost use Rattle.bx_inodes.specs.Heads.{head_of as head_by};
+ghost use Rattle.bx_inodes.specs.Heads.{file_with as file_by, head_of as head_by};
 
 use bx_base::{OutOfMemory, Raw};
 use bx_layout::Inode;
@@ -13,7 +13,14 @@ pub fn head_of(alloc: Global, handle: u64, inode: &Inode) -> Result<File, OutOfM
     ensures { IfOk result (λ file. file ≡ head_by handle inode.now) }
 {
     let nothing = Raw::of(alloc, &[])?;
-    Ok(File {
+    Ok(file_with(handle, inode, Body::Path(nothing)))
+}
+
+/// The file with a handle and a body, whose other fields its inode has.
+pub fn file_with(handle: u64, inode: &Inode, body: Body) -> File
+    ensures { result ≡ file_by handle inode.now body }
+{
+    File {
         handle,
         kind: inode.kind,
         mode: inode.mode,
@@ -23,6 +30,6 @@ pub fn head_of(alloc: Global, handle: u64, inode: &Inode) -> Result<File, OutOfM
         atime: inode.atime,
         mtime: inode.mtime,
         ctime: inode.ctime,
-        body: Body::Path(nothing),
-    })
+        body,
+    }
 }

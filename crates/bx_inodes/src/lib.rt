@@ -6,7 +6,7 @@ mod inodes;
 mod stop;
 mod writing;
 
-pub use heads::head_of;
+pub use heads::{file_with, head_of};
 pub use inodes::inode_at;
 pub use stop::Stop;
 pub use writing::put_inode;

@@ -41,21 +41,6 @@ pub fn put_inode(
     ensures held { (held : Held) → IsHeldDraft held draft.old → IsSome (held (place_of handle) Exclusive) → OnOk result (IsHeldDraft held draft.new) }
     ensures err { OnErr result (draft.new ≡ draft.old) }
 {
-    put_block(alloc, draft, handle, inode)
-}
-
-/// Puts the block that an inode is.
-fn put_block(
-    alloc: Global,
-    draft: &mut Draft,
-    handle: u64,
-    inode: &Inode,
-) -> Result<(), OutOfMemory>
-    requires inode { IsInode inode.now }
-    requires room { length draft.old < 16 }
-    ensures puts { OnOk result (PutsInode draft.old draft.new handle inode.now) }
-    ensures err { OnErr result (draft.new ≡ draft.old) }
-{
     let block = block_of(alloc, handle, inode)?;
     match draft.put(block_at(handle), block) {
         Ok(()) => Ok(()),

@@ -10,7 +10,7 @@ ghost use Rattle.bx_layout.specs.declared.area.AreaBlock.{AreaBlock};
 
 use crate::words::{put_words, words_of};
 use bx_base::{OutOfMemory, Raw, Words};
-use bx_fields::{ReadError, are_zeros, clear_from, front_at, put};
+use bx_fields::{ReadError, before_zeros, clear_from, front_at, put};
 use bx_places::{PAYLOAD, SLOTS};
 use std::alloc::Global;
 
@@ -49,15 +49,7 @@ impl AreaBlock {
         if payload.len() != PAYLOAD {
             return Ok(None);
         }
-        let (area, rest) = match area_of(alloc, payload) {
-            Ok(found) => found,
-            Err(ReadError::Malformed) => return Ok(None),
-            Err(ReadError::OutOfMemory) => return Err(OutOfMemory),
-        };
-        if !are_zeros(rest) {
-            return Ok(None);
-        }
-        Ok(Some(area))
+        before_zeros(area_of(alloc, payload))
     }
 
     /// Writes the area into the 4096 bytes of a payload.

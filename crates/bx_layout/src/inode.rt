@@ -8,7 +8,7 @@ ghost use Rattle.bx_layout.specs.InodeReading.{inode_at};
 ghost use Rattle.bx_layout.specs.declared.inode.Inode.{Inode};
 
 use bx_base::{OutOfMemory, Raw};
-use bx_fields::{ReadError, are_zeros, clear_from, put, put_u32, put_u64};
+use bx_fields::{ReadError, before_zeros, clear_from, put, put_u32, put_u64};
 use bx_inode_parts::{owner_of, sizes_of, tree_of};
 use bx_places::PAYLOAD;
 use std::alloc::Global;
@@ -55,15 +55,7 @@ impl Inode {
         if payload.len() != PAYLOAD {
             return Ok(None);
         }
-        let (inode, rest) = match inode_of(alloc, payload) {
-            Ok(found) => found,
-            Err(ReadError::Malformed) => return Ok(None),
-            Err(ReadError::OutOfMemory) => return Err(OutOfMemory),
-        };
-        if !are_zeros(rest) {
-            return Ok(None);
-        }
-        Ok(Some(inode))
+        before_zeros(inode_of(alloc, payload))
     }
 
     /// Writes the inode into the 4096 bytes of a payload.

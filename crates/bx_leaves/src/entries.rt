@@ -40,23 +40,6 @@ pub fn insert<V: View>(
     ensures fair { NeedsUnheld (V.held view.now) (OnLeafPath (reads_with (V.held view.now) (V.hints view.now) draft.old) root key.now) result }
     ensures held { IsHeldDraft (V.held view.now) draft.old → OnOk result (IsHeldDraft (V.held view.now) draft.new) }
 {
-    put_entry(alloc, draft, view, root, key, value)
-}
-
-/// The same, by how the walk ends.
-fn put_entry<V: View>(
-    alloc: Global,
-    draft: &mut Draft,
-    view: &V,
-    root: u64,
-    key: &[u8],
-    value: &[u8],
-) -> Result<(), BlinkError>
-    requires key { length key.now ≤ 256 }
-    requires both { length key.now + length value.now ≤ 268 }
-    ensures unchanged { OnErr result (draft.new ≡ draft.old) }
-    ensures ends { InsertsAt (V.held view.now) (V.hints view.now) draft.old draft.new root key.now value.now result }
-{
     let mut payload = [0; PAYLOAD];
     let handle = leaf_with(draft, view, root, (key, value), &mut payload)?;
     put_bytes(alloc, draft, handle, &payload)
@@ -102,20 +85,6 @@ pub fn remove<V: View>(
     ensures map { (areas : ℕ) (truth : Truth) (tree : PageTree) → Under areas (V.held view.now) (V.hints view.now) truth draft.old root tree → RemovesIn areas (V.held view.now) (V.hints view.now) truth draft.old draft.new root tree key.now result }
     ensures fair { NeedsUnheld (V.held view.now) (OnLeafPath (reads_with (V.held view.now) (V.hints view.now) draft.old) root key.now) result }
     ensures held { IsHeldDraft (V.held view.now) draft.old → OnOk result (IsHeldDraft (V.held view.now) draft.new) }
-{
-    take_entry(alloc, draft, view, root, key)
-}
-
-/// The same, by how the walk ends.
-fn take_entry<V: View>(
-    alloc: Global,
-    draft: &mut Draft,
-    view: &V,
-    root: u64,
-    key: &[u8],
-) -> Result<(), BlinkError>
-    ensures unchanged { OnErr result (draft.new ≡ draft.old) }
-    ensures ends { RemovesAt (V.held view.now) (V.hints view.now) draft.old draft.new root key.now result }
 {
     let mut payload = [0; PAYLOAD];
     let handle = leaf_without(draft, view, root, key, &mut payload)?;

@@ -10,7 +10,7 @@ use bx_records::Draft;
 use bx_views::View;
 
 /// The leaf of a key with its handle, held exclusively.
-pub(crate) fn leaf_of<'a, V: View>(
+pub fn leaf_of<'a, V: View>(
     draft: &'a Draft,
     view: &'a V,
     root: u64,

@@ -6,4 +6,5 @@ mod leaf;
 mod pages;
 
 pub use entries::{insert, remove};
+pub use leaf::leaf_of;
 pub use pages::put_page;

@@ -48,6 +48,14 @@ asking_beside block other mode c apart = by_test (ltb c.drawn greatest)
     by_test true = put_beside c.requests block other (request_at mode (c.drawn + 1)) apart
     by_test false = out_beside c.requests block other apart
 
+-- no number is left then either
+pub asking_spent : (block : ℕ) (mode : Mode) (c : Clerking) → greatest ≤ c.drawn → greatest ≤ (asking block mode c).drawn
+asking_spent block mode c none = by_test (ltb c.drawn greatest)
+  where
+    by_test : (t : Bool) → greatest ≤ (if t then record c { drawn = c.drawn + 1; requests = with_request c.requests block (request_at mode (c.drawn + 1)) } else record c { requests = without_request c.requests block }).drawn
+    by_test true = omega (arith, none)
+    by_test false = none
+
 asking_asks : (block : ℕ) (mode : Mode) (c : Clerking) → (asking block mode c).asks ≡ c.asks
 asking_asks block mode c = by_test (ltb c.drawn greatest)
   where

@@ -9,7 +9,8 @@ use Rattle.bx_post.specs.declared.packets.Letter.{Letter}
 use Rattle.bx_clerk.specs.Clerks.{Clerking, asked_back, asking, asking_words, giving_up, letters_of}
 use Rattle.bx_clerk.specs.Requests.{hold_of, request_in, wish_of}
 use Rattle.bx_locks.specs.Machines.{LockMachines, OnlyMachine, clerk_of}
-use Rattle.bx_locks.proofs.Asking.{IsWanted, asking_asked, asking_beside, giving_asked, giving_beside, giving_here, wanted_so}
+use Rattle.bx_locks.specs.Meanings.{IsSpent}
+use Rattle.bx_locks.proofs.Asking.{IsWanted, asking_asked, asking_beside, asking_spent, giving_asked, giving_beside, giving_here, wanted_so}
 
 -- the session that a node has, by name
 pub session_at : (session : Option ℕ) → IsSome session → (s : ℕ) × (session ≡ Some s)
@@ -30,13 +31,16 @@ want_wants node block mode old new before after there asks sends =
 
 -- all other requests are as they were
 pub want_beside : (node block other at : ℕ) (mode : Mode) (old new : LockMachines) → OnlyMachine (Node node) old new → clerk_of new node ≡ asking block mode (clerk_of old node) → (other ≢ node) ⊎ (at ≢ block)
-    → (wish_of (request_in (clerk_of new other).requests at) ≡ None) ⊎ (wish_of (request_in (clerk_of new other).requests at) ≡ wish_of (request_in (clerk_of old other).requests at))
-want_beside node block other at mode old new only asks (inl apart) = inr (ap (λ (c : Clerking). wish_of (request_in c.requests at)) (only.clerks other (another node other apart)))
+    → request_in (clerk_of new other).requests at ≡ request_in (clerk_of old other).requests at
+want_beside node block other at mode old new only asks (inl apart) = ap (λ (c : Clerking). request_in c.requests at) (only.clerks other (another node other apart))
 want_beside node block other at mode old new only asks (inr apart) = elim (cases_eq other node) [
-  | inl here ↦ inr (subst (λ (n : ℕ). wish_of (request_in (clerk_of new n).requests at) ≡ wish_of (request_in (clerk_of old n).requests at)) (sym here)
-      (ap (λ (c : Clerking). wish_of (request_in c.requests at)) asks ∙ ap wish_of (asking_beside block at mode (clerk_of old node) apart)))
-  | inr beside ↦ inr (ap (λ (c : Clerking). wish_of (request_in c.requests at)) (only.clerks other (another node other beside)))
+  | inl here ↦ subst (λ (n : ℕ). request_in (clerk_of new n).requests at ≡ request_in (clerk_of old n).requests at) (sym here)
+      (ap (λ (c : Clerking). request_in c.requests at) asks ∙ asking_beside block at mode (clerk_of old node) apart)
+  | inr beside ↦ ap (λ (c : Clerking). request_in c.requests at) (only.clerks other (another node other beside))
 ]
+
+pub want_spent : (node block : ℕ) (mode : Mode) (old new : LockMachines) → clerk_of new node ≡ asking block mode (clerk_of old node) → IsSpent (clerk_of old node) → IsSpent (clerk_of new node)
+want_spent node block mode old new asks spent = subst IsSpent (sym asks) (asking_spent block mode (clerk_of old node) spent)
 
 pub want_asked : (node block : ℕ) (mode : Mode) (old new : LockMachines) → clerk_of new node ≡ asking block mode (clerk_of old node) → without_block block (asked_back (clerk_of new node)) ≡ without_block block (asked_back (clerk_of old node))
 want_asked node block mode old new asks = ap (λ (c : Clerking). without_block block (asked_back c)) asks ∙ asking_asked block mode (clerk_of old node)

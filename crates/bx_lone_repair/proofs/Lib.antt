@@ -12,3 +12,4 @@ pub mod Finding
 pub mod Crashing
 pub mod Images
 pub mod Showing
+pub mod Sparing

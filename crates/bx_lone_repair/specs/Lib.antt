@@ -4,4 +4,5 @@ pub mod Left
 pub mod Recovering
 pub mod Resting
 pub mod Shown
+pub mod Spared
 pub mod Through

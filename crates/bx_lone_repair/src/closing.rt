@@ -5,6 +5,7 @@ ghost use Rattle.bx_disk.specs.Kept.{Fails};
 ghost use Rattle.bx_lone_repair.specs.Bench.{AreLong};
 ghost use Rattle.bx_lone_repair.specs.Left.{IsClosed};
 ghost use Rattle.bx_lone_repair.specs.Resting.{StandsAs, closes_log, shuts_log};
+ghost use Rattle.bx_lone_repair.specs.Spared.{SparesOthers};
 ghost use Rattle.bx_model.specs.declared.tree.Tree.{Tree};
 ghost use Rattle.bx_redo.specs.Steps.{shut_text};
 ghost use Rattle.bx_volume.specs.Records.{Logged};
@@ -32,6 +33,7 @@ pub(crate) fn close_first<R: Rack>(alloc: Global, rack: &mut R) -> Result<(), Ra
         → OnOk result (StandsAs volume floor tree [] shuts_log (R.state rack.new)) }
     ensures stands { (volume floor count : ℕ) (tree : Tree) (records : List Logged) → R.tells rack.old → 0 < count → StandsAs volume floor tree records (closes_log count) (R.state rack.old)
         → OnErr result (StandsAs volume floor tree records (closes_log count) (R.state rack.new)) }
+    ensures spares { R.tells rack.old → SparesOthers (R.state rack.old) (R.state rack.new) }
     ensures rack { Fails R.Rack rack.old rack.new result }
 {
     let runs = first_gate(alloc)?;
@@ -45,6 +47,7 @@ pub(crate) fn close_others<R: Rack>(alloc: Global, rack: &mut R) -> Result<(), R
     ensures closes { (volume floor : ℕ) (tree : Tree) → R.tells rack.old → StandsAs volume floor tree [] shuts_log (R.state rack.old) → OnOk result (IsClosed volume tree (R.state rack.new)) }
     ensures stands { (volume floor : ℕ) (tree : Tree) → R.tells rack.old → StandsAs volume floor tree [] shuts_log (R.state rack.old)
         → OnErr result (StandsAs volume floor tree [] shuts_log (R.state rack.new)) }
+    ensures spares { R.tells rack.old → SparesOthers (R.state rack.old) (R.state rack.new) }
     ensures rack { Fails R.Rack rack.old rack.new result }
 {
     let runs = other_gates(alloc)?;

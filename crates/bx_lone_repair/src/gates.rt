@@ -7,6 +7,7 @@ ghost use Rattle.bx_facts.specs.Writes.{IsSettled, IsSourceIn};
 ghost use Rattle.bx_global.specs.declared.state.GlobalState.{GlobalState};
 ghost use Rattle.bx_lone_repair.specs.Left.{Doubt, IsLeft};
 ghost use Rattle.bx_lone_repair.specs.Resting.{Comes};
+ghost use Rattle.bx_lone_repair.specs.Spared.{SparesOthers};
 ghost use Rattle.bx_model.specs.declared.tree.Tree.{Tree};
 ghost use Rattle.bx_redo.specs.Found.{Settles};
 ghost use Rattle.bx_redo.specs.Stands.{LogStands};
@@ -44,6 +45,7 @@ pub fn settle_gates<R: Rack>(alloc: Global, rack: &mut R) -> Result<(), RackErro
     ensures comes { (volume floor : ℕ) (tree : Tree) (doubt : Option Doubt) → R.tells rack.old → IsLeft volume floor tree doubt (R.state rack.old)
         → OnOk result ((records : List Logged) × Comes volume floor tree doubt records (R.state rack.new)) }
     ensures replicas { R.tells rack.old → KeepsReplicas (R.state rack.old) (R.state rack.new) }
+    ensures spares { R.tells rack.old → SparesOthers (R.state rack.old) (R.state rack.new) }
     ensures rack { Fails R.Rack rack.old rack.new result }
 {
     let mut gates = [0; 4096];

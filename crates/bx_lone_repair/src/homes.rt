@@ -9,6 +9,7 @@ ghost use Rattle.bx_logs.specs.Newest.{newest_at};
 ghost use Rattle.bx_lone_repair.specs.Bench.{AreLong};
 ghost use Rattle.bx_lone_repair.specs.HomesOf.{AreHomesBelow, HasNone};
 ghost use Rattle.bx_lone_repair.specs.Resting.{Rests, StandsAs, closes_log};
+ghost use Rattle.bx_lone_repair.specs.Spared.{SparesOthers};
 ghost use Rattle.bx_model.specs.declared.tree.Tree.{Tree};
 ghost use Rattle.bx_places.specs.Places.{IsBlock};
 ghost use Rattle.bx_redo.specs.Homes.{home_run};
@@ -44,6 +45,7 @@ pub(crate) fn write_homes<R: Rack>(
         → ((at : ℕ) → newest_at newest.now at ≡ newest_in records at) → 0 < length records → OnOk result (StandsAs volume floor tree records (closes_log (length records)) (R.state rack.new)) }
     ensures rests { (volume floor : ℕ) (tree : Tree) (records : List Logged) → R.tells rack.old → Rests volume floor tree records (R.state rack.old)
         → ((at : ℕ) → newest_at newest.now at ≡ newest_in records at) → OnErr result (Rests volume floor tree records (R.state rack.new)) }
+    ensures spares { R.tells rack.old → SparesOthers (R.state rack.old) (R.state rack.new) }
     ensures cause { IsErrOf result Fault → Rose (R.faults rack.old) (R.faults rack.new) ⊎ HasNone (newest_at newest.now) }
     ensures memory { IsErrOf result NoMemory → NoneRose (R.faults rack.old) (R.faults rack.new) (R.faults_of rack.old) (R.faults_of rack.new) }
     ensures no_fault { OnOk result (NoneRose (R.faults rack.old) (R.faults rack.new) (R.faults_of rack.old) (R.faults_of rack.new)) }

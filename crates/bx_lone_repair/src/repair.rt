@@ -9,6 +9,7 @@ ghost use Rattle.bx_lone_repair.specs.Left.{Doubt, IsClosed, IsLeft};
 ghost use Rattle.bx_lone_repair.specs.HomesOf.{HasNone};
 ghost use Rattle.bx_lone_repair.specs.Recovering.{Recovers};
 ghost use Rattle.bx_lone_repair.specs.Resting.{Comes, IsOpenLog, Rests, StandsAs, shuts_log};
+ghost use Rattle.bx_lone_repair.specs.Spared.{SparesOthers};
 ghost use Rattle.bx_model.specs.declared.tree.Tree.{Tree};
 ghost use Rattle.bx_volume.specs.Records.{Logged, newest_in};
 
@@ -23,13 +24,15 @@ use std::alloc::Global;
 
 /// Brings the log of slot 0 to rest, whatever its node left there when it stopped. `floor` is the greatest number of a call that was told: a record that
 /// is open of one above acted, and its point is told, before anything is written home. Else the blocks of open records are written home, and the log is
-/// closed. After an error the disks still hold what they did, and it may be tried again. A fault that no disk had is of disks that no node left so.
+/// closed. After an error the disks still hold what they did, and it may be tried again. A fault that no disk had is of disks that no node left so. Whatever
+/// comes, the other log slots and the disks of replicas are left alone.
 pub fn recover<R: Rack>(alloc: Global, rack: &mut R, floor: CallNo) -> Result<Recovery, RackError>
     requires long { AreLong (R.state rack.old).sizes }
     ensures recovers { (volume : ℕ) (tree : Tree) (doubt : Option Doubt) → R.tells rack.old → IsLeft volume floor tree doubt (R.state rack.old)
         → IfOk result (Recovers volume floor tree doubt (R.state rack.new)) }
     ensures left { (volume : ℕ) (tree : Tree) (doubt : Option Doubt) → R.tells rack.old → IsLeft volume floor tree doubt (R.state rack.old)
         → OnErr result (IsLeft volume floor tree doubt (R.state rack.new)) }
+    ensures spares { R.tells rack.old → SparesOthers (R.state rack.old) (R.state rack.new) }
     ensures cause { IsErrOf result Fault → Rose (R.faults rack.old) (R.faults rack.new) ⊎ ((volume : ℕ) (tree : Tree) (doubt : Option Doubt) → R.tells rack.old → IsLeft volume floor tree doubt (R.state rack.old) → ⊥) }
     ensures memory { IsErrOf result NoMemory → NoneRose (R.faults rack.old) (R.faults rack.new) (R.faults_of rack.old) (R.faults_of rack.new) }
     ensures no_fault { OnOk result (NoneRose (R.faults rack.old) (R.faults rack.new) (R.faults_of rack.old) (R.faults_of rack.new)) }
@@ -48,6 +51,7 @@ fn go_on<R: Rack>(alloc: Global, rack: &mut R, floor: CallNo) -> Result<Recovery
         → IfOk result (Recovers volume floor tree doubt (R.state rack.new)) }
     ensures left { (volume : ℕ) (tree : Tree) (doubt : Option Doubt) (records : List Logged) → R.tells rack.old → Comes volume floor tree doubt records (R.state rack.old)
         → IsLeft volume floor tree doubt (R.state rack.old) → OnErr result (IsLeft volume floor tree doubt (R.state rack.new)) }
+    ensures spares { R.tells rack.old → SparesOthers (R.state rack.old) (R.state rack.new) }
     ensures cause { IsErrOf result Fault → Rose (R.faults rack.old) (R.faults rack.new)
         ⊎ ((volume : ℕ) (tree : Tree) (doubt : Option Doubt) (records : List Logged) → R.tells rack.old → Comes volume floor tree doubt records (R.state rack.old) → ⊥) }
     ensures memory { IsErrOf result NoMemory → NoneRose (R.faults rack.old) (R.faults rack.new) (R.faults_of rack.old) (R.faults_of rack.new) }
@@ -74,6 +78,7 @@ fn answer<R: Rack>(
         → IfOk result (Recovers volume floor tree doubt (R.state rack.new)) }
     ensures left { (volume : ℕ) (tree : Tree) (doubt : Option Doubt) (records : List Logged) → R.tells rack.old → Comes volume floor tree doubt records (R.state rack.old) → IsOpenLog records log.now
         → OnErr result (IsLeft volume floor tree doubt (R.state rack.new)) }
+    ensures spares { R.tells rack.old → SparesOthers (R.state rack.old) (R.state rack.new) }
     ensures cause { IsErrOf result Fault → Rose (R.faults rack.old) (R.faults rack.new) ⊎ ((records : List Logged) → IsOpenLog records log.now → HasNone (newest_in records)) }
     ensures memory { IsErrOf result NoMemory → NoneRose (R.faults rack.old) (R.faults rack.new) (R.faults_of rack.old) (R.faults_of rack.new) }
     ensures no_fault { OnOk result (NoneRose (R.faults rack.old) (R.faults rack.new) (R.faults_of rack.old) (R.faults_of rack.new)) }
@@ -95,6 +100,7 @@ fn close_all<R: Rack>(alloc: Global, rack: &mut R, log: &OpenLog) -> Result<(), 
         → OnOk result (IsClosed volume tree (R.state rack.new)) }
     ensures left { (volume floor : ℕ) (tree : Tree) (doubt : Option Doubt) (records : List Logged) → R.tells rack.old → Rests volume floor tree records (R.state rack.old) → IsOpenLog records log.now
         → OnErr result (IsLeft volume floor tree doubt (R.state rack.new)) }
+    ensures spares { R.tells rack.old → SparesOthers (R.state rack.old) (R.state rack.new) }
     ensures cause { IsErrOf result Fault → Rose (R.faults rack.old) (R.faults rack.new) ⊎ ((records : List Logged) → IsOpenLog records log.now → HasNone (newest_in records)) }
     ensures memory { IsErrOf result NoMemory → NoneRose (R.faults rack.old) (R.faults rack.new) (R.faults_of rack.old) (R.faults_of rack.new) }
     ensures no_fault { OnOk result (NoneRose (R.faults rack.old) (R.faults rack.new) (R.faults_of rack.old) (R.faults_of rack.new)) }
@@ -119,6 +125,7 @@ fn close_open<R: Rack>(alloc: Global, rack: &mut R, log: &OpenLog) -> Result<(),
         → OnOk result (StandsAs volume floor tree [] shuts_log (R.state rack.new)) }
     ensures left { (volume floor : ℕ) (tree : Tree) (doubt : Option Doubt) (records : List Logged) → R.tells rack.old → Rests volume floor tree records (R.state rack.old) → IsOpenLog records log.now
         → OnErr result (IsLeft volume floor tree doubt (R.state rack.new)) }
+    ensures spares { R.tells rack.old → SparesOthers (R.state rack.old) (R.state rack.new) }
     ensures cause { IsErrOf result Fault → Rose (R.faults rack.old) (R.faults rack.new) ⊎ ((records : List Logged) → IsOpenLog records log.now → HasNone (newest_in records)) }
     ensures memory { IsErrOf result NoMemory → NoneRose (R.faults rack.old) (R.faults rack.new) (R.faults_of rack.old) (R.faults_of rack.new) }
     ensures no_fault { OnOk result (NoneRose (R.faults rack.old) (R.faults rack.new) (R.faults_of rack.old) (R.faults_of rack.new)) }

@@ -146,15 +146,15 @@ module _ (s : GlobalState) (node : ℕ) (owns owns_then : List (Option ℕ)) (sl
   pub asked_new : (n : ℕ) → at owns_then n ≢ at owns n → asked_at inquiries_then n ≡ None
   asked_new n changed = ⊎_elim (λ same. absurd (changed same.0)) (λ new. ap asked_in new.3) (part n).case
 
-  pub asked_met : (n : ℕ) → (asked_at inquiries_then n ≡ None) ⊎ (asked_at inquiries_then n ≡ asked_at inquiries n)
-  asked_met n = ⊎_elim (λ same. inr (ap asked_in same.2)) (λ new. inl (ap asked_in new.3)) (part n).case
+  pub asked_met : (n : ℕ) → (at owns_then n ≢ at owns n) ⊎ (asked_at inquiries_then n ≡ asked_at inquiries n)
+  asked_met n = ⊎_elim (λ same. inr (ap asked_in same.2)) (λ new. inl (λ stays. new.0 (sym stays ∙ new.1))) (part n).case
 
   -- nothing that wasn't out is out
   pub still_out : (n : ℕ) (w : Sent) → out_at slots_then n ≡ Some w → out_at slots n ≡ Some w
   still_out n w out = ⊎_elim (λ none. absurd (let h = sym none ∙ out in cc)) (λ same. sym same ∙ out) (out_met n)
 
   pub still_asked : (n : ℕ) (asks : Asked) → asked_at inquiries_then n ≡ Some asks → asked_at inquiries n ≡ Some asks
-  still_asked n asks asked = ⊎_elim (λ none. absurd (let h = sym none ∙ asked in cc)) (λ same. sym same ∙ asked) (asked_met n)
+  still_asked n asks asked = ⊎_elim (λ changed. absurd (let h = sym (asked_new n changed) ∙ asked in cc)) (λ same. sym same ∙ asked) (asked_met n)
 
 pub and_right : (a b : Bool) → (a && b) ≡ true → b ≡ true
 and_right true b is = is

@@ -1,6 +1,6 @@
 //! A store on one machine.
 
-ghost use Rattle.std.specs.Prelude.{◌≡◌, ◌≢◌, ◌⊎◌, ℕ, ◌*◌, ◌<◌, ◌≤◌, IfOk, List, None, Option, Some, false, is_some, slice_get};
+ghost use Rattle.std.specs.Prelude.{◌≡◌, ◌≢◌, ◌⊎◌, ℕ, ◌*◌, ◌<◌, ◌≤◌, IfOk, List, None, Option, Some, false, slice_get};
 ghost use Rattle.bx_base.specs.declared.names.Actor.TheVariants.{Node};
 ghost use Rattle.bx_disk.specs.Disks.{Disks};
 ghost use Rattle.bx_facts.specs.Chains.{IsPlace, any_session_of};
@@ -9,7 +9,7 @@ ghost use Rattle.bx_post.specs.declared.packets.Letter.{Letter};
 ghost use Rattle.bx_facts.specs.Writes.{Made, StorePast, store_heard, store_with};
 ghost use Rattle.bx_lone_store.specs.Fits.{HasSessionsOf, IsNew};
 ghost use Rattle.bx_plain_store.specs.Out.{at};
-ghost use Rattle.bx_lone_store.specs.Parts.{IsShape, asked_at, made_of};
+ghost use Rattle.bx_lone_store.specs.Parts.{IsShape, made_of};
 
 use crate::greatest::{heard, later};
 use crate::inquiries::{Inquiry, take_answer};
@@ -79,20 +79,6 @@ impl PlainStore {
             down: vec![in alloc; false; members].map_err(OutOfMemory::from)?,
         })
     }
-
-    /// The session that a node has. It takes no memory.
-    pub fn session(&self, node: u32) -> Option<u64>
-        ensures { result ≡ at self.now.owns.items node }
-    {
-        find_session(&self.owns, node as usize)
-    }
-
-    /// Whether a node's read is out, or its answer wasn't taken yet. It takes no memory.
-    pub fn is_reading(&self, node: u32) -> bool
-        ensures { result ≡ is_some (asked_at self.now.inquiries.items node) }
-    {
-        is_there(&self.inquiries, node as usize)
-    }
 }
 
 impl Store for PlainStore {
@@ -109,7 +95,7 @@ impl Store for PlainStore {
     ghost use Rattle.bx_lone_store.specs.Growing.{idle_new, keeps_grown, keeps_letters, keeps_new, keeps_sure, keeps_without};
     ghost use Rattle.bx_lone_store.specs.Laws.{goes_grown, goes_same, goes_sure, only_asked, sure_elsewhere, sure_replaced, sure_survives};
     ghost use Rattle.bx_lone_store.specs.Needs.{needs_little, needs_none, needs_of_volume};
-    ghost use Rattle.bx_lone_store.specs.Parts.{answer_at};
+    ghost use Rattle.bx_lone_store.specs.Parts.{answer_at, asked_at};
     ghost use Rattle.bx_lone_store.specs.Steps.{IsStep};
     ghost use Rattle.bx_lone_store.specs.Waiting.{needs_of, owes_in};
     ghost use Rattle.bx_facts.specs.Inputs.{greatest_with};
@@ -147,6 +133,14 @@ impl Store for PlainStore {
     ghost hands = { λ st known who input change. change ≡ None };
 
     ghost steps = { λ st known who input new. IsStep known who input (greatest_with st.greatest input) st.down.items st.owns.items new.owns.items st.slots.items new.slots.items st.inquiries.items new.inquiries.items };
+
+    fn session(&self, node: u32) -> Option<u64> {
+        find_session(&self.owns, node as usize)
+    }
+
+    fn is_reading(&self, node: u32) -> bool {
+        is_there(&self.inquiries, node as usize)
+    }
 
     fn write(
         &mut self,

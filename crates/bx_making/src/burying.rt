@@ -44,22 +44,6 @@ pub fn bury<V: View>(
     ensures fair { (areas : ℕ) → (parts_of handle).area < areas → NeedsFairly areas (V.held view.now) result }
     ensures held { IsHeldDraft (V.held view.now) draft.old → IsSome (V.held view.now (block_at handle) Exclusive) → OnOk result (IsHeldDraft (V.held view.now) draft.new) }
 {
-    bury_file(alloc, draft, view, handle, inode)
-}
-
-/// The same, by what is held.
-fn bury_file<V: View>(
-    alloc: Global,
-    draft: &mut Draft,
-    view: &V,
-    handle: u64,
-    inode: Inode,
-) -> Result<(), ChunkError>
-    requires { IsInode inode }
-    ensures unchanged { OnErr result (draft.new ≡ draft.old) }
-    ensures at { BuriesAt (V.held view.now) draft.old draft.new handle inode result }
-    ensures fair { (areas : ℕ) → (parts_of handle).area < areas → NeedsFairly areas (V.held view.now) result }
-{
     // for the proof: a draft has at most sixteen blocks, each once
     let _blocks = draft.blocks();
     let mut next = copy_of(alloc, draft)?;

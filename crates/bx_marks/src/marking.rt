@@ -36,20 +36,6 @@ pub fn mark_dead<V: View>(
     ensures writes { IsHeldDraft (V.held view.now) draft.old → IsHeldDraft (V.held view.now) draft.new }
     ensures err { OnErr result (draft.new ≡ draft.old) }
 {
-    mark_seen(alloc, draft, view, handle, dead)
-}
-
-/// The same, by what is held.
-fn mark_seen<V: View>(
-    alloc: Global,
-    draft: &mut Draft,
-    view: &V,
-    handle: u64,
-    dead: bool,
-) -> Result<(), ChunkError>
-    ensures at { MarksAt (V.held view.now) draft.old draft.new handle dead result }
-    ensures err { OnErr result (draft.new ≡ draft.old) }
-{
     let parts = ChunkHandle::of(handle);
     if parts.slot >= SLOTS {
         return Err(ChunkError::Stale);

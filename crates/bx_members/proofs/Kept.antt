@@ -6,7 +6,7 @@ use Rattle.bx_disk.specs.Disks.{Image, Disks, IsImage, is_within, sector_of}
 use Rattle.bx_records.specs.declared.runs.Run.{Run}
 use Rattle.bx_calls.specs.Regions.{ReadsAs, IsSynced}
 use Rattle.bx_calls.specs.Calls.{KeepsSure, KeepsAll, HasSure, LeavesOnly}
-use Rattle.bx_calls.specs.Laws.{outside_at, apart_disks, reads_kept, leaves_then, leaves_implies}
+use Rattle.bx_calls.specs.Laws.{outside_at, apart_disks, reads_kept, leaves_then, leaves_implies, image_has as image_sure}
 use Rattle.bx_facts.specs.Disks.{SameDisks}
 use Rattle.bx_facts.specs.Writes.{Sent, IsOnly, member_disk}
 use Rattle.bx_members.specs.Members.{IsBrought, IsTaken, KeepsMembers, HasMembers}
@@ -160,6 +160,18 @@ put_leaves before between now past midway since writes greatest device sector di
     (λ reads. other (ap (λ (d : ℕ). old.reads d sector) is ∙ reads))
     image
     (subst (λ (d : ℕ). HasSure old d sector 1 image) is (subst (λ (n : ℕ). HasSure old disk sector n image) one (subst (λ (x : Disks). HasSure x disk sector count image) same has))))
+
+-- what was sure elsewhere, where disks were read, and where the sector is written then
+pub read_sure : (before now : ℕ) (past since : ℕ → Image → Type 0) (disk sector count : ℕ) (old : Disks)
+    → LeavesOnly before now past since (IsImage old) → LeavesOnly before now past since (HasSure old disk sector count)
+read_sure before now past since disk sector count old leaves =
+    leaves_implies before now past since (IsImage old) (HasSure old disk sector count) leaves (λ image is. image_sure old disk sector count image is)
+
+pub put_sure : (before between now : ℕ) (past midway since : ℕ → Image → Type 0) (disk sector count : ℕ) (old mid : Disks) → count ≡ 1 → mid ≡ old
+    → LeavesOnly before between past midway (IsImage old) → LeavesOnly between now midway since (HasSure mid disk sector count) → LeavesOnly before now past since (HasSure old disk sector 1)
+put_sure before between now past midway since disk sector count old mid one same first next =
+    leaves_then before between now past midway since (HasSure old disk sector 1) (HasSure mid disk sector count) (read_sure before between past midway disk sector 1 old first) next
+    (λ image has. subst (λ (n : ℕ). HasSure old disk sector n image) one (subst (λ (x : Disks). HasSure x disk sector count image) same has))
 
 -- ---- both members
 

@@ -4,7 +4,7 @@ ghost use Rattle.std.specs.Prelude.{◌≡◌, ◌≢◌, ℕ, ◌+◌, ◌*◌,
 ghost use Rattle.bx_disk.specs.Kept.{Faults, Fails};
 ghost use Rattle.bx_disk.specs.Disks.{IsImage, sector_of};
 ghost use Rattle.bx_calls.specs.Regions.{ReadsAs};
-ghost use Rattle.bx_calls.specs.Calls.{KeepsSure, LeavesOnly};
+ghost use Rattle.bx_calls.specs.Calls.{HasSure, KeepsSure, LeavesOnly};
 ghost use Rattle.bx_facts.specs.Disks.{SameDisks};
 ghost use Rattle.bx_facts.specs.Writes.{Sent, member_disk};
 ghost use Rattle.bx_members.specs.Members.{IsBrought, IsTaken, KeepsMembers, HasMembers};
@@ -48,6 +48,7 @@ pub fn put_sector<R: Rack>(
     ensures elsewhere { R.tells rack.old → KeepsSure (R.state rack.old) (R.state rack.new) disk sector 1 }
     ensures keeps { (writes : List Sent) (greatest device : ℕ) (second : Bool) → R.tells rack.old → disk ≡ member_disk device second → IsBrought writes greatest device sector bytes.now → KeepsMembers writes greatest (R.state rack.old) (R.state rack.new) }
     ensures any_moment { (writes : List Sent) (greatest device : ℕ) (second : Bool) → R.tells rack.old → disk ≡ member_disk device second → IsBrought writes greatest device sector bytes.now → LeavesOnly (R.moment rack.old) (R.moment rack.new) (R.left_since rack.old) (R.left_since rack.new) (HasMembers writes greatest (R.state rack.old)) }
+    ensures sure_moment { R.tells rack.old → LeavesOnly (R.moment rack.old) (R.moment rack.new) (R.left_since rack.old) (R.left_since rack.new) (HasSure (R.state rack.old) disk sector 1) }
     ensures rack { Fails R.Rack rack.old rack.new result }
 {
     if has_bytes(rack, disk, sector, bytes)? {
@@ -66,6 +67,7 @@ pub fn put_run<R: Rack>(rack: &mut R, disk: u32, run: &Run) -> Result<(), RackEr
     ensures elsewhere { R.tells rack.old → KeepsSure (R.state rack.old) (R.state rack.new) disk run.now.place (length run.now.bytes / 512) }
     ensures keeps { (writes : List Sent) (greatest : ℕ) (second : Bool) → R.tells rack.old → disk ≡ member_disk run.now.device second → IsTaken writes greatest run.now → KeepsMembers writes greatest (R.state rack.old) (R.state rack.new) }
     ensures any_moment { (writes : List Sent) (greatest : ℕ) (second : Bool) → R.tells rack.old → disk ≡ member_disk run.now.device second → IsTaken writes greatest run.now → LeavesOnly (R.moment rack.old) (R.moment rack.new) (R.left_since rack.old) (R.left_since rack.new) (HasMembers writes greatest (R.state rack.old)) }
+    ensures sure_moment { R.tells rack.old → LeavesOnly (R.moment rack.old) (R.moment rack.new) (R.left_since rack.old) (R.left_since rack.new) (HasSure (R.state rack.old) disk run.now.place (length run.now.bytes / 512)) }
     ensures rack { Fails R.Rack rack.old rack.new result }
 {
     let _sectors = rack.sectors(disk);

@@ -1,6 +1,7 @@
 -- What an event leaves of what is out, and how a write ends.
-use Rattle.std.proofs.Common.{◌≡◌, ◌⊎◌, inl, inr, ℕ, ◌/◌, Bool, true, false, List, [], ◌∷◌, ◌++◌, Option, Some, None, refl, sym, ◌∙◌, ap, subst}
+use Rattle.std.proofs.Common.{◌≡◌, ◌≢◌, ◌⊎◌, inl, inr, ℕ, ◌/◌, Bool, true, false, List, [], ◌∷◌, ◌++◌, Option, Some, None, refl, sym, ◌∙◌, ap, subst, arith}
 use Rattle.std.specs.Prelude.{◌==◌, ◌&&◌, not, slice_get, if◌then◌else◌}
+use Rattle.std.proofs.lemmas.Bool.Decides.{nat_tests}
 use Rattle.std.proofs.lemmas.List.Elements.{Contains-push_cases}
 use Rattle.bx_base.specs.declared.names.Actor.{Actor}
 use Rattle.bx_base.specs.declared.names.Actor.TheVariants.{Member, Node, Replica, Server}
@@ -22,7 +23,7 @@ use Rattle.bx_mirror_client.specs.Events.{SaysOr, Takes, asks_answered, counts, 
 use Rattle.bx_mirror_client.specs.Leaving.{Brings, EndsDone, IsGoingOn, Leaves}
 use Rattle.bx_mirror_client.specs.Letters.{is_new_for}
 use Rattle.bx_mirror_client.specs.Sends.{has_runs, is_acked, is_done}
-use Rattle.bx_mirror_client.specs.Streams.{Streaming, asks_in, is_session, learned, out_in, sent_in}
+use Rattle.bx_mirror_client.specs.Streams.{IsOwnRead, Streaming, asks_in, is_session, learned, out_in, sent_in}
 use Rattle.bx_mirror_client.specs.Telling.{HasAcked}
 use Rattle.bx_mirror_client.proofs.Telling.{both, done_is, is_same, same_number}
 
@@ -43,11 +44,8 @@ out_then one two three first second = elim second [
   | inr same ↦ elim first [ inl gone ↦ inl (sent_none three (same ∙ ap sent_in gone)) | inr before ↦ inr (same ∙ before) ]
 ]
 
-asks_then : (one two three : Option Asking) → (two ≡ None) ⊎ (asked_in two ≡ asked_in one) → (three ≡ None) ⊎ (asked_in three ≡ asked_in two) → (three ≡ None) ⊎ (asked_in three ≡ asked_in one)
-asks_then one two three first second = elim second [
-  | inl gone ↦ inl gone
-  | inr same ↦ elim first [ inl gone ↦ inl (asked_none three (same ∙ ap asked_in gone)) | inr before ↦ inr (same ∙ before) ]
-]
+asks_then : (one two three : Option Asking) → (two ≡ None) ⊎ (asked_in two ≡ asked_in one) → asked_in three ≡ asked_in two → (three ≡ None) ⊎ (asked_in three ≡ asked_in one)
+asks_then one two three first same = elim first [ inl gone ↦ inl (asked_none three (same ∙ ap asked_in gone)) | inr before ↦ inr (same ∙ before) ]
 
 -- as a state is learned
 out_learned : (session : Option ℕ) (rows : List DeviceRow) (out : Option Sending) → (out_in session rows out ≡ None) ⊎ (sent_in (out_in session rows out) ≡ sent_in out)
@@ -67,6 +65,43 @@ asks_learned session before rows (Some a) = by (is_session session a.session) (i
     by false q = inl refl
     by true true = inr refl
     by true false = inr refl
+
+-- whether a session is the same
+pub same_session : (one two : Option ℕ) → (one ≡ two) ⊎ (one ≢ two)
+same_session None None = inl refl
+same_session None (Some q) = inr (λ e. cc)
+same_session (Some p) None = inr (λ e. cc)
+same_session (Some p) (Some q) = by (p == q) refl
+  where
+    by : (b : Bool) → (p == q) ≡ b → (Some p ≡ Some q) ⊎ (Some p ≢ Some q)
+    by true is = let e : p ≡ q = grind (arith, nat_tests, is) in inl (ap (λ (n : ℕ). Some n) e)
+    by false is = inr (λ e. let k : p ≡ q = cc in absurd (grind (arith, nat_tests, is, k)))
+
+-- its own read stays exactly as long as its session
+own_learned : (own session : Option ℕ) (before rows : List DeviceRow) (asks : Option Asking) → IsOwnRead own asks
+    → ((session ≡ own) × (asked_in (asks_in session before rows asks) ≡ asked_in asks)) ⊎ ((session ≢ own) × (asks_in session before rows asks ≡ None))
+own_learned own session before rows None is = elim (same_session session own) [ inl same ↦ inl (same, refl) | inr other ↦ inr (other, refl) ]
+own_learned own session before rows (Some a) is = by (is_session session a.session) refl (is_new_for before rows a.device)
+  where
+    session_is : (o : Option ℕ) → is_session o a.session ≡ true → o ≡ Some a.session
+    session_is None e = absurd cc
+    session_is (Some n) e = let same : n ≡ a.session = grind (arith, nat_tests, e) in ap (λ (k : ℕ). Some k) same
+
+    session_not : is_session session a.session ≡ false → session ≢ own
+    session_not e same = let its : is_session (Some a.session) a.session ≡ false = subst (λ (o : Option ℕ). is_session o a.session ≡ false) (same ∙ is) e in absurd (grind (arith, nat_tests, its))
+
+    by : (p : Bool) → is_session session a.session ≡ p → (q : Bool)
+        → ((session ≡ own) × (asked_in (if p then Some (if q then record a { answer = None } else a) else None) ≡ asked_in (Some a))) ⊎ ((session ≢ own) × ((if p then Some (if q then record a { answer = None } else a) else None) ≡ None))
+    by false e q = inr (session_not e, refl)
+    by true e true = inl (session_is session e ∙ sym is, refl)
+    by true e false = inl (session_is session e ∙ sym is, refl)
+
+own_then : (c : Streaming) (known : GlobalState) (new : Streaming) → IsGoingOn (learned known c) new → IsOwnRead c.session c.asks
+    → ((new.session ≡ c.session) × (asked_in new.asks ≡ asked_in c.asks)) ⊎ ((new.session ≢ c.session) × (new.asks ≡ None))
+own_then c known new on own = elim (own_learned c.session (learned known c).session c.rows known.devices c.asks own) [
+  | inl same ↦ inl (on.session ∙ same.0, on.asks ∙ same.1)
+  | inr other ↦ inr (λ e. other.0 (sym on.session ∙ e), asked_none new.asks (on.asks ∙ ap asked_in other.1))
+]
 
 -- as a packet comes
 ack_same : (member epoch : ℕ) (s : Sending) → sent_in (Some (with_ack member epoch s)) ≡ sent_in (Some s)
@@ -94,20 +129,20 @@ asks_heard d rows (Some a) = by (is_awaited a && fits (slice_get rows a.device) 
     by false = refl
 
 heard_on : (from : Actor) (said : Option DeviceMessage) (c : Streaming) → IsGoingOn c (heard from said c)
-heard_on from None c = record { node = refl; boot = refl; sequence = refl; tag = refl; session = refl; rows = refl; out = inr refl; asks = inr refl }
-heard_on (Node n) (Some message) c = record { node = refl; boot = refl; sequence = refl; tag = refl; session = refl; rows = refl; out = inr refl; asks = inr refl }
-heard_on (Replica n) (Some message) c = record { node = refl; boot = refl; sequence = refl; tag = refl; session = refl; rows = refl; out = inr refl; asks = inr refl }
-heard_on (Server n) (Some message) c = record { node = refl; boot = refl; sequence = refl; tag = refl; session = refl; rows = refl; out = inr refl; asks = inr refl }
-heard_on (Member m) (Some (Wrote w)) c = record { node = refl; boot = refl; sequence = refl; tag = refl; session = refl; rows = refl; out = out_heard m w c.rows c.out; asks = inr refl }
-heard_on (Member m) (Some (Data d)) c = record { node = refl; boot = refl; sequence = refl; tag = refl; session = refl; rows = refl; out = inr refl; asks = inr (asks_heard d c.rows c.asks) }
-heard_on (Member m) (Some (Write w)) c = record { node = refl; boot = refl; sequence = refl; tag = refl; session = refl; rows = refl; out = inr refl; asks = inr refl }
-heard_on (Member m) (Some (Read r)) c = record { node = refl; boot = refl; sequence = refl; tag = refl; session = refl; rows = refl; out = inr refl; asks = inr refl }
-heard_on (Member m) (Some (Copy p)) c = record { node = refl; boot = refl; sequence = refl; tag = refl; session = refl; rows = refl; out = inr refl; asks = inr refl }
-heard_on (Member m) (Some (Copied p)) c = record { node = refl; boot = refl; sequence = refl; tag = refl; session = refl; rows = refl; out = inr refl; asks = inr refl }
-heard_on (Member m) (Some Alive) c = record { node = refl; boot = refl; sequence = refl; tag = refl; session = refl; rows = refl; out = inr refl; asks = inr refl }
+heard_on from None c = record { node = refl; boot = refl; sequence = refl; tag = refl; session = refl; rows = refl; out = inr refl; asks = refl }
+heard_on (Node n) (Some message) c = record { node = refl; boot = refl; sequence = refl; tag = refl; session = refl; rows = refl; out = inr refl; asks = refl }
+heard_on (Replica n) (Some message) c = record { node = refl; boot = refl; sequence = refl; tag = refl; session = refl; rows = refl; out = inr refl; asks = refl }
+heard_on (Server n) (Some message) c = record { node = refl; boot = refl; sequence = refl; tag = refl; session = refl; rows = refl; out = inr refl; asks = refl }
+heard_on (Member m) (Some (Wrote w)) c = record { node = refl; boot = refl; sequence = refl; tag = refl; session = refl; rows = refl; out = out_heard m w c.rows c.out; asks = refl }
+heard_on (Member m) (Some (Data d)) c = record { node = refl; boot = refl; sequence = refl; tag = refl; session = refl; rows = refl; out = inr refl; asks = asks_heard d c.rows c.asks }
+heard_on (Member m) (Some (Write w)) c = record { node = refl; boot = refl; sequence = refl; tag = refl; session = refl; rows = refl; out = inr refl; asks = refl }
+heard_on (Member m) (Some (Read r)) c = record { node = refl; boot = refl; sequence = refl; tag = refl; session = refl; rows = refl; out = inr refl; asks = refl }
+heard_on (Member m) (Some (Copy p)) c = record { node = refl; boot = refl; sequence = refl; tag = refl; session = refl; rows = refl; out = inr refl; asks = refl }
+heard_on (Member m) (Some (Copied p)) c = record { node = refl; boot = refl; sequence = refl; tag = refl; session = refl; rows = refl; out = inr refl; asks = refl }
+heard_on (Member m) (Some Alive) c = record { node = refl; boot = refl; sequence = refl; tag = refl; session = refl; rows = refl; out = inr refl; asks = refl }
 
 same_on : (c new : Streaming) → new ≡ c → IsGoingOn c new
-same_on c new is = subst (IsGoingOn c) (sym is) (record { node = refl; boot = refl; sequence = refl; tag = refl; session = refl; rows = refl; out = inr refl; asks = inr refl })
+same_on c new is = subst (IsGoingOn c) (sym is) (record { node = refl; boot = refl; sequence = refl; tag = refl; session = refl; rows = refl; out = inr refl; asks = refl })
 
 -- what comes behind a state that was learned
 learned_then : (c : Streaming) (known : GlobalState) (new : Streaming) → IsGoingOn (learned known c) new → Leaves c known new
@@ -120,6 +155,7 @@ learned_then c known new on = record {
   rows = on.rows;
   out = out_then c.out (learned known c).out new.out (out_learned (learned known c).session known.devices c.out) on.out;
   asks = asks_then c.asks (learned known c).asks new.asks (asks_learned (learned known c).session c.rows known.devices c.asks) on.asks;
+  own_read = λ own. own_then c known new on own;
 }
 
 pub leaves : (c : Streaming) (known : GlobalState) (input : Input) (new : Streaming) (before after : List Letter) → Takes c known input new before after → Leaves c known new

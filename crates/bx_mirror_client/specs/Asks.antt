@@ -1,6 +1,7 @@
 -- A read that is out, or whose answer wasn't taken yet.
-use Rattle.std.specs.Prelude.{ℕ, ◌*◌, ◌==◌, ◌&&◌, not, Bool, false, List, length, Option, Some, None, is_some, if◌then◌else◌}
+use Rattle.std.specs.Prelude.{ℕ, ◌*◌, ◌^◌, ◌<◌, ◌==◌, ◌&&◌, not, Bool, false, List, length, Option, Some, None, is_some, if◌then◌else◌}
 use Rattle.bx_facts.specs.Writes.{Asked}
+use Rattle.bx_rows.specs.Conditions.{Fits}
 use Rattle.bx_rows.specs.declared.device.DeviceRow.{DeviceRow}
 use Rattle.bx_mirror_packets.specs.declared.message.DataBody.{DataBody}
 use Rattle.bx_mirror_client.specs.declared.asking.Asking.{Asking}
@@ -30,3 +31,15 @@ answer_in (Some a) = a.answer
 abbrev pub asks_left : Option Asking → Option Asking
 asks_left None = None
 asks_left (Some a) = if is_some a.answer then None else Some a
+
+-- The numbers of a read fit a packet.
+pub record FitsRead (a : Asking) : Type 0 where
+  pub session : Fits a.session
+  pub device : a.device < 2 ^ 32
+  pub tag : Fits a.tag
+  pub place : Fits a.place
+  pub sectors : a.sectors < 2 ^ 32
+
+abbrev pub FitIfAsked : Option Asking → Type 0
+FitIfAsked None = Unit {0}
+FitIfAsked (Some a) = FitsRead a

@@ -1,5 +1,5 @@
 -- What an event leaves of what a stream has out, and how a write ends.
-use Rattle.std.specs.Prelude.{◌≡◌, ℕ, ◌/◌, ◌⊎◌, List, None}
+use Rattle.std.specs.Prelude.{◌≡◌, ◌≢◌, ℕ, ◌/◌, ◌⊎◌, List, None}
 use Rattle.bx_base.specs.declared.names.Actor.TheVariants.{Member}
 use Rattle.bx_facts.specs.Chains.{session_of}
 use Rattle.bx_facts.specs.declared.input.Input.{Input}
@@ -11,10 +11,10 @@ use Rattle.bx_mirror_packets.specs.declared.message.DeviceMessage.TheVariants.{W
 use Rattle.bx_mirror_packets.specs.declared.message.WroteBody.{WroteBody}
 use Rattle.bx_mirror_client.specs.declared.sending.Sending.{Sending}
 use Rattle.bx_mirror_client.specs.Asks.{asked_in}
-use Rattle.bx_mirror_client.specs.Streams.{Streaming, sent_in}
+use Rattle.bx_mirror_client.specs.Streams.{IsOwnRead, Streaming, sent_in}
 use Rattle.bx_mirror_client.specs.Telling.{HasAcked, IsDone}
 
--- The stream knows what it knew, and what is out stays or goes.
+-- The stream knows what it knew; its write stays or goes, and its read stays.
 pub record IsGoingOn (c new : Streaming) : Type 0 where
   pub node : new.node ≡ c.node
   pub boot : new.boot ≡ c.boot
@@ -23,7 +23,7 @@ pub record IsGoingOn (c new : Streaming) : Type 0 where
   pub session : new.session ≡ c.session
   pub rows : new.rows ≡ c.rows
   pub out : (new.out ≡ None) ⊎ (sent_in new.out ≡ sent_in c.out)
-  pub asks : (new.asks ≡ None) ⊎ (asked_in new.asks ≡ asked_in c.asks)
+  pub asks : asked_in new.asks ≡ asked_in c.asks
 
 -- It knows a state then: the session that it has there, and the rows of the devices.
 pub record Leaves (c : Streaming) (known : GlobalState) (new : Streaming) : Type 0 where
@@ -35,6 +35,8 @@ pub record Leaves (c : Streaming) (known : GlobalState) (new : Streaming) : Type
   pub rows : new.rows ≡ known.devices
   pub out : (new.out ≡ None) ⊎ (sent_in new.out ≡ sent_in c.out)
   pub asks : (new.asks ≡ None) ⊎ (asked_in new.asks ≡ asked_in c.asks)
+  -- its own read stays exactly as long as its session
+  pub own_read : IsOwnRead c.session c.asks → ((new.session ≡ c.session) × (asked_in new.asks ≡ asked_in c.asks)) ⊎ ((new.session ≢ c.session) × (new.asks ≡ None))
 
 -- what comes is this answer of a member
 abbrev pub Brings : Input → ℕ → WroteBody → Type 0

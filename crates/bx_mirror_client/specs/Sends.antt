@@ -1,8 +1,9 @@
 -- A write that is out: which members are still to be told of it, and when it is done.
-use Rattle.std.specs.Prelude.{ℕ, ◌+◌, ◌*◌, ltb, ◌==◌, ◌&&◌, ◌||◌, not, Bool, true, false, List, [], ◌∷◌, if◌then◌else◌}
+use Rattle.std.specs.Prelude.{ℕ, ◌+◌, ◌*◌, ◌^◌, ◌<◌, ltb, ◌==◌, ◌&&◌, ◌||◌, not, Bool, true, false, List, [], ◌∷◌, length, Option, Some, None, if◌then◌else◌}
 use Rattle.std.specs.List.{list_any}
 use Rattle.bx_global.specs.Table.{greatest}
 use Rattle.bx_records.specs.declared.runs.Run.{Run}
+use Rattle.bx_rows.specs.Conditions.{Fits}
 use Rattle.bx_rows.specs.declared.device.DeviceRow.{DeviceRow}
 use Rattle.bx_mirror_client.specs.declared.sending.Ack.{Ack}
 use Rattle.bx_mirror_client.specs.declared.sending.Sending.{Sending}
@@ -51,3 +52,14 @@ is_done_from acks runs device (row ∷ rows) = (not (has_runs device runs) || is
 
 abbrev pub is_done : Sending → List DeviceRow → Bool
 is_done s rows = is_done_from s.acks s.runs.1 0 rows
+
+-- The numbers of a write fit a packet, and so does the number of its runs.
+pub record FitNumbers (s : Sending) : Type 0 where
+  pub session : Fits s.session
+  pub sequence : Fits s.sequence
+  pub until : Fits s.until
+  pub count : length s.runs.1 < 2 ^ 32
+
+abbrev pub FitIfOut : Option Sending → Type 0
+FitIfOut None = Unit {0}
+FitIfOut (Some s) = FitNumbers s

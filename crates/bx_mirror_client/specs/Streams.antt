@@ -1,5 +1,5 @@
 -- What a node has out at mirrored devices, and what becomes of that as it sends, and as it learns a state.
-use Rattle.std.specs.Prelude.{ℕ, ◌==◌, max, Bool, false, List, [], ◌++◌, Option, Some, None, if◌then◌else◌}
+use Rattle.std.specs.Prelude.{◌≡◌, ℕ, ◌≤◌, ◌==◌, max, Bool, false, List, [], ◌++◌, length, Option, Some, None, if◌then◌else◌}
 use Rattle.bx_facts.specs.Chains.{session_of}
 use Rattle.bx_facts.specs.Writes.{Sent}
 use Rattle.bx_global.specs.declared.state.GlobalState.{GlobalState}
@@ -28,6 +28,16 @@ pub record Streaming : Type 0 where
 abbrev pub sent_in : Option Sending → Option Sent
 sent_in None = None
 sent_in (Some s) = Some (record { session = s.session; until = s.until; runs = s.runs.1 })
+
+-- a read that is out is of the stream's session
+abbrev pub IsOwnRead : Option ℕ → Option Asking → Type 0
+IsOwnRead session None = Unit {0}
+IsOwnRead session (Some a) = session ≡ Some a.session
+
+-- Of every stream: it knows few devices, and its read is its own.
+pub record IsStreaming (c : Streaming) : Type 0 where
+  pub few : length c.rows ≤ 4
+  pub own_read : IsOwnRead c.session c.asks
 
 -- All that is to be said of what is out, in the epochs that aren't those of the rows before: the write first.
 abbrev pub letters_since : List DeviceRow → Streaming → List Letter

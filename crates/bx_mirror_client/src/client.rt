@@ -2,10 +2,11 @@
 
 ghost use Rattle.std.specs.Prelude.{◌≡◌, [], ◌++◌, ◌≤◌, IfOk, IsSome, None, OnOk, length, is_some, not};
 ghost use Rattle.bx_facts.specs.Inputs.{IsStores, SendsOnly};
-ghost use Rattle.bx_mirror_client.specs.Asks.{answer_in, asked_in};
+ghost use Rattle.bx_mirror_client.specs.Asks.{FitIfAsked, answer_in};
 ghost use Rattle.bx_mirror_client.specs.Events.{Hears, Takes};
 ghost use Rattle.bx_mirror_client.specs.Letters.{read_letters, write_letters};
-ghost use Rattle.bx_mirror_client.specs.Streams.{answered, asking, letters_since, made, restarted, sending, stopped};
+ghost use Rattle.bx_mirror_client.specs.Sends.{FitIfOut};
+ghost use Rattle.bx_mirror_client.specs.Streams.{IsOwnRead, answered, asking, letters_since, made, restarted, sending, stopped};
 
 use crate::asking::{Asking, take_answer};
 use crate::learning::own_session;
@@ -37,14 +38,13 @@ pub struct MirrorClient {
 }
 
 impl Model for MirrorClient {
-    ghost use Rattle.std.specs.Prelude.{◌≤◌, length};
-    ghost use Rattle.bx_mirror_client.specs.Streams.{Streaming};
+    ghost use Rattle.bx_mirror_client.specs.Streams.{IsStreaming, Streaming};
 
     ghost Value = { Streaming };
 
     ghost view = { λ c. record { node = c.node; boot = c.boot; sequence = c.sequence; tag = c.tag; session = c.session; rows = c.rows; out = c.out; asks = c.asks } };
 
-    ghost invariant = { λ c. length c.rows ≤ 4 };
+    ghost invariant = { λ c. IsStreaming (record { node = c.node; boot = c.boot; sequence = c.sequence; tag = c.tag; session = c.session; rows = c.rows; out = c.out; asks = c.asks }) };
 }
 
 impl MirrorClient {
@@ -96,6 +96,7 @@ impl MirrorClient {
         ensures sends { OnOk result (out.new ≡ out.old ++ write_letters [] self.old.node self.new.out self.old.rows) }
         ensures sent { OnOk result (SendsOnly IsStores out.old out.new) }
         ensures stays { (self.new.session ≡ self.old.session) × (self.new.asks ≡ self.old.asks) }
+        ensures numbers { OnOk result (FitIfOut self.new.out) }
     {
         let Some(session) = self.session else {
             return Ok(());
@@ -128,6 +129,7 @@ impl MirrorClient {
         ensures sends { OnOk result (out.new ≡ out.old ++ read_letters [] self.old.node self.new.asks self.old.rows) }
         ensures sent { OnOk result (SendsOnly IsStores out.old out.new) }
         ensures stays { (self.new.session ≡ self.old.session) × (self.new.out ≡ self.old.out) }
+        ensures numbers { OnOk result (FitIfAsked self.new.asks) }
     {
         let Some(session) = self.session else {
             return Ok(());
@@ -163,8 +165,11 @@ impl MirrorClient {
     ) -> Result<(), OutOfMemory>
         requires devices { length known.now.devices ≤ 4 }
         ensures takes { OnOk result (Takes self.old known.now input.now self.new out.old out.new) }
+        ensures own_read { IsOwnRead self.old.session self.old.asks }
         ensures sent { OnOk result (SendsOnly IsStores out.old out.new) }
     {
+        // What holds of every stream is known of this one, since a field is looked at.
+        let _ = &self.alloc;
         self.learn(known, out)?;
         match input {
             Input::Packet(packet, _) => self.take_packet(packet),

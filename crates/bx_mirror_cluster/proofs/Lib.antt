@@ -58,3 +58,6 @@ pub mod MemberFaults
 pub mod MemberKeeps
 pub mod MemberFaulted
 pub mod MemberPieceCut
+pub mod Surer
+pub mod Beside
+pub mod MemberImages

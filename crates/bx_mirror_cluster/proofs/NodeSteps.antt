@@ -18,7 +18,7 @@ use Rattle.bx_mirror_packets.specs.declared.message.DeviceMessage.TheVariants.{W
 use Rattle.bx_mirror_packets.specs.declared.message.ReadBody.{ReadBody}
 use Rattle.bx_mirror_packets.specs.declared.message.WroteBody.{WroteBody}
 use Rattle.bx_mirror_packets.proofs.Spelled.{one_message}
-use Rattle.bx_mirror_client.specs.Asks.{asks_left, is_awaited}
+use Rattle.bx_mirror_client.specs.Asks.{FitsRead, asks_left, is_awaited}
 use Rattle.bx_mirror_client.specs.Events.{with_ack}
 use Rattle.bx_mirror_client.specs.Letters.{is_new_epoch, read_in, read_letter, read_letters}
 use Rattle.bx_mirror_client.specs.Sends.{has_runs, is_acked, member_at, next_number}
@@ -30,7 +30,7 @@ use Rattle.bx_mirror_client.proofs.Leaving.{noted_more}
 use Rattle.bx_mirror_client.proofs.Telling.{both, same_number}
 use Rattle.bx_mirror_cluster.specs.Fitting.{IsReading, IsSettledOn, Keeps, Parts, StandsOn, WillReadOn, out_by}
 use Rattle.bx_mirror_cluster.specs.GoingOn.{AreReads, GoesOn, IsAskedOn, IsSameRead, letters_more}
-use Rattle.bx_mirror_cluster.specs.Speaking.{FitsRead, IsOfRead, IsSendable}
+use Rattle.bx_mirror_cluster.specs.Speaking.{IsOfRead, IsSendable}
 use Rattle.bx_mirror_cluster.specs.NodeSteps.{IsAck, MayRead, parts_acked, parts_asked, past_asked}
 use Rattle.bx_mirror_cluster.specs.Writing.{with_node, with_stream}
 use Rattle.bx_mirror_cluster.proofs.GoingOn.{goes_on, reads_on, settles_on, stands_still}
@@ -140,7 +140,7 @@ ack_fits made member epoch s fits = by (is_acked s.acks member epoch)
   where
     by : (b : Bool) → IsSendable made (if b then s else record s { acks = s.acks ++ record { member = member; epoch = epoch } ∷ [] })
     by true = fits
-    by false = let packet = fits.packet in record { packet = record { session = packet.session; sequence = packet.sequence; until = packet.until; count = packet.count; runs = packet.runs }; runs = fits.runs }
+    by false = let packet = fits.packet in record { packet = record { numbers = record { session = packet.numbers.session; sequence = packet.numbers.sequence; until = packet.numbers.until; count = packet.numbers.count }; runs = packet.runs }; runs = fits.runs }
 
 half : (d : ℕ) (b : Bool) → member_at d b / 2 ≡ d
 half d false = omega arith

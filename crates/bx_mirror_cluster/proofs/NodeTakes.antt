@@ -16,7 +16,7 @@ use Rattle.bx_mirror_packets.specs.declared.message.DeviceMessage.TheVariants.{R
 use Rattle.bx_mirror_packets.specs.declared.message.ReadBody.{ReadBody}
 use Rattle.bx_mirror_packets.specs.declared.message.WroteBody.{WroteBody}
 use Rattle.bx_mirror_packets.proofs.Spelled.{one_message}
-use Rattle.bx_mirror_client.specs.Asks.{fits, is_awaited}
+use Rattle.bx_mirror_client.specs.Asks.{FitsRead, fits, is_awaited}
 use Rattle.bx_mirror_client.specs.Events.{asks_answered, counts, out_acked, with_ack}
 use Rattle.bx_mirror_client.specs.Letters.{is_new_for, read_letters}
 use Rattle.bx_mirror_client.specs.Sends.{is_done}
@@ -27,7 +27,7 @@ use Rattle.bx_mirror_cluster.specs.Fitting.{IsReading, Keeps, Parts, out_by}
 use Rattle.bx_mirror_cluster.specs.GoingOn.{AreReads, GoesOn, IsSameRead, letters_more}
 use Rattle.bx_mirror_cluster.specs.Learning.{Learned, MayLearn, knowing}
 use Rattle.bx_mirror_cluster.specs.NodeSteps.{parts_acked}
-use Rattle.bx_mirror_cluster.specs.Speaking.{FitsRead, IsOfRead}
+use Rattle.bx_mirror_cluster.specs.Speaking.{IsOfRead}
 use Rattle.bx_mirror_cluster.specs.Writing.{with_node, with_stream}
 use Rattle.bx_mirror_cluster.proofs.Alike.{same_stream}
 use Rattle.bx_mirror_cluster.proofs.GoingOn.{goes_on}

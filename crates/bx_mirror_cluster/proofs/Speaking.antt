@@ -64,12 +64,12 @@ module _ (s : Sending) (fits : FitsPacket s) where
   is_body device row low epoch = record {
     least = least_kind s.runs.0;
     most = most_kind s.runs.0;
-    session = fits.session;
+    session = fits.numbers.session;
     device = low;
     epoch = epoch;
-    sequence = fits.sequence;
-    until = fits.until;
-    count = let fewer = fewer_on device s.runs.1 in let count = fits.count in omega (arith, fewer, count);
+    sequence = fits.numbers.sequence;
+    until = fits.numbers.until;
+    count = let fewer = fewer_on device s.runs.1 in let count = fits.numbers.count in omega (arith, fewer, count);
     each = runs_spoken device s.runs.1 fits.runs;
   }
 

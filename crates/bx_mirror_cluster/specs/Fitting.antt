@@ -36,12 +36,13 @@ use Rattle.bx_mirror_tables.specs.declared.answers.Answer.TheVariants as answers
 use Rattle.bx_mirror_tables.specs.declared.answers.Owing.{Owing}
 use Rattle.bx_mirror_member.specs.Standing.{Standing as Serving}
 use Rattle.bx_mirror_server.specs.Sides.{copied_in, wrote_in}
+use Rattle.bx_mirror_client.specs.Asks.{FitsRead}
 use Rattle.bx_mirror_client.specs.Sends.{member_at}
 use Rattle.bx_mirror_client.specs.Streams.{Streaming}
 use Rattle.bx_mirror_client.specs.Telling.{HasAcked}
 use Rattle.bx_mirror_client.specs.declared.asking.Asking.{Asking}
 use Rattle.bx_mirror_client.specs.declared.sending.Sending.{Sending}
-use Rattle.bx_mirror_cluster.specs.Speaking.{BringsOnce, FitsRead, IsOfRead, IsSendable}
+use Rattle.bx_mirror_cluster.specs.Speaking.{BringsOnce, IsOfRead, IsSendable}
 
 -- ---- the rows of a device along a chain, and what was handed back of it
 

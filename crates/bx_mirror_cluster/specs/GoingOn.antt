@@ -4,12 +4,13 @@ use Rattle.bx_facts.specs.Writes.{StorePast}
 use Rattle.bx_post.specs.declared.packets.Letter.{Letter}
 use Rattle.bx_mirror_laws.specs.Sides.{Among}
 use Rattle.bx_mirror_packets.specs.declared.message.ReadBody.{ReadBody}
+use Rattle.bx_mirror_client.specs.Asks.{FitsRead}
 use Rattle.bx_mirror_client.specs.Sends.{member_at}
 use Rattle.bx_mirror_client.specs.Streams.{Streaming}
 use Rattle.bx_mirror_client.specs.Telling.{HasAcked}
 use Rattle.bx_mirror_client.specs.declared.asking.Asking.{Asking}
 use Rattle.bx_mirror_client.specs.declared.sending.Sending.{Sending}
-use Rattle.bx_mirror_cluster.specs.Speaking.{FitsRead, IsOfRead, IsSendable}
+use Rattle.bx_mirror_cluster.specs.Speaking.{IsOfRead, IsSendable}
 use Rattle.bx_mirror_cluster.specs.Fitting.{History, IsReading, Parts, out_by}
 
 -- other streams, and more letters

@@ -5,12 +5,12 @@ use Rattle.bx_facts.specs.Chains.{HasOwnBoot, IsPlace, session_of}
 use Rattle.bx_facts.specs.Machines.{put_at}
 use Rattle.bx_facts.specs.Writes.{StorePast}
 use Rattle.bx_global.specs.declared.state.GlobalState.{GlobalState}
+use Rattle.bx_mirror_client.specs.Asks.{FitsRead}
 use Rattle.bx_mirror_client.specs.Streams.{Streaming}
 use Rattle.bx_mirror_client.specs.declared.asking.Asking.{Asking}
 use Rattle.bx_mirror_client.specs.declared.sending.Sending.{Sending}
 use Rattle.bx_mirror_cluster.specs.Fitting.{Parts, out_by}
 use Rattle.bx_mirror_cluster.specs.GoingOn.{IsSameRead}
-use Rattle.bx_mirror_cluster.specs.Speaking.{FitsRead}
 
 -- What a node is handed: it is up, and the state is one of the chain, and no older than what it knew.
 pub record MayLearn (parts : Parts) (past : StorePast) (node : ℕ) (known : GlobalState) : Type 0 where

@@ -1,3 +1,4 @@
+pub mod Beside
 pub mod Fitting
 pub mod GoesFurther
 pub mod GoingOn

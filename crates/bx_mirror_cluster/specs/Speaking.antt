@@ -9,6 +9,7 @@ use Rattle.bx_mirror_packets.specs.declared.message.ReadBody.{ReadBody}
 use Rattle.bx_rows.specs.declared.device.DeviceRow.{DeviceRow}
 use Rattle.bx_mirror_laws.specs.Sides.{WriteLetter}
 use Rattle.bx_mirror_packets.specs.Parting.{runs_on}
+use Rattle.bx_mirror_client.specs.Sends.{FitNumbers}
 use Rattle.bx_mirror_client.specs.Telling.{HasRuns}
 use Rattle.bx_mirror_client.specs.declared.asking.Asking.{Asking}
 use Rattle.bx_mirror_client.specs.declared.sending.Sending.{Sending}
@@ -20,21 +21,10 @@ pub record IsSpoken (run : Run) : Type 0 where
   pub some : 1 ≤ length run.bytes / 512
   pub count : length run.bytes / 512 < 2 ^ 32
 
--- The numbers of a write fit a packet.
+-- The numbers of a write fit a packet, and its runs do.
 pub record FitsPacket (s : Sending) : Type 0 where
-  pub session : Fits s.session
-  pub sequence : Fits s.sequence
-  pub until : Fits s.until
-  pub count : length s.runs.1 < 2 ^ 32
+  pub numbers : FitNumbers s
   pub runs : AllByRecursion IsSpoken s.runs.1
-
--- So do those of a read.
-pub record FitsRead (a : Asking) : Type 0 where
-  pub session : Fits a.session
-  pub device : a.device < 2 ^ 32
-  pub tag : Fits a.tag
-  pub place : Fits a.place
-  pub sectors : a.sectors < 2 ^ 32
 
 -- A write may be told: its numbers fit a packet, and its runs are ones of the volume.
 pub record IsSendable (made : Made) (s : Sending) : Type 0 where

@@ -4,7 +4,7 @@ ghost use Rattle.std.specs.Prelude.{◌≡◌, ◌≢◌, ℕ, ◌+◌, ◌<◌,
 ghost use Rattle.bx_base.specs.declared.names.Actor.TheVariants.{Member};
 ghost use Rattle.bx_disk.specs.Disks.{Disks, Stays};
 ghost use Rattle.bx_facts.specs.Chains.{last};
-ghost use Rattle.bx_facts.specs.Disks.{Crashes, SameMemberLengths};
+ghost use Rattle.bx_facts.specs.Disks.{Crashes, SameMemberLengths, SameMembers};
 ghost use Rattle.bx_facts.specs.Writes.{StorePast, member_disk, store_crashed};
 ghost use Rattle.bx_mirror_member.specs.Standing.{Standing};
 ghost use Rattle.bx_mirror_client.specs.Sends.{member_at};
@@ -37,6 +37,14 @@ pub fn a_disk_changes()
         → StandsOn parts x past other sector content index → StandsOn parts y past other sector content index }
     ensures stays_reads { (parts : Parts) (x y : Disks) (past : StorePast) (reader : ℕ) (read : Asking) (sector : ℕ) (content : List ℕ) → ((device : ℕ) → device < parts.made.devices → (second : Bool) (s : ℕ) → Stays x y (member_disk device second) s)
         → WillReadOn parts x past reader read sector content → WillReadOn parts y past reader read sector content }
+{}
+
+/// Members and streams go on fitting the past where all disks of members read as they did, and what was sure is.
+pub fn disks_are_surer()
+    ensures keeps { (parts : Parts) (x y : Disks) (past : StorePast) → Keeps parts x past → SameMembers x y → SameMemberLengths x y → Keeps parts y past }
+    ensures settles { (parts : Parts) (x y : Disks) (past : StorePast) (device sector : ℕ) (content : List ℕ) → Keeps parts x past → SameMembers x y → IsSettledOn parts x past device sector content → IsSettledOn parts y past device sector content }
+    ensures stands { (parts : Parts) (x y : Disks) (past : StorePast) (device sector : ℕ) (content : List ℕ) (index : ℕ) → Keeps parts x past → SameMembers x y → StandsOn parts x past device sector content index → StandsOn parts y past device sector content index }
+    ensures reads { (parts : Parts) (x y : Disks) (past : StorePast) (reader : ℕ) (read : Asking) (sector : ℕ) (content : List ℕ) → Keeps parts x past → SameMembers x y → WillReadOn parts x past reader read sector content → WillReadOn parts y past reader read sector content }
 {}
 
 /// Members and streams go on fitting the past where a member stops: what it knew and owed is gone, and its disk stays.

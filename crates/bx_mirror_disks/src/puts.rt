@@ -1,7 +1,7 @@
 //! Runs that are put on the disk of one member.
 
 ghost use Rattle.std.specs.Prelude.{◌≡◌, ℕ, ◌-◌, ◌≤◌, Bool, List, slice_index, OnOk};
-ghost use Rattle.bx_calls.specs.Calls.{KeepsSure, LeavesOnly};
+ghost use Rattle.bx_calls.specs.Calls.{HasSure, KeepsSure, LeavesOnly};
 ghost use Rattle.bx_disk.specs.Kept.{Fails};
 ghost use Rattle.bx_facts.specs.Writes.{Sent, member_disk};
 ghost use Rattle.bx_members.specs.Members.{HasMembers, KeepsMembers};
@@ -20,6 +20,7 @@ pub fn put_runs<R: Rack>(rack: &mut R, disk: u32, room: u64, runs: &Runs) -> Res
     ensures keeps { (writes : List Sent) (greatest device : ℕ) (second : Bool) → R.tells rack.old → disk ≡ member_disk device second → AllLieIn device room runs.now.1 → AreBrought writes greatest device runs.now.1 → KeepsMembers writes greatest (R.state rack.old) (R.state rack.new) }
     ensures any_moment { (writes : List Sent) (greatest device : ℕ) (second : Bool) → R.tells rack.old → disk ≡ member_disk device second → AllLieIn device room runs.now.1 → AreBrought writes greatest device runs.now.1 → LeavesOnly (R.moment rack.old) (R.moment rack.new) (R.left_since rack.old) (R.left_since rack.new) (HasMembers writes greatest (R.state rack.old)) }
     ensures elsewhere { R.tells rack.old → KeepsSure (R.state rack.old) (R.state rack.new) disk 1 (room - 1) }
+    ensures sure_moment { R.tells rack.old → LeavesOnly (R.moment rack.old) (R.moment rack.new) (R.left_since rack.old) (R.left_since rack.new) (HasSure (R.state rack.old) disk 1 (room - 1)) }
     ensures rack { Fails R.Rack rack.old rack.new result }
 {
     for i in 0..runs.len() {

@@ -1,6 +1,5 @@
 -- Bodies whose first part, or first two parts, are fields.
-use Rattle.std.proofs.Common.{◌≡◌, ℕ, List, [], ◌∷◌, ◌++◌, length, true, false, eqb, Option, Some, None, refl, sym, ap, subst, ◌∙◌, arith, eq-eqb}
-use Rattle.std.proofs.lemmas.Bool.{eqb-true}
+use Rattle.std.proofs.Common.{◌≡◌, ℕ, List, [], ◌++◌, Option, Some, None, sym, ap, subst, ◌∙◌}
 use Rattle.std.proofs.lemmas.Option.{some_pair_parts}
 use Rattle.bx_fields.specs.declared.error.ReadError.{ReadError}
 use Rattle.bx_fields.specs.declared.error.ReadError.TheVariants as errors
@@ -65,15 +64,3 @@ pub has_second : {X A B : Type 0} {Body : X → Type 0} {body : X → List ℕ} 
 has_second {X} {A} {B} {Body} {body} {read} {text} {Fit} {front} {more} {then_read} {then_text} {Then} {second} p has q also bytes rest end a b x e f is =
     let same = has_front p has bytes rest a x e is in
     front_same (q a) rest end [] b (second x) f (same.1 ∙ also.parts x) (subst (λ (h : A). Then h (second x)) (sym same.0) (also.fits x is.is))
-
--- ---- ends of bodies
-
-pub empty_is : (xs : List ℕ) → eqb (length xs) 0 ≡ true → xs ≡ []
-empty_is [] e = refl
-empty_is (x ∷ xs) e = absurd (omega (arith, eqb-true (length (x ∷ xs)) 0 e))
-
--- bytes that aren't empty, though they are
-pub not_empty : (xs : List ℕ) → eqb (length xs) 0 ≡ false → xs ≡ [] → ⊥
-not_empty xs e is =
-    let yes : eqb (length xs) 0 ≡ true = eq-eqb (length xs) 0 (ap length is) in
-    absurd cc

@@ -9,7 +9,7 @@ use crate::message::{CopiedBody, CopyBody, DataBody, ReadBody, WriteBody, WroteB
 use crate::parts::{extent_of, head_of, piece_of};
 use crate::runs::runs_of;
 use bx_base::Raw;
-use bx_fields::{ReadError, u64_at};
+use bx_fields::{ReadError, all_of, u64_at};
 use bx_records::Runs;
 use std::alloc::Global;
 
@@ -23,11 +23,7 @@ pub(crate) fn write_in(alloc: Global, kind: u8, bytes: &[u8]) -> Result<WriteBod
     ensures { MatchResult result (λ x. IsText (IsWriteOf kind) write_text x bytes.now) (λ e. NoText (IsWriteOf kind) write_text e bytes.now) }
 {
     let (head, rest) = head_of(bytes)?;
-    let (writing, rest) = writing_of(alloc, kind, head.device, rest)?;
-    if !rest.is_empty() {
-        return Err(ReadError::Malformed);
-    }
-    let (until, runs) = writing;
+    let (until, runs) = all_of(writing_of(alloc, kind, head.device, rest)?)?;
     Ok(WriteBody {
         session: head.session,
         device: head.device,
@@ -58,10 +54,7 @@ fn writing_of(
 pub(crate) fn wrote_in(bytes: &[u8]) -> Result<WroteBody, ReadError>
     ensures { MatchResult result (λ x. IsText IsWroteBody wrote_text x bytes.now) (λ e. NoText IsWroteBody wrote_text e bytes.now) }
 {
-    let (head, rest) = head_of(bytes)?;
-    if !rest.is_empty() {
-        return Err(ReadError::Malformed);
-    }
+    let head = all_of(head_of(bytes)?)?;
     Ok(WroteBody {
         session: head.session,
         device: head.device,
@@ -75,11 +68,7 @@ pub(crate) fn read_in(bytes: &[u8]) -> Result<ReadBody, ReadError>
     ensures { MatchResult result (λ x. IsText IsReadBody read_text x bytes.now) (λ e. NoText IsReadBody read_text e bytes.now) }
 {
     let (head, rest) = head_of(bytes)?;
-    let (extent, rest) = extent_of(rest)?;
-    if !rest.is_empty() {
-        return Err(ReadError::Malformed);
-    }
-    let (place, sectors) = extent;
+    let (place, sectors) = all_of(extent_of(rest)?)?;
     Ok(ReadBody {
         session: head.session,
         device: head.device,
@@ -126,10 +115,7 @@ pub(crate) fn copy_in(alloc: Global, bytes: &[u8]) -> Result<CopyBody, ReadError
 pub(crate) fn copied_in(bytes: &[u8]) -> Result<CopiedBody, ReadError>
     ensures { MatchResult result (λ x. IsText IsCopiedBody copied_text x bytes.now) (λ e. NoText IsCopiedBody copied_text e bytes.now) }
 {
-    let (piece, rest) = piece_of(bytes)?;
-    if !rest.is_empty() {
-        return Err(ReadError::Malformed);
-    }
+    let piece = all_of(piece_of(bytes)?)?;
     Ok(CopiedBody {
         device: piece.device,
         epoch: piece.epoch,

@@ -20,6 +20,20 @@ pub(crate) struct Head {
     pub(crate) number: u64,
 }
 
+impl Head {
+    /// The head of a session's write or read.
+    pub(crate) fn of(session: u64, device: u32, epoch: u64, number: u64) -> Head
+        ensures { result ≡ record { session = session; device = device; epoch = epoch; number = number } }
+    {
+        Head {
+            session,
+            device,
+            epoch,
+            number,
+        }
+    }
+}
+
 /// What pieces of copies begin with.
 #[derive(Clone, Copy)]
 pub(crate) struct Piece {
@@ -39,13 +53,7 @@ pub(crate) fn head_of(bytes: &[u8]) -> Result<(Head, &[u8]), ReadError>
     let (session, rest) = u64_at(bytes)?;
     let ((device, epoch), rest) = pair_of(rest)?;
     let (number, rest) = u64_at(rest)?;
-    let head = Head {
-        session,
-        device,
-        epoch,
-        number,
-    };
-    Ok((head, rest))
+    Ok((Head::of(session, device, epoch, number), rest))
 }
 
 /// What a piece of a copy begins with, and the bytes behind it.

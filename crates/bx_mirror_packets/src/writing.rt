@@ -35,12 +35,7 @@ fn push_message(out: &mut Vec<u8>, message: &DeviceMessage) -> Result<(), OutOfM
     match message {
         DeviceMessage::Write(write) => push_write(out, write),
         DeviceMessage::Wrote(wrote) => {
-            let head = Head {
-                session: wrote.session,
-                device: wrote.device,
-                epoch: wrote.epoch,
-                number: wrote.sequence,
-            };
+            let head = Head::of(wrote.session, wrote.device, wrote.epoch, wrote.sequence);
             push_head(out, head)
         }
         DeviceMessage::Read(read) => push_read(out, read),
@@ -81,12 +76,7 @@ fn push_write(out: &mut Vec<u8>, write: &WriteBody) -> Result<(), OutOfMemory>
     requires sectors { AllByRecursion HasSectors write.now.runs.1 }
     ensures { OnOk result (out.new.items ≡ out.old.items ++ write_text write.now) }
 {
-    let head = Head {
-        session: write.session,
-        device: write.device,
-        epoch: write.epoch,
-        number: write.sequence,
-    };
+    let head = Head::of(write.session, write.device, write.epoch, write.sequence);
     push_head(out, head)?;
     push_u64(out, write.until)?;
     push_runs(out, &write.runs)
@@ -123,12 +113,7 @@ pub(crate) fn push_run(out: &mut Vec<u8>, run: &Run) -> Result<(), OutOfMemory>
 fn push_read(out: &mut Vec<u8>, read: &ReadBody) -> Result<(), OutOfMemory>
     ensures { OnOk result (out.new.items ≡ out.old.items ++ read_text read.now) }
 {
-    let head = Head {
-        session: read.session,
-        device: read.device,
-        epoch: read.epoch,
-        number: read.tag,
-    };
+    let head = Head::of(read.session, read.device, read.epoch, read.tag);
     push_head(out, head)?;
     push_u64(out, read.place)?;
     push_u32(out, read.sectors)
@@ -138,12 +123,7 @@ fn push_read(out: &mut Vec<u8>, read: &ReadBody) -> Result<(), OutOfMemory>
 fn push_data(out: &mut Vec<u8>, answer: &DataBody) -> Result<(), OutOfMemory>
     ensures { OnOk result (out.new.items ≡ out.old.items ++ data_text answer.now) }
 {
-    let head = Head {
-        session: answer.session,
-        device: answer.device,
-        epoch: answer.epoch,
-        number: answer.tag,
-    };
+    let head = Head::of(answer.session, answer.device, answer.epoch, answer.tag);
     push_head(out, head)?;
     push(out, answer.bytes.bytes())
 }

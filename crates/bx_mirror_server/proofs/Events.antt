@@ -1,16 +1,19 @@
 -- Whole events: a member learns, and takes what comes.
-use Rattle.std.proofs.Common.{◌≡◌, ℕ, ◌+◌, ◌≤◌, Bool, true, false, List, Option, Some, None, Result, Ok, Err, IfOk, refl, sym, subst}
+use Rattle.std.proofs.Common.{◌≡◌, inl, ℕ, ◌+◌, ◌≤◌, Bool, true, false, List, [], Option, Some, None, Result, Ok, Err, IfOk, refl, sym, subst}
 use Rattle.std.specs.Prelude.{slice_get, slice_index, if◌then◌else◌}
 use Rattle.bx_disk.specs.Disks.{Disks}
 use Rattle.bx_disk.specs.declared.rack.Rack as racks
 use Rattle.bx_facts.specs.Writes.{Made, store_room}
 use Rattle.bx_facts.specs.declared.input.Input.{Input}
+use Rattle.bx_facts.specs.declared.input.Input.TheVariants.{Packet, Tick, Synced}
 use Rattle.bx_global.specs.declared.change.Change.{Change}
 use Rattle.bx_global.specs.declared.state.GlobalState.{GlobalState}
 use Rattle.bx_post.specs.declared.packets.Letter.{Letter}
 use Rattle.bx_rows.specs.declared.device.DeviceRow.{DeviceRow}
+use Rattle.bx_mirror_packets.specs.declared.message.DeviceMessage.{DeviceMessage}
+use Rattle.bx_mirror_packets.specs.declared.message.DeviceMessage.TheVariants.{Write, Wrote, Read, Data, Copy, Copied, Alive}
 use Rattle.bx_mirror_member.specs.Standing.{Standing, device_in, disk_in, first_piece, is_news, learned, learned_row, room_in, with_row}
-use Rattle.bx_mirror_server.specs.Serving.{BringsOnly, Does, OfInput, SendsAny}
+use Rattle.bx_mirror_server.specs.Serving.{BringsOf, BringsOnly, Does, OfInput, SendsAny}
 use Rattle.bx_mirror_server.specs.Working.{Works}
 use Rattle.bx_mirror_server.proofs.Telling.{input_told}
 
@@ -64,3 +67,19 @@ does_on A B goes known input m mid new (Ok change) before between after x y z le
       (subst (λ (w : Disks). OfInput B input mid new change between after w z) stays (input_told A B goes mid new between after y z change input does));
 }
 does_on A B goes known input m mid new (Err e) before between after x y z learns stays begins does = tt
+
+-- ---- what brings nothing
+
+pub message_none : (m : Standing) (reading : ℕ) (message : DeviceMessage) → BringsOf m reading message []
+message_none m reading (Write w) = inl refl
+message_none m reading (Wrote w) = refl
+message_none m reading (Read r) = refl
+message_none m reading (Data d) = refl
+message_none m reading (Copy c) = inl refl
+message_none m reading (Copied c) = refl
+message_none m reading Alive = refl
+
+pub input_none : (m : Standing) (input : Input) → BringsOnly m input []
+input_none m (Packet packet reading) = inl refl
+input_none m (Tick reading) = refl
+input_none m Synced = refl

@@ -22,7 +22,8 @@ use Rattle.bx_mirror_member.specs.Acting.{IsTaken}
 use Rattle.bx_mirror_member.specs.Standing.{Standing, device_in, disk_in, hearing, is_news, is_second, learned, learned_row, started, stopped, with_row}
 use Rattle.bx_mirror_member.specs.Steps.{copied_of}
 use Rattle.bx_mirror_server.specs.Serving.{OfSync, PutsPiece, PutsWrite, run_of}
-use Rattle.bx_mirror_server.specs.Sides.{IsOnce, MayTakeWrite, alone, letter_to, piece_alone, piece_from, side_of}
+use Rattle.bx_mirror_server.specs.Sides.{IsOnce, MayTakeWrite, letter_to, piece_from, side_of}
+use Rattle.bx_mirror_server.specs.Working.{alone}
 use Rattle.bx_mirror_server.proofs.Places.{own_disk}
 use Rattle.bx_mirror_server.proofs.Owing.{copied_only, copied_same, wrote_it, wrote_only, wrote_same, wrote_still}
 
@@ -119,7 +120,7 @@ stops m x = record { down = refl; wrote = refl; copied = refl; row = refl }
 
 -- ---- a fault cuts a write short, and a member starts again
 
-pub partly : (m : Standing) (w : WriteBody) (x y : Disks) → KeepsMembers (alone w) 0 x y → PartlyTaken (device_in m) (letter_to m w) (side_of true m x) (side_of true m y)
+pub partly : (m : Standing) (w : WriteBody) (x y : Disks) → KeepsMembers (alone w.runs.1) 0 x y → PartlyTaken (device_in m) (letter_to m w) (side_of true m x) (side_of true m y)
 partly m w x y keeps = record {
   memory = record { up = refl; boot = refl; row = refl };
   keeps = λ sector content unique here.
@@ -135,18 +136,18 @@ partly m w x y keeps = record {
 }
   where
     its : Sent
-    its = record { session = w.session; until = 0; runs = w.runs.1 }
+    its = record { session = 0; until = 0; runs = w.runs.1 }
 
-    one : (write : Sent) → Contains (alone w) write → its ≡ write
+    one : (write : Sent) → Contains (alone w.runs.1) write → its ≡ write
     one write (zero, less, is) = is
     one write (suc k, less, is) = absurd (omega (arith, less))
 
-    only : (sector : ℕ) (content : List ℕ) → ((other : List ℕ) → WritesIn w.runs.1 (device_in m) sector other → other ≡ content) → IsOnly (alone w) 0 (device_in m) sector content
+    only : (sector : ℕ) (content : List ℕ) → ((other : List ℕ) → WritesIn w.runs.1 (device_in m) sector other → other ≡ content) → IsOnly (alone w.runs.1) 0 (device_in m) sector content
     only sector content unique = record {
       each = λ write other there brings. inl (unique other (subst (λ (s : Sent). WritesIn s.runs (device_in m) sector other) (sym (one write there)) brings));
     }
 
-pub piece_partly : (m : Standing) (by : Bool) (c : CopyBody) (x y : Disks) → c.device ≡ device_in m → KeepsMembers (piece_alone c) 0 x y → PieceChanged (is_second m) (piece_from by c) (side_of true m x) (side_of true m y)
+pub piece_partly : (m : Standing) (by : Bool) (c : CopyBody) (x y : Disks) → c.device ≡ device_in m → KeepsMembers (alone (run_of c ∷ [])) 0 x y → PieceChanged (is_second m) (piece_from by c) (side_of true m x) (side_of true m y)
 piece_partly m by c x y here keeps = record {
   memory = record { up = refl; boot = refl; row = refl };
   lasts = refl;
@@ -165,11 +166,11 @@ piece_partly m by c x y here keeps = record {
     at : disk_in m ≡ member_disk (device_in m) (is_second m)
     at = own_disk m
 
-    one : (write : Sent) → Contains (piece_alone c) write → record { session = 0; until = 0; runs = run_of c ∷ [] } ≡ write
+    one : (write : Sent) → Contains (alone (run_of c ∷ [])) write → record { session = 0; until = 0; runs = run_of c ∷ [] } ≡ write
     one write (zero, less, is) = is
     one write (suc k, less, is) = absurd (omega (arith, less))
 
-    only : (sector : ℕ) → (c.place ≤ sector → sector < c.place + length c.bytes / 512 → x.reads (disk_in m) sector ≡ sector_of c.bytes (sector - c.place)) → IsOnly (piece_alone c) 0 (device_in m) sector (x.reads disk sector)
+    only : (sector : ℕ) → (c.place ≤ sector → sector < c.place + length c.bytes / 512 → x.reads (disk_in m) sector ≡ sector_of c.bytes (sector - c.place)) → IsOnly (alone (run_of c ∷ [])) 0 (device_in m) sector (x.reads disk sector)
     only sector same = record {
       each = λ write other there brings.
           let w = piece_writes c (device_in m) sector other (subst (λ (s : Sent). WritesIn s.runs (device_in m) sector other) (sym (one write there)) brings) in

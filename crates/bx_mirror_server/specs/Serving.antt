@@ -3,14 +3,13 @@ use Rattle.std.specs.Prelude.{◌≡◌, ℕ, ◌*◌, ◌⊎◌, false, List, [
 use Rattle.bx_base.specs.declared.names.Actor.{Actor}
 use Rattle.bx_calls.specs.Regions.{ReadsAs}
 use Rattle.bx_disk.specs.Disks.{Disks}
-use Rattle.bx_facts.specs.Writes.{Sent}
 use Rattle.bx_facts.specs.declared.input.Input.{Input}
 use Rattle.bx_facts.specs.declared.input.Input.TheVariants.{Packet, Tick, Synced}
 use Rattle.bx_global.specs.declared.change.Change.{Change}
 use Rattle.bx_global.specs.declared.state.GlobalState.{GlobalState}
 use Rattle.bx_post.specs.declared.packets.Letter.{Letter}
 use Rattle.bx_records.specs.declared.runs.Run.{Run}
-use Rattle.bx_mirror_disks.specs.Puts.{AreBrought, PutsRuns}
+use Rattle.bx_mirror_disks.specs.Puts.{PutsRuns}
 use Rattle.bx_mirror_packets.specs.DeviceMessages.{Spells, letter_with}
 use Rattle.bx_mirror_packets.specs.declared.message.WriteBody.{WriteBody}
 use Rattle.bx_mirror_packets.specs.declared.message.ReadBody.{ReadBody}
@@ -172,27 +171,27 @@ pub record Does (Told : Type 0) (known : GlobalState) (input : Input) (m new : S
   pub begins : SendsAny Told (learned known m) (first_piece known m) old before between
   pub does : OfInput Told input (learned known m) new change between after old now
 
--- ---- what an input may bring to the disk is all of these writes, none of which is over
+-- ---- what an input brings to the disk: nothing, or the runs of a write that is taken, or of a piece of a copy
 
-abbrev pub BringsWrite : Standing → ℕ → WriteBody → List Sent → ℕ → Type 0
-BringsWrite m reading w writes greatest = IsTaken m reading w → AreBrought writes greatest (device_in m) w.runs.1
+abbrev pub BringsWrite : Standing → ℕ → WriteBody → List Run → Type 0
+BringsWrite m reading w runs = (runs ≡ []) ⊎ (IsTaken m reading w × (runs ≡ w.runs.1))
 
-abbrev pub BringsPiece : Standing → CopyBody → List Sent → ℕ → Type 0
-BringsPiece m c writes greatest = IsCopiedHere m c → AreBrought writes greatest (device_in m) (run_of c ∷ [])
+abbrev pub BringsPiece : Standing → CopyBody → List Run → Type 0
+BringsPiece m c runs = (runs ≡ []) ⊎ (IsCopiedHere m c × (runs ≡ run_of c ∷ []))
 
-abbrev pub BringsOf : Standing → ℕ → DeviceMessage → List Sent → ℕ → Type 0
-BringsOf m reading (Write w) writes greatest = BringsWrite m reading w writes greatest
-BringsOf m reading (Wrote w) writes greatest = Unit {0}
-BringsOf m reading (Read r) writes greatest = Unit {0}
-BringsOf m reading (Data d) writes greatest = Unit {0}
-BringsOf m reading (Copy c) writes greatest = BringsPiece m c writes greatest
-BringsOf m reading (Copied c) writes greatest = Unit {0}
-BringsOf m reading Alive writes greatest = Unit {0}
+abbrev pub BringsOf : Standing → ℕ → DeviceMessage → List Run → Type 0
+BringsOf m reading (Write w) runs = BringsWrite m reading w runs
+BringsOf m reading (Wrote w) runs = runs ≡ []
+BringsOf m reading (Read r) runs = runs ≡ []
+BringsOf m reading (Data d) runs = runs ≡ []
+BringsOf m reading (Copy c) runs = BringsPiece m c runs
+BringsOf m reading (Copied c) runs = runs ≡ []
+BringsOf m reading Alive runs = runs ≡ []
 
-abbrev pub BringsIn : Standing → ℕ → ℕ → List ℕ → List Sent → ℕ → Type 0
-BringsIn m reading kind body writes greatest = (message : DeviceMessage) → Spells message kind body → BringsOf m reading message writes greatest
+abbrev pub BringsIn : Standing → ℕ → ℕ → List ℕ → List Run → Type 0
+BringsIn m reading kind body runs = (runs ≡ []) ⊎ ((message : DeviceMessage) × Spells message kind body × BringsOf m reading message runs)
 
-abbrev pub BringsOnly : Standing → Input → List Sent → ℕ → Type 0
-BringsOnly m (Packet packet reading) writes greatest = BringsIn m reading packet.now.kind packet.now.body writes greatest
-BringsOnly m (Tick reading) writes greatest = Unit {0}
-BringsOnly m Synced writes greatest = Unit {0}
+abbrev pub BringsOnly : Standing → Input → List Run → Type 0
+BringsOnly m (Packet packet reading) runs = BringsIn m reading packet.now.kind packet.now.body runs
+BringsOnly m (Tick reading) runs = runs ≡ []
+BringsOnly m Synced runs = runs ≡ []

@@ -1,7 +1,7 @@
 -- A member with its disk, as the laws of mirrored devices speak of it.
 use Rattle.std.specs.Prelude.{◌≡◌, ℕ, ◌⊎◌, not, Bool, true, List, [], ◌∷◌}
 use Rattle.bx_disk.specs.Disks.{Disks}
-use Rattle.bx_facts.specs.Writes.{Sent, WritesIn}
+use Rattle.bx_facts.specs.Writes.{WritesIn}
 use Rattle.bx_records.specs.declared.runs.Run.{Run}
 use Rattle.bx_rows.specs.declared.device.DeviceRow.{DeviceRow}
 use Rattle.bx_rows.specs.Modes.{IsReachable, IsSource}
@@ -75,11 +75,3 @@ pub record IsStep (m : Standing) (row : DeviceRow) (change : Change) : Type 0 wh
 pub record IsWhole (m : Standing) (row : DeviceRow) (mode : ℕ) : Type 0 where
   pub reaches : IsReachable row.mode mode
   pub sources : (b : Bool) → IsSource mode b → IsSource row.mode b ⊎ (is_second m ≡ not b)
-
--- the write alone, which isn't over
-abbrev pub alone : WriteBody → List Sent
-alone w = record { session = w.session; until = 0; runs = w.runs.1 } ∷ []
-
--- and so a piece
-abbrev pub piece_alone : CopyBody → List Sent
-piece_alone c = record { session = 0; until = 0; runs = record { device = c.device; place = c.place; bytes = c.bytes } ∷ [] } ∷ []

@@ -1,6 +1,6 @@
 //! What the steps of a member are to the laws of mirrored devices.
 
-ghost use Rattle.std.specs.Prelude.{◌≡◌, ℕ, ◌+◌, ◌<◌, ◌≤◌, true, false, Bool, List, None, Some, slice_get};
+ghost use Rattle.std.specs.Prelude.{◌≡◌, ℕ, ◌+◌, ◌<◌, ◌≤◌, true, false, Bool, List, [], ◌∷◌, None, Some, slice_get};
 ghost use Rattle.bx_base.specs.declared.names.Actor.{Actor};
 ghost use Rattle.bx_calls.specs.Calls.{KeepsSure};
 ghost use Rattle.bx_calls.specs.Regions.{IsSynced};
@@ -18,22 +18,23 @@ ghost use Rattle.bx_mirror_packets.specs.declared.message.WriteBody.{WriteBody};
 ghost use Rattle.bx_mirror_member.specs.Acting.{IsTaken};
 ghost use Rattle.bx_mirror_member.specs.Standing.{Standing, copy_from, device_in, disk_in, hearing, is_second, learned, started, stopped};
 ghost use Rattle.bx_mirror_member.specs.Steps.{proposes};
-ghost use Rattle.bx_mirror_server.specs.Serving.{OfSync, PutsPiece, PutsWrite};
-ghost use Rattle.bx_mirror_server.specs.Sides.{IsOnce, IsStep, IsWhole, MayTakeWrite, alone, letter_to, piece_alone, piece_from, side_of};
+ghost use Rattle.bx_mirror_server.specs.Serving.{OfSync, PutsPiece, PutsWrite, run_of};
+ghost use Rattle.bx_mirror_server.specs.Sides.{IsOnce, IsStep, IsWhole, MayTakeWrite, letter_to, piece_from, side_of};
+ghost use Rattle.bx_mirror_server.specs.Working.{alone};
 
 /// A write that is taken may be, and is taken whole; or in part, where a fault cuts it short.
 pub fn a_write_is_taken()
     ensures may { (m : Standing) (reading greatest : ℕ) (w : WriteBody) (disks : Disks) → greatest ≤ reading + 500 → IsTaken m reading w → MayTakeWrite greatest m disks w }
     ensures taken { (m new : Standing) (from : Actor) (w : WriteBody) (before after : List Letter) (old now : Disks) → IsOnce w.runs.1 (device_in m) → PutsWrite (Unit {0}) from w m new before after old now
         → Taken (device_in m) (letter_to m w) (side_of true m old) (side_of true new now) }
-    ensures partly { (m : Standing) (w : WriteBody) (old now : Disks) → KeepsMembers (alone w) 0 old now → PartlyTaken (device_in m) (letter_to m w) (side_of true m old) (side_of true m now) }
+    ensures partly { (m : Standing) (w : WriteBody) (old now : Disks) → KeepsMembers (alone w.runs.1) 0 old now → PartlyTaken (device_in m) (letter_to m w) (side_of true m old) (side_of true m now) }
 {}
 
 /// A piece of a copy is taken whole; or in part, where a fault cuts it short.
 pub fn a_piece_is_taken()
     ensures taken { (m new : Standing) (from : Actor) (by : Bool) (c : CopyBody) (old now : Disks) → c.device ≡ device_in m → PutsPiece (Unit {0}) from c m new old now
         → PieceTaken (is_second m) (piece_from by c) (side_of true m old) (side_of true new now) }
-    ensures partly { (m : Standing) (by : Bool) (c : CopyBody) (old now : Disks) → c.device ≡ device_in m → KeepsMembers (piece_alone c) 0 old now → PieceChanged (is_second m) (piece_from by c) (side_of true m old) (side_of true m now) }
+    ensures partly { (m : Standing) (by : Bool) (c : CopyBody) (old now : Disks) → c.device ≡ device_in m → KeepsMembers (alone (run_of c ∷ [])) 0 old now → PieceChanged (is_second m) (piece_from by c) (side_of true m old) (side_of true m now) }
 {}
 
 /// A row of a later epoch is learned, a disk is synced, and a member stops and starts again.

@@ -1,16 +1,16 @@
 //! The cache.
 
-ghost use Rattle.std.specs.Prelude.{◌≡◌, ℕ, [], IfOk, IfSome, None, OnOk, Some, false};
+ghost use Rattle.std.specs.Prelude.{◌≡◌, ℕ, ◌<◌, [], IfOk, IfSome, None, OnOk, Some, false};
 ghost use Rattle.std.specs.List.{AllByRecursion};
 ghost use Rattle.bx_layout.specs.Blocks.{HasParts, block_text};
 ghost use Rattle.bx_node_cache.specs.Kept.{AreHomesOf, Commits, LeavesHint, OnlyHinted, OnlyKept, Settles, away_in, held_in, hint_in, home_runs, kept_in};
 ghost use Rattle.bx_node_cache.specs.Shares.{shares_held};
-ghost use Rattle.bx_places.specs.Places.{IsBlock, IsVolume, block_place};
+ghost use Rattle.bx_places.specs.Places.{IsBlock, IsVolume, block_place, log_device};
 ghost use Rattle.bx_redo.specs.Homes.{home_run};
 
 use bx_base::{Mode, OutOfMemory, Raw};
 use bx_layout::Block;
-use bx_places::{PAYLOAD, SECTOR, place};
+use bx_places::{PAYLOAD, SECTOR, gate_place, place};
 use bx_records::{Draft, Run, Runs};
 use bx_views::View;
 use std::alloc::Global;
@@ -85,6 +85,14 @@ impl Cache {
             kept: BTreeMap::new(alloc),
             hinted: BTreeMap::new(alloc),
         }
+    }
+
+    /// Of which volume it is: of so many devices and areas. It takes no memory.
+    pub fn volume(&self) -> (u32, u16)
+        ensures volume { result ≡ (self.now.devices, self.now.areas) }
+        ensures is_volume { IsVolume self.now.devices self.now.areas }
+    {
+        (self.devices, self.areas)
     }
 
     /// What it keeps are blocks of its volume.
@@ -204,6 +212,15 @@ impl Cache {
         ensures place { result ≡ block_place at self.now.devices }
     {
         place(at, self.devices, self.areas)
+    }
+
+    /// The device on which a log slot stands. It takes no memory.
+    pub fn device_of(&self, slot: u32) -> u32
+        requires slot { slot < 8 }
+        ensures { result ≡ log_device slot self.now.devices }
+    {
+        let (device, _) = gate_place(slot, 0, self.devices);
+        device
     }
 
     /// Lets a block go. It stays as a hint, where there is memory for that.

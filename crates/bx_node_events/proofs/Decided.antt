@@ -58,7 +58,7 @@ module _ {G O S T : Type 0} (g : register.Ghosts G) (o : owners.Ghosts O) (st : 
       (lettered c heard_letters).register (lettered c heard_letters).owners (lettered c heard_letters).store
       (loosen g o st Stands Step register_is register_heard owners_are store_is x (known_of g o st Stands Step register_is owners_are store_is x letters clocks machines) c tree rises stands.at)
       stands.about stands.given allowed legal still_at refl
-      (record { each = λ session block hold is. is }) (λ block. omega arith) (λ write has. has) (omega arith) (λ node row of. (of, omega arith)) goes.standing
+      (record { each = λ session block hold is. is }) (λ block. omega arith) (λ write has. has) (omega arith) (λ node its row is alive of. (of, omega arith)) goes.standing
       (λ node its s content asks own is still only was. goes.reading node s content asks is only was)
       (λ node its row is alive of own. own) (λ node its own apart. absurd (apart own)) (λ node its own. inr refl) (λ node its own. inr refl)
       (λ node write own out none live. absurd (let wrong = out in let no = none in cc))

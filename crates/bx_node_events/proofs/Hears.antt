@@ -227,7 +227,7 @@ module _ {G O S T : Type 0} (g : register.Ghosts G) (o : owners.Ghosts O) (st : 
         → NodesStand g o st Stands Step register_then owners_then store_then y then_letters (heard_clocks clocks input) machines then_is tree
     heard others here = passing.passes g o st Stands Step register_is register_then owners_are owners_then store_is store_then x y letters then_letters clocks (heard_clocks clocks input) machines c tree then_is.register then_is.owners then_is.store
         at_first about_first given_first allowed legal at_then made keeps (λ block. omega arith) (λ write has. has) (rises_then c.store.told.greatest input)
-        (λ node row of. (record { up = of.up; of = of.of; boot = of.boot }, more node)) standing
+        (λ node its row is_there alive of. (record { up = of.up; of = of.of; boot = of.boot }, more node)) standing
         (λ node its sector content asks is asks_it asks_then only was. reading node sector content asks asks_it asks_then only was)
         (λ node its row found alive of had. kept node its row found alive had) quiet (λ node its is. out node) (λ node its is. asked node)
         (λ node write is was none live. let had = own_of clocks.down (o.own owners_then) node write.session is in done node write was none (sym (at_then.parts.own node had.0) ∙ had.1) live)

@@ -3,6 +3,8 @@ pub mod Asked
 pub mod Begun
 pub mod Clauses
 pub mod Decided
+pub mod Failing
+pub mod Faulted
 pub mod Gated
 pub mod Grown
 pub mod Handed
@@ -16,6 +18,9 @@ pub mod Opened
 pub mod Passing
 pub mod Quieted
 pub mod Received
+pub mod Registered
+pub mod Starting
+pub mod Stopping
 pub mod Taken
 pub mod Unlogged
 pub mod Wanted

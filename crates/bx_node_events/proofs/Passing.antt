@@ -69,7 +69,8 @@ module _ {G O S T : Type 0} (g : register.Ghosts G) (o : owners.Ghosts O) (st : 
       (rises : (block : ℕ) → c.owners.floor block ≤ op.floor block)
       (sent : (write : Sent) → Contains sp.writes write → Contains c.store.writes write)
       (later : c.store.told.greatest ≤ sp.told.greatest)
-      (fewer : (node : ℕ) (row : SessionRow) → IsOfNode o.by_boot clocks_then node row → IsOfNode o.by_boot clocks node row × (c.store.told.knew (Node node) ≤ sp.told.knew (Node node)))
+      (fewer : (node its : ℕ) (row : SessionRow) → row_in (last c.register.chain).sessions its ≡ Some row → row.dead ≡ 0 → IsOfNode o.by_boot clocks_then node row
+      → IsOfNode o.by_boot clocks node row × (c.store.told.knew (Node node) ≤ sp.told.knew (Node node)))
       (standing : (d s : ℕ) (content : List ℕ) (index : ℕ) → IsOnly c.store.writes c.store.told.greatest d s content → st.stands store_is x c.store d s content index → st.stands store_then y sp d s content index)
       (reading : (node its s : ℕ) (content : List ℕ) (asks : Asked) → own_then node ≡ Some its → st.asked store_is node ≡ Some asks → st.asked store_then node ≡ Some asks → IsOnly c.store.writes c.store.told.greatest asks.device s content
       → st.will_read store_is x c.store node s content → st.will_read store_then y sp node s content)
@@ -111,7 +112,7 @@ module _ {G O S T : Type 0} (g : register.Ghosts G) (o : owners.Ghosts O) (st : 
       is = standing d s content sure.index sure.only sure.is;
       only = record { each = λ write other has to. ⊎_elim (λ same. inl same) (λ over. inr (omega (arith, later, over))) (sure.only.each write other (sent write has) to) };
       within = within_stays (st.made store_is).devices (st.made store_is).areas c.register.chain c.owners.holding op.holding c.owners.floor op.floor (IsOfNode o.by_boot clocks) (IsOfNode o.by_boot clocks_then) (λ n. c.store.told.knew (Node n)) (λ n. sp.told.knew (Node n))
-          keeps rises (λ node session row found alive of. fewer node row of) d s sure.index sure.within;
+          keeps rises fewer d s sure.index sure.within;
     }
 
     its_of : (node its : ℕ) (row : SessionRow) → own_then node ≡ Some its → row_in (last c.register.chain).sessions its ≡ Some row → row.dead ≡ 0 → IsOfNode o.by_boot clocks_then node row
@@ -190,7 +191,7 @@ module _ {G O S T : Type 0} (g : register.Ghosts G) (o : owners.Ghosts O) (st : 
 
     about_then : AreAbout (st.made store_is).devices (st.made store_is).areas (SureBy (st.made store_is)) (st.will_read store_then y sp) (IsOfNode o.by_boot clocks_then) Then
     about_then = hears (st.made store_is).devices (st.made store_is).areas Touches Sure_before (SureBy (st.made store_is)) (st.will_read store_is x c.store) (st.will_read store_then y sp) (IsOfNode o.by_boot clocks) (IsOfNode o.by_boot clocks_then) Before Then
-        about_first refl (λ node. refl) (λ node row of. (fewer node row of).0) (λ node other row of of_too. sym of_too.of ∙ of.of)
+        about_first refl (λ node. refl) (λ node its row is alive of. (fewer node its row is alive of).0) (λ node other row of of_too. sym of_too.of ∙ of.of)
         (λ node its row is alive own. own_of_node o.by_boot c.register.chain clocks (o.own owners_are) (λ n. c.store.told.knew (Node n)) allowed at_first.sessions node its row own is alive)
         (λ node its row is alive own. its_of node its row own is alive)
         kept

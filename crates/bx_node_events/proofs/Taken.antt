@@ -65,29 +65,34 @@ module _ {G O S T : Type 0} (g : register.Ghosts G) (o : owners.Ghosts O) (st : 
     doubted = at.doubted;
   }
 
+  pub tightened : (register_is : G) (owners_are : O) (store_is : S) (x : Disks) (letters : List Letter) (clocks : Clocks) (machines : List MachineView) (c : Course) (tree : T) → g.keeps register_is x c.register
+      → StandsAt (loose g) o st Stands Step register_is owners_are store_is x (known_of (loose g) o st Stands Step register_is owners_are store_is x letters clocks machines) c tree
+      → StandsAt g o st Stands Step register_is owners_are store_is x (known_of g o st Stands Step register_is owners_are store_is x letters clocks machines) c tree
+  tightened register_is owners_are store_is x letters clocks machines c tree keeps at = record {
+    pasts = at.pasts;
+    parts = record {
+      register_keeps = keeps;
+      owners_keep = at.parts.owners_keep;
+      store_keeps = at.parts.store_keeps;
+      owners_knew = at.parts.owners_knew;
+      store_knew = at.parts.store_knew;
+      same_boots = at.parts.same_boots;
+      own = at.parts.own;
+    };
+    labels = at.labels;
+    sessions = at.sessions;
+    logs = at.logs;
+    rights = at.rights;
+    writes = at.writes;
+    closings = at.closings;
+    volume = at.volume;
+    doubted = at.doubted;
+  }
+
   pub tighten : (register_is : G) (owners_are : O) (store_is : S) (x : Disks) (letters : List Letter) (clocks : Clocks) (machines : List MachineView) (c : Course) (tree : T) → g.keeps register_is x c.register
       → NodesStand (loose g) o st Stands Step register_is owners_are store_is x letters clocks machines c tree → NodesStand g o st Stands Step register_is owners_are store_is x letters clocks machines c tree
   tighten register_is owners_are store_is x letters clocks machines c tree keeps stands = record {
-    at = record {
-      pasts = stands.at.pasts;
-      parts = record {
-        register_keeps = keeps;
-        owners_keep = stands.at.parts.owners_keep;
-        store_keeps = stands.at.parts.store_keeps;
-        owners_knew = stands.at.parts.owners_knew;
-        store_knew = stands.at.parts.store_knew;
-        same_boots = stands.at.parts.same_boots;
-        own = stands.at.parts.own;
-      };
-      labels = stands.at.labels;
-      sessions = stands.at.sessions;
-      logs = stands.at.logs;
-      rights = stands.at.rights;
-      writes = stands.at.writes;
-      closings = stands.at.closings;
-      volume = stands.at.volume;
-      doubted = stands.at.doubted;
-    };
+    at = tightened register_is owners_are store_is x letters clocks machines c tree keeps stands.at;
     about = stands.about;
     single = stands.single;
     told = stands.told;

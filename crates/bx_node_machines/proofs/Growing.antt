@@ -1,5 +1,5 @@
 -- What nodes are about stays where the state of the cluster changes: sessions die, are closed or opened. (Numbers below `next` were given out before.)
-use Rattle.std.proofs.Common.{◌≡◌, ◌⊎◌, ⊎_elim, inl, inr, ◌∙◌, ℕ, ◌<◌, ◌≤◌, false, List, Option, Some, None, sym, ap, subst, arith}
+use Rattle.std.proofs.Common.{◌≡◌, ◌⊎◌, ⊎_elim, inl, inr, ◌∙◌, ℕ, ◌<◌, ◌≤◌, false, List, Option, Some, sym, ap, subst, arith}
 use Rattle.bx_node_machines.specs.Machines.{AreAbout, IsAbout, IsFresh, MachineView, Scene, is_under}
 use Rattle.bx_node_machines.proofs.Leaving.{Leaves, LeavesSlot, MayWork, about_stays, fresh_stays}
 use Rattle.bx_rows.specs.Words.{row_in}

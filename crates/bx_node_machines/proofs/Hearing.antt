@@ -34,7 +34,7 @@ module _ (devices areas : ℕ) (Touches : ℕ → ℕ → ℕ → Type 0) (Sure 
     (about : AreAbout devices areas Sure Reads IsOf old)
     (rows : new.rows ≡ old.rows)
     (machines : (node : ℕ) → new.machines node ≡ old.machines node)
-    (fewer : (node : ℕ) (row : SessionRow) → IsOf_then node row → IsOf node row)
+    (fewer : (node its : ℕ) (row : SessionRow) → row_in old.rows its ≡ Some row → row.dead ≡ 0 → IsOf_then node row → IsOf node row)
     (one_node : (node other : ℕ) (row : SessionRow) → IsOf node row → IsOf other row → other ≡ node)
     (was_of : (node its : ℕ) (row : SessionRow) → row_in old.rows its ≡ Some row → row.dead ≡ 0 → old.own node ≡ Some its → IsOf node row)
     (is_of : (node its : ℕ) (row : SessionRow) → row_in old.rows its ≡ Some row → row.dead ≡ 0 → new.own node ≡ Some its → IsOf_then node row)
@@ -47,7 +47,7 @@ module _ (devices areas : ℕ) (Touches : ℕ → ℕ → ℕ → Type 0) (Sure 
       → IsAbout devices areas Sure_then (Reads_then node) new node its row.slot machine
   each_about node its machine row there marked own has lives =
       let was_there = sym (machines node) ∙ there in
-      let had = about.marked node its machine row (fewer node row (is_of node its row has lives own)) was_there marked has lives in
+      let had = about.marked node its machine row (fewer node its row has lives (is_of node its row has lives own)) was_there marked has lives in
       let before = about.each node its machine row was_there marked had has lives in
       about_stays devices areas (Touches its) Sure Sure_then (Reads node) (Reads_then node) old new node its row.slot machine (leaves node its row had own has lives) (works node its machine row has lives before) before
 
@@ -64,7 +64,7 @@ module _ (devices areas : ℕ) (Touches : ℕ → ℕ → ℕ → Type 0) (Sure 
 
   its_fresh : (node its : ℕ) (row : SessionRow) → IsOf_then node row → row_in old.rows its ≡ Some row → row.dead ≡ 0 → is_under (new.machines node) (new.own node) its ≡ false → IsFresh new node its row.slot
   its_fresh node its row of has lives none =
-      let fresh = about.fresh node its row (inl (fewer node row of)) (λ other is. one_node node other row (fewer node row of) (was_of other its row has lives is)) has lives (was_apart node its row has lives of none) in
+      let fresh = about.fresh node its row (inl (fewer node its row has lives of)) (λ other is. one_node node other row (fewer node its row has lives of) (was_of other its row has lives is)) has lives (was_apart node its row has lives of none) in
       fresh_stays old new node its row.slot (slots its row has lives)
       (λ is. ⊎_elim
       (λ had. let left = leaves node its row had is has lives in (left.none_out (fresh.unwritten had), left.none_asked (fresh.unasked had)))
@@ -80,5 +80,5 @@ module _ (devices areas : ℕ) (Touches : ℕ → ℕ → ℕ → Type 0) (Sure 
         its_fresh node its row (⊎_elim (λ is. is) (λ own. is_of node its row had lives own) of) had lives none;
     marked = λ node its machine row of there marked has lives.
         let had = sym (ap (λ (l : List SessionRow). row_in l its) rows) ∙ has in
-        kept node its row had lives of (about.marked node its machine row (fewer node row of) (sym (machines node) ∙ there) marked had lives);
+        kept node its row had lives of (about.marked node its machine row (fewer node its row had lives of) (sym (machines node) ∙ there) marked had lives);
   }

@@ -25,7 +25,6 @@ use Rattle.bx_views.specs.Truths.{Hints, Truth}
 use Rattle.bx_volume.specs.Records.{Logged, newest_in}
 use Rattle.bx_world_standing.specs.Parts.{Clocks}
 use Rattle.bx_world_standing.specs.Standing.{Course, SureOf, own_up}
-use Rattle.bx_world_standing.proofs.Owns.{own_of}
 use Rattle.bx_world_views.specs.Views.{ViewStands}
 
 -- A node has nothing under a session yet; its log is the closed one of a slot.

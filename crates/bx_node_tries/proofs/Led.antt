@@ -1,14 +1,16 @@
 -- One answer more.
-use Rattle.std.proofs.Common.{◌≡◌, ◌⊎◌, ◌∙◌, ℕ, List, [], ◌∷◌, ◌++◌, refl, sym, ap, subst}
+use Rattle.std.proofs.Common.{◌≡◌, ◌⊎◌, ◌∙◌, ℕ, Bool, Option, List, [], ◌∷◌, ◌++◌, refl, sym, ap, subst}
 use Rattle.std.specs.Prelude.{reverse}
 use Rattle.std.specs.List.{AllByRecursion}
 use Rattle.std.proofs.Common.{All, Contains}
 use Rattle.std.proofs.lemmas.List.{reverse-append}
 use Rattle.std.proofs.lemmas.List.Elements.{All-push, All-weaker, Contains-append_left, Contains-push}
-use Rattle.bx_node_tries.specs.Tries.{AreNeeded, LeadsBack, LedTo, deed_said}
+use Rattle.bx_node_tries.specs.Tries.{AreNeeded, LeadsBack, LedTo, MayWait, deed_said}
+use Rattle.bx_node_tries.specs.Tries.MayWait.{Changes, Newer, Over, Wants}
 use Rattle.bx_node_tries.specs.declared.round.Said.{Said}
 use Rattle.bx_node_tries.specs.declared.round.Waiting.{Waiting}
 use Rattle.bx_base.specs.declared.names.Mode.{Mode}
+use Rattle.bx_views.specs.declared.engine.Engine as engine
 use Rattle.bx_views.specs.Attempts.{Acts, Deed}
 use Rattle.bx_views.specs.Truths.{Held, Hints, Truth}
 use Rattle.bx_views.specs.declared.attempt.Done.{Done}
@@ -39,11 +41,22 @@ all_told P items later item told then one more tells leads new all =
     (subst (λ xs. All (P (told ++ one ∷ [])) xs) (sym more)
     (All-push (P (told ++ one ∷ [])) items item (All-weaker (P told) (P (told ++ one ∷ [])) (λ a. leads a (λ b has. Contains-append_left told (one ∷ []) b has)) items all) (new (Contains-push told one))))
 
+-- Why a call waits on it may wait on where more is told.
+pub more_told : {E T : Type 0} (e : engine.Ghosts E T) (engine_is : E) (held : Held) (hints : Hints) (moment : ℕ) (newest : Option ℕ) (may_begin : Bool) (told then : List (List (ℕ × Mode))) (call : Waiting)
+    → ((wants : List (ℕ × Mode)) → Contains told wants → Contains then wants) → MayWait e engine_is held hints moment newest may_begin told call → MayWait e engine_is held hints moment newest may_begin then call
+more_told e engine_is held hints moment newest may_begin told then call more (Over is) = Over is
+more_told e engine_is held hints moment newest may_begin told then call more (Newer is) = Newer is
+more_told e engine_is held hints moment newest may_begin told then call more (Wants wants tried there) = Wants wants tried (more wants there)
+more_told e engine_is held hints moment newest may_begin told then call more (Changes attempt may changes tried) = Changes attempt may changes tried
+
+-- One more of which it holds.
+pub one_more : {A : Type 0} (P : A → Type 0) (items later : List A) (item : A) → later ≡ items ++ item ∷ [] → P item → All P items → All P later
+one_more P items later item more new all = subst (λ xs. All P xs) (sym more) (All-push P items item all new)
+
 -- What is needed by one of the calls that wait is needed by one of them where one more waits.
-pub still_needed : {T : Type 0} (Stands : Truth → Hints → T → Type 0) (Step : T → Deed → T → Type 0) (free : Truth → ℕ) (areas : ℕ) (path : ℕ → List ℕ → ℕ → Mode → Type 0) (held : Held) (hints : Hints) (moment : ℕ)
-    (waiting later : List Waiting) (call : Waiting) (needs : List (List (ℕ × Mode))) → later ≡ waiting ++ call ∷ []
-    → All (AreNeeded Stands Step free areas path held hints moment waiting) needs → All (AreNeeded Stands Step free areas path held hints moment later) needs
-still_needed Stands Step free areas path held hints moment waiting later call needs more all =
-    subst (λ (l : List Waiting). All (AreNeeded Stands Step free areas path held hints moment l) needs) (sym more)
-    (All-weaker (AreNeeded Stands Step free areas path held hints moment waiting) (AreNeeded Stands Step free areas path held hints moment (waiting ++ call ∷ []))
+pub still_needed : {E T : Type 0} (e : engine.Ghosts E T) (engine_is : E) (held : Held) (hints : Hints) (moment : ℕ) (waiting later : List Waiting) (call : Waiting) (needs : List (List (ℕ × Mode))) → later ≡ waiting ++ call ∷ []
+    → All (AreNeeded e engine_is held hints moment waiting) needs → All (AreNeeded e engine_is held hints moment later) needs
+still_needed e engine_is held hints moment waiting later call needs more all =
+    subst (λ (l : List Waiting). All (AreNeeded e engine_is held hints moment l) needs) (sym more)
+    (All-weaker (AreNeeded e engine_is held hints moment waiting) (AreNeeded e engine_is held hints moment (waiting ++ call ∷ []))
     (λ wants was. record { call = was.call; waits = Contains-append_left waiting (call ∷ []) was.call was.waits; tried = was.tried }) needs all)

@@ -1,10 +1,12 @@
 -- What comes of the calls that wait, once each is attempted over one view.
-use Rattle.std.specs.Prelude.{◌≡◌, ◌⊎◌, ℕ, List, [], ◌∷◌, ◌++◌, reverse, Contains, None, IsSomeAnd}
+use Rattle.std.specs.Prelude.{◌≡◌, ◌⊎◌, ℕ, Bool, true, false, not, ◌&&◌, nat_lt, List, [], ◌∷◌, ◌++◌, reverse, Contains, Option, None, Some, IsSomeAnd}
 use Rattle.std.specs.List.{AllByRecursion}
 use Rattle.bx_base.specs.declared.names.Mode.{Mode}
+use Rattle.bx_node_tries.specs.declared.round.Begun.{Begun}
 use Rattle.bx_node_tries.specs.declared.round.Round.{Round}
 use Rattle.bx_node_tries.specs.declared.round.Said.{Said}
 use Rattle.bx_node_tries.specs.declared.round.Waiting.{Waiting}
+use Rattle.bx_views.specs.declared.engine.Engine as engine
 use Rattle.bx_views.specs.Attempts.{Deed, Gives, IsFair}
 use Rattle.bx_views.specs.Truths.{Held, Hints, IsTruth, Truth}
 use Rattle.bx_views.specs.declared.attempt.Attempt.{Attempt}
@@ -26,18 +28,6 @@ pub record LedTo {T : Type 0} (Stands : Truth → Hints → T → Type 0) (Step 
   pub all : (hints : Hints) → Stands truth hints first → Stands truth hints last
   pub spares : AllByRecursion (λ one. (one.point.spare ≡ 8) ⊎ (one.point.spare ≡ free)) (reverse said)
 
--- What an engine promises of an attempt: what it gives over each truth that agrees with the view, and which blocks it may want or change.
-pub record Tried {T : Type 0} (Stands : Truth → Hints → T → Type 0) (Step : T → Deed → T → Type 0) (free : Truth → ℕ) (areas : ℕ) (path : ℕ → Mode → Type 0) (held : Held) (hints : Hints) (client : ℕ) (call : List ℕ) (moment : ℕ) (attempt : Attempt) : Type 0 where
-  pub gives : (truth : Truth) (tree : T) → IsTruth held truth → Stands truth hints tree → Gives Stands Step (free truth) client call moment truth tree attempt
-  pub fair : IsFair areas held path attempt
-
--- blocks are wanted
-abbrev pub IsNeed : Attempt → Type 0
-IsNeed (Need wants) = Unit {0}
-IsNeed (Change draft done) = ⊥
-IsNeed (Inner draft) = ⊥
-IsNeed (Answer done) = ⊥
-
 -- blocks are changed
 abbrev pub IsChange : Attempt → Type 0
 IsChange (Need wants) = ⊥
@@ -45,19 +35,40 @@ IsChange (Change draft done) = Unit {0}
 IsChange (Inner draft) = Unit {0}
 IsChange (Answer done) = ⊥
 
--- The call waits for blocks: its attempt over the view wants some, which are among these.
-pub record WaitsForBlocks {T : Type 0} (Stands : Truth → Hints → T → Type 0) (Step : T → Deed → T → Type 0) (free : Truth → ℕ) (areas : ℕ) (path : ℕ → List ℕ → ℕ → Mode → Type 0) (held : Held) (hints : Hints) (moment : ℕ)
-    (needs : List (List (ℕ × Mode))) (call : Waiting) : Type 0 where
-  pub wants : List (ℕ × Mode)
-  pub tried : Tried Stands Step free areas (path call.client call.message) held hints call.client call.message moment (Need wants)
-  pub told : Contains needs wants
+-- a call is attempted still: nothing of it may have been written in a session that ended, and blocks weren't written first for it too often
+abbrev pub is_attempted : Waiting → Bool
+is_attempted call = not call.is_over && nat_lt call.inners 200000
 
--- Blocks are needed by the attempt of one of these calls over the view.
-pub record AreNeeded {T : Type 0} (Stands : Truth → Hints → T → Type 0) (Step : T → Deed → T → Type 0) (free : Truth → ℕ) (areas : ℕ) (path : ℕ → List ℕ → ℕ → Mode → Type 0) (held : Held) (hints : Hints) (moment : ℕ)
-    (waiting : List Waiting) (wants : List (ℕ × Mode)) : Type 0 where
-  pub call : Waiting
-  pub waits : Contains waiting call
-  pub tried : Tried Stands Step free areas (path call.client call.message) held hints call.client call.message moment (Need wants)
+-- a call is newer than this number, where there is one
+abbrev pub is_newer : Option ℕ → ℕ → Bool
+is_newer None number = false
+is_newer (Some newest) number = nat_lt newest number
+
+module _ {E T : Type 0} (e : engine.Ghosts E T) (engine_is : E) (held : Held) (hints : Hints) (moment : ℕ) where
+  -- What an engine promises of an attempt of a call: what it gives over each truth that agrees with the view, and which blocks it may want or change.
+  pub record Tried (call : Waiting) (attempt : Attempt) : Type 0 where
+    pub gives : (truth : Truth) (tree : T) → IsTruth held truth → e.stands engine_is truth hints tree → Gives (e.stands engine_is) (e.step engine_is) (e.free engine_is truth) call.client call.message moment truth tree attempt
+    pub fair : IsFair (e.areas engine_is) held (e.path engine_is call.client call.message held hints) attempt
+
+  -- Why a call waits on: it is attempted no more; or it is newer than those that are attempted now; or its attempt over the view wants blocks, which are among
+  -- these; or it changes some, where no record may be begun.
+  pub data MayWait (newest : Option ℕ) (may_begin : Bool) (needs : List (List (ℕ × Mode))) (call : Waiting) : Type 0 where
+    Over : is_attempted call ≡ false → MayWait newest may_begin needs call
+    Newer : is_newer newest call.number ≡ true → MayWait newest may_begin needs call
+    Wants : (wants : List (ℕ × Mode)) → Tried call (Need wants) → Contains needs wants → MayWait newest may_begin needs call
+    Changes : (attempt : Attempt) → may_begin ≡ false → IsChange attempt → Tried call attempt → MayWait newest may_begin needs call
+
+  -- Blocks are needed by the attempt of one of these calls over the view.
+  pub record AreNeeded (waiting : List Waiting) (wants : List (ℕ × Mode)) : Type 0 where
+    pub call : Waiting
+    pub waits : Contains waiting call
+    pub tried : Tried call (Need wants)
+
+  -- A call begins a record: it is attempted still, and its attempt changes blocks.
+  pub record IsToBegin (begun : Begun) : Type 0 where
+    pub attempted : is_attempted begun.call ≡ true
+    pub changes : IsChange begun.attempt
+    pub tried : Tried begun.call begun.attempt
 
 -- an answer is to a call, at a moment
 pub record IsAnswerTo (moment : ℕ) (call : Waiting) (said : Said) : Type 0 where

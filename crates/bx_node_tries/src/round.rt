@@ -1,9 +1,15 @@
 //! What attempts put together.
 
+ghost use Rattle.std.specs.Prelude.{◌≡◌};
+ghost use Rattle.bx_node_tries.specs.Tries.{is_attempted};
+
 use crate::message::Message;
 use bx_base::{CallNo, Point, Raw};
 use bx_records::Wants;
 use bx_views::Attempt;
+
+/// How often blocks may be written first for a call.
+const MOST_INNERS: u32 = 200_000;
 
 /// A call that waits.
 #[derive(Drop)]
@@ -18,6 +24,15 @@ pub struct Waiting {
     pub inners: u32,
     /// Whether it is attempted no more: what it changes may have been written in a session that ended.
     pub is_over: bool,
+}
+
+impl Waiting {
+    /// Whether it is attempted still: nothing of it may have been written in a session that ended, and blocks weren't written first for it too often.
+    pub fn is_attempted(&self) -> bool
+        ensures { result ≡ is_attempted self.now }
+    {
+        !self.is_over && self.inners < MOST_INNERS
+    }
 }
 
 /// A call that acted and is answered.

@@ -18,12 +18,12 @@ use Rattle.bx_node_machines.specs.Machines.{act_of, number_of}
 use Rattle.bx_node_machines.specs.Nodes.{NodesStand}
 use Rattle.bx_node_tries.specs.declared.round.Begun.{Begun}
 use Rattle.bx_node_tries.specs.declared.round.Waiting.{Waiting}
-use Rattle.bx_nodes.specs.Logging.{IsRecordingOf, Begins, IsFairBegun}
-use Rattle.bx_nodes.specs.Seen.{replying, seen, stage_of, view_of}
+use Rattle.bx_node_steps.specs.Logging.{IsRecordingOf, Begins}
+use Rattle.bx_node_steps.specs.Seen.{replying, seen, stage_of, view_of}
 use Rattle.bx_nodes.specs.Turns.{Turned}
-use Rattle.bx_nodes.specs.declared.machine.Machine.{Machine}
-use Rattle.bx_nodes.specs.declared.machine.Stage.TheVariants as stages
-use Rattle.bx_nodes.specs.declared.recording.Recording.{Recording}
+use Rattle.bx_node_steps.specs.declared.machine.Machine.{Machine}
+use Rattle.bx_node_steps.specs.declared.machine.Stage.TheVariants as stages
+use Rattle.bx_node_steps.specs.declared.recording.Recording.{Recording}
 use Rattle.bx_nodes.proofs.Stepping as stepping
 use Rattle.bx_owners.specs.declared.owners.Owners as owners
 use Rattle.bx_places.specs.Places.{IsBlock}
@@ -32,7 +32,7 @@ use Rattle.bx_records.specs.Drafts.{Changed, block_in}
 use Rattle.bx_records.specs.Runs.{KindAndRuns}
 use Rattle.bx_redo.specs.Steps.{record_of}
 use Rattle.bx_views.specs.Attempts.{Deed, Gives, IsFair, IsHeldDraft}
-use Rattle.bx_views.specs.Truths.{Held, Hints, Truth}
+use Rattle.bx_views.specs.Truths.{Held, Hints, IsTruth, Truth}
 use Rattle.bx_views.specs.declared.attempt.Attempt.{Attempt}
 use Rattle.bx_views.specs.declared.attempt.Attempt.TheVariants as attempts
 use Rattle.bx_volume.specs.Records.{IsLogged}
@@ -82,7 +82,10 @@ module _ {G O S T : Type 0} (g : register.Ghosts G) (o : owners.Ghosts O) (st : 
     (there : slice_get items node ≡ Some before) (mark : before.session ≡ Some session) (none_out : st.out_of old node ≡ None)
     (register_laws : RegisterLaws g register_is) (owners_laws : OwnersLaws o owners_are) (store_laws : StoreLaws st old)
     (free : Truth → ℕ) (areas moment : ℕ) (path : ℕ → List ℕ → Held → Hints → ℕ → Mode → Type 0) (begun : Begun) (recording : Recording) (runs : KindAndRuns)
-    (idle : before.stage ≡ stages.Idle) (fair : IsFairBegun Stands Step free areas path moment begun before) (asks : IsRecordingOf moment begun.call begun.attempt recording) (begins : Begins recording before after runs)
+    (idle : before.stage ≡ stages.Idle)
+    (fair : IsFair areas (held_in before.cache.kept) (path begun.call.client begun.call.message (held_in before.cache.kept) (hint_in before.cache.hinted)) begun.attempt)
+    (gives : (truth : Truth) (tree : T) → IsTruth (held_in before.cache.kept) truth → Stands truth (hint_in before.cache.hinted) tree → Gives Stands Step (free truth) begun.call.client begun.call.message moment truth tree begun.attempt)
+    (asks : IsRecordingOf moment begun.call begun.attempt recording) (begins : Begins recording before after runs)
     (taken : IsTaken st old new node box box_then (record { session = session; until = until; runs = runs.1 })) (made_devices : before.cache.devices ≡ (st.made old).devices) (made_areas : before.cache.areas ≡ (st.made old).areas) where
   pub begun_there : Turned Step (NodesStand g o st Stands Step register_is owners_are new x (letters ++ box_then) clocks (seen (slice_set items node after))) c tree []
   begun_there =
@@ -100,11 +103,11 @@ module _ {G O S T : Type 0} (g : register.Ghosts G) (o : owners.Ghosts O) (st : 
       runs taken made_devices made_areas)
       (stepping.changes g o st Stands Step register_is owners_are old new x letters box box_then clocks items c tree node session until before after stands up own ends lives there mark none_out register_laws owners_laws store_laws
       _ (ap view_of begins.only))
-      (held_draft moment areas (held_in before.cache.kept) (path begun.call.client begun.call.message (held_in before.cache.kept) (hint_in before.cache.hinted)) begun.call begun.attempt recording asks fair.tried.fair)
+      (held_draft moment areas (held_in before.cache.kept) (path begun.call.client begun.call.message (held_in before.cache.kept) (hint_in before.cache.hinted)) begun.call begun.attempt recording asks fair)
       logged
       (λ block some. one_block (st.made old).areas recording.pending.draft logged.blocks block some)
       (numbered moment begun.call begun.attempt recording asks)
-      (λ other t truth agrees. works Stands Step (free other) moment begun.call other t begun.attempt recording asks (fair.tried.gives other t truth agrees))
+      (λ other t truth agrees. works Stands Step (free other) moment begun.call other t begun.attempt recording asks (gives other t truth agrees))
       (ap (λ (r : KindAndRuns). r.1) begins.asks) in
       record { later = goes.0; next = tree; leads = refl; chain = goes.1; stands = goes.2 }
     where

@@ -10,10 +10,10 @@ use Rattle.bx_node_cache.specs.declared.cache.Kept.{Kept}
 use Rattle.bx_node_machines.specs.Machines as words
 use Rattle.bx_node_events.proofs.Wanted.{Drops, LeavesFetch, Stays}
 use Rattle.bx_node_views.specs.Changes.{Hides, ShowsOne}
-use Rattle.bx_nodes.specs.Changing.{left_fetch}
-use Rattle.bx_nodes.specs.Seen.{fetch_of}
-use Rattle.bx_nodes.specs.declared.machine.Fetch.{Fetch}
-use Rattle.bx_nodes.specs.declared.machine.Fetch.TheVariants as fetches
+use Rattle.bx_node_steps.specs.Changing.{left_fetch}
+use Rattle.bx_node_steps.specs.Seen.{fetch_of}
+use Rattle.bx_node_steps.specs.declared.machine.Fetch.{Fetch}
+use Rattle.bx_node_steps.specs.declared.machine.Fetch.TheVariants as fetches
 use Rattle.bx_views.specs.Truths.{Hints, with_hint}
 
 -- ---- a block is taken in

@@ -21,10 +21,10 @@ use Rattle.bx_node_machines.specs.Machines.{MachineView}
 use Rattle.bx_node_machines.specs.Nodes.{NodesStand}
 use Rattle.bx_node_machines.proofs.Showing.{sees_truth}
 use Rattle.bx_nodes.specs.Asks.{Later}
-use Rattle.bx_nodes.specs.Changing.{LetsGo}
-use Rattle.bx_nodes.specs.Seen.{stage_of, view_of}
-use Rattle.bx_nodes.specs.declared.machine.Machine.{Machine}
-use Rattle.bx_nodes.specs.declared.machine.Stage.TheVariants.{Idle}
+use Rattle.bx_node_steps.specs.Changing.{LetsGo}
+use Rattle.bx_node_steps.specs.Seen.{stage_of, view_of}
+use Rattle.bx_node_steps.specs.declared.machine.Machine.{Machine}
+use Rattle.bx_node_steps.specs.declared.machine.Stage.TheVariants.{Idle}
 use Rattle.bx_nodes.proofs.Caches.{hides_it, hints_left, home_left, leaves_fetch}
 use Rattle.bx_nodes.proofs.Letters.{owners_send_no_registers, owners_send_no_stores}
 use Rattle.bx_owners.specs.declared.owners.Owners as owners

@@ -1,5 +1,5 @@
 -- A node asks for the home of a block: by the promises of owners, store and register there is a later course.
-use Rattle.std.proofs.Common.{◌≡◌, ◌≢◌, ℕ, ◌≤◌, ◌<◌, ◌+◌, ◌++◌, max, false, List, Option, Some, refl, sym, ◌∙◌, ap, subst, arith}
+use Rattle.std.proofs.Common.{◌≡◌, ◌≢◌, ℕ, ◌≤◌, ◌<◌, ◌+◌, ◌++◌, max, false, List, Option, Some, None, refl, sym, ◌∙◌, ap, subst, arith}
 use Rattle.std.specs.Prelude.{slice_get}
 use Rattle.bx_base.specs.declared.names.Actor.TheVariants.{Node}
 use Rattle.bx_disk.specs.Disks.{Disks}
@@ -12,16 +12,16 @@ use Rattle.bx_facts.specs.Pasts.{RegisterPast}
 use Rattle.bx_facts.specs.Writes.{GoesOn, IsOnly, StorePast, store_with}
 use Rattle.bx_global.specs.Allowed.{IsAllowed}
 use Rattle.bx_global.specs.declared.state.GlobalState.{GlobalState}
-use Rattle.bx_node_cache.specs.Kept.{shown_of}
+use Rattle.bx_node_cache.specs.Kept.{kept_in, shown_of}
 use Rattle.bx_node_cache.specs.declared.cache.Kept.{Kept}
 use Rattle.bx_node_events.proofs.Asked.{asked, with_letters}
 use Rattle.bx_node_machines.specs.Machines.{MachineView, home_of}
 use Rattle.bx_node_machines.specs.Nodes.{NodesStand}
 use Rattle.bx_nodes.specs.Asks.{Later, MayRead}
-use Rattle.bx_nodes.specs.Seen.{stage_of, view_of}
-use Rattle.bx_nodes.specs.declared.machine.Fetch.TheVariants as fetches
-use Rattle.bx_nodes.specs.declared.machine.Machine.{Machine}
-use Rattle.bx_nodes.specs.declared.machine.Stage.TheVariants.{Idle}
+use Rattle.bx_node_steps.specs.Seen.{stage_of, view_of}
+use Rattle.bx_node_steps.specs.declared.machine.Fetch.TheVariants as fetches
+use Rattle.bx_node_steps.specs.declared.machine.Machine.{Machine}
+use Rattle.bx_node_steps.specs.declared.machine.Stage.TheVariants.{Idle}
 use Rattle.bx_nodes.proofs.Letters.{stores_send_no_owners, stores_send_no_registers}
 use Rattle.bx_owners.specs.declared.owners.Owners as owners
 use Rattle.bx_places.specs.Places.{IsBlock, block_place}
@@ -40,7 +40,7 @@ module _ {G O S T : Type 0} (g : register.Ghosts G) (o : owners.Ghosts O) (st : 
     (up : clocks.down (Node node) ≡ false) (own : o.own owners_are node ≡ Some session) (live : LivesIn (last c.register.chain) session)
     (there : slice_get machines node ≡ Some (view_of before)) (mark : before.session ≡ Some session) (rests : before.stage ≡ Idle)
     (then_there : slice_get later node ≡ Some (view_of (record before { fetch = fetches.Block at hold.0 }))) (others : (other : ℕ) → other ≢ node → slice_get later other ≡ slice_get machines other)
-    (is : IsBlock (st.made old).areas at) (holds : o.hold owners_are node at ≡ Some hold) (may : MayRead before at hold.1 (g.knows register_is (Node node)).index)
+    (is : IsBlock (st.made old).areas at) (holds : o.hold owners_are node at ≡ Some hold) (may : MayRead before hold.1 (g.knows register_is (Node node)).index) (none : kept_in before.cache.kept at ≡ None)
     (sends : SendsOnly IsStores out_old out_new)
     (register_loses : (past : RegisterPast) (some : List Letter) → g.keeps register_is x past → AreAmong IsRegisters some past.letters → g.keeps register_is x (record past { letters = some }))
     (owners_lose : (past : OwnersPast) (some : List Letter) → o.keeps owners_are past → AreAmong IsOwners some past.told.letters → o.keeps owners_are (record past { told = record past.told { letters = some } }))
@@ -94,7 +94,7 @@ module _ {G O S T : Type 0} (g : register.Ghosts G) (o : owners.Ghosts O) (st : 
             (st.stands old x p) (st.stands new x (store_with past out_new))) same_past (goes past kept is_up))
             asks
             (λ sector content index from to only stood low. promise past sector content index kept is_up from to only (subst (λ (p : StorePast). st.stands old x p (block_place at (st.made old).devices).0 sector content index) (sym same_past) stood) low)
-            is holds_it (omega (arith, known, knows)) (λ way. ap (λ (k : Option Kept). shown_of k way) may.kept_none)
+            is holds_it (omega (arith, known, knows)) (λ way. ap (λ (k : Option Kept). shown_of k way) none)
             (subst (λ (chain : Chain). c.owners.floor at ≤ max hold.1 (opened_at chain session)) stands.at.pasts.owners_chain (owners_reach c.owners session at hold stands.at.parts.owners_keep (in_owners session live) holds_it))
             (λ other has. subst (λ (chain : Chain). oldest chain ≤ other) stands.at.pasts.owners_chain
             (owners_alone c.owners session other at hold stands.at.parts.owners_keep (in_owners session live) (subst (λ (chain : Chain). HasRow (last chain) other) (sym stands.at.pasts.owners_chain) has) holds_it));

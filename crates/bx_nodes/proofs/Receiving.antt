@@ -1,6 +1,6 @@
 -- What a node has read is taken in, or hasn't come yet: the nodes stand.
-use Rattle.std.proofs.Common.{◌≡◌, ◌≢◌, inl, inr, ℕ, ◌+◌, ◌-◌, ◌<◌, ◌≤◌, false, List, Some, None, refl, sym, ◌∙◌, ap, subst}
-use Rattle.std.specs.Prelude.{slice_get}
+use Rattle.std.proofs.Common.{◌≡◌, Option, ⊎_elim, ◌≢◌, inl, inr, ℕ, ◌+◌, ◌-◌, ◌<◌, ◌≤◌, false, List, Some, None, refl, sym, ◌∙◌, ap, subst}
+use Rattle.std.specs.Prelude.{is_some, slice_get, true}
 use Rattle.bx_base.specs.declared.names.Actor.TheVariants.{Node}
 use Rattle.bx_base.specs.declared.names.Mode.{Mode}
 use Rattle.bx_base.specs.declared.names.Mode.TheVariants.{Shared}
@@ -8,7 +8,7 @@ use Rattle.bx_disk.specs.Disks.{Disks, sector_of}
 use Rattle.bx_facts.specs.declared.register.Register as register
 use Rattle.bx_facts.specs.declared.store.Store as store
 use Rattle.bx_facts.specs.Chains.{LivesIn, last}
-use Rattle.bx_facts.specs.Writes.{Asked, GoesOn}
+use Rattle.bx_facts.specs.Writes.{Asked, GoesOn, Made}
 use Rattle.bx_layout.specs.Blocks.{SpellsBlock}
 use Rattle.bx_layout.specs.declared.block.Block.{Block}
 use Rattle.bx_node_cache.specs.Kept.{OnlyKept, away_in, held_in, hint_in, kept_in}
@@ -19,11 +19,12 @@ use Rattle.bx_node_machines.specs.Machines.{MachineView}
 use Rattle.bx_node_machines.specs.Nodes.{NodesStand}
 use Rattle.bx_node_machines.proofs.Showing.{sees_truth}
 use Rattle.bx_node_views.proofs.Views.{holds_it}
-use Rattle.bx_nodes.specs.Changing.{KeepsRead, TakesIn}
-use Rattle.bx_nodes.specs.Seen.{fetch_of, view_of}
-use Rattle.bx_nodes.specs.declared.machine.Fetch.{Fetch}
-use Rattle.bx_nodes.specs.declared.machine.Fetch.TheVariants as fetches
-use Rattle.bx_nodes.specs.declared.machine.Machine.{Machine}
+use Rattle.bx_node_steps.specs.Changing.{KeepsRead, TakesAnswer, TakesIn}
+use Rattle.bx_node_steps.specs.Ready.{IsReady, WasReady}
+use Rattle.bx_node_steps.specs.Seen.{fetch_of, view_of}
+use Rattle.bx_node_steps.specs.declared.machine.Fetch.{Fetch}
+use Rattle.bx_node_steps.specs.declared.machine.Fetch.TheVariants as fetches
+use Rattle.bx_node_steps.specs.declared.machine.Machine.{Machine}
 use Rattle.bx_nodes.proofs.Caches.{home_taken, none_kept, shows_one}
 use Rattle.bx_owners.specs.declared.owners.Owners as owners
 use Rattle.bx_post.specs.declared.packets.Letter.{Letter}
@@ -49,6 +50,15 @@ module _ {G O S T : Type 0} (g : register.Ghosts G) (o : owners.Ghosts O) (st : 
   waits still =
       let row = lives_row (last c.register.chain) session live in
       events.not_yet g o st Stands Step register_is owners_are old new x letters clocks machines c tree node session row.0 (view_of before) stands up own row.1 row.2 there mark keeps made same elsewhere goes still
+
+  -- Nothing will, as no read is out.
+  pub lost : (later : List MachineView) → slice_get later node ≡ Some (view_of (record before { fetch = fetches.Nothing })) → ((other : ℕ) → other ≢ node → slice_get later other ≡ slice_get machines other) → st.asked new node ≡ None
+      → NodesStand g o st Stands Step register_is owners_are new x letters clocks later c tree
+  lost later then_there others none =
+      let row = lives_row (last c.register.chain) session live in
+      let view = (sees_truth g o st Stands Step register_is owners_are old x letters clocks machines c tree node session (view_of before) stands up own live there mark).0 in
+      events.received g o st Stands Step register_is owners_are old new x letters clocks machines c tree node session row.0 (view_of before) stands up own row.1 row.2 there mark keeps made same elsewhere goes
+      later (held_in before.cache.kept) (away_in before.cache.kept) (λ at. refl) then_there others none view
 
   -- It has.
   module _ (later : List MachineView) (after : Machine) (bytes : List ℕ)
@@ -91,3 +101,15 @@ module _ {G O S T : Type 0} (g : register.Ghosts G) (o : owners.Ghosts O) (st : 
         let shows = fine before.fetch refl takes.kept in
         events.received g o st Stands Step register_is owners_are old new x letters clocks machines c tree node session row.0 (view_of before) stands up own row.1 row.2 there mark keeps made same elsewhere goes
         later (held_in after.cache.kept) (away_in after.cache.kept) shows.1 (then_there ∙ as_seen) others none shows.0
+
+-- Nothing came of a read that is out.
+pub nothing_came : (asked : Option Asked) (machine : Machine) → is_some asked ≡ true → TakesAnswer None asked machine machine
+nothing_came None machine is = absurd cc
+nothing_came (Some asks) machine is = refl
+
+-- and the node is ready still
+pub still_ready : (made : Made) (areas : ℕ) (asked : Option Asked) (machine : Machine) → is_some asked ≡ true → WasReady made areas asked machine → IsReady made areas asked machine
+still_ready made areas asked machine is was = ⊎_elim
+    (λ same. subst (λ (a : Option Asked). IsReady made areas a machine) (sym same) was.ready)
+    (λ none. absurd (let h = sym (ap (λ (a : Option Asked). is_some a) none) ∙ is in cc))
+    was.stays

@@ -5,9 +5,9 @@ use Rattle.std.proofs.lemmas.Bool.Decides.{nat_tests}
 use Rattle.bx_facts.specs.Holds.{first_of, without_block}
 use Rattle.bx_facts.proofs.Lists.{behind, front, front_or_behind, nothing}
 use Rattle.bx_node_cache.specs.Kept.{kept_in}
-use Rattle.bx_nodes.specs.Changing.{LetsGo}
-use Rattle.bx_nodes.specs.Gives.{KeepsRest, MayGo, since, waits_since}
-use Rattle.bx_nodes.specs.declared.machine.Machine.{Machine}
+use Rattle.bx_node_steps.specs.Changing.{LetsGo}
+use Rattle.bx_node_steps.specs.Gives.{KeepsRest, MayGo, since, waits_since}
+use Rattle.bx_node_steps.specs.declared.machine.Machine.{Machine}
 
 -- nothing goes
 pub keeps_all : (found : Option Machine) (session : ℕ) (asks : List (ℕ × ℕ)) → IfSome found (λ old. IfSome found (KeepsRest session asks old))

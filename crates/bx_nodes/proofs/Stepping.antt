@@ -26,10 +26,10 @@ use Rattle.bx_node_machines.specs.Nodes.{NodesStand}
 use Rattle.bx_node_tries.specs.Tries.{LeadsBack}
 use Rattle.bx_node_tries.specs.declared.round.Said.{Said}
 use Rattle.bx_node_tries.specs.declared.round.Waiting.{Waiting}
-use Rattle.bx_nodes.specs.Logging.{Closed, LogGoes, Rests, SendsClosing, SendsGate, SendsHomes, SendsShut, said_of}
-use Rattle.bx_nodes.specs.Seen.{replying, seen, stage_of, view_of}
+use Rattle.bx_node_steps.specs.Logging.{Closed, LogGoes, Rests, SendsClosing, SendsGate, SendsHomes, SendsShut, said_of}
+use Rattle.bx_node_steps.specs.Seen.{replying, seen, stage_of, view_of}
 use Rattle.bx_nodes.specs.Turns.{Turned}
-use Rattle.bx_nodes.specs.declared.machine.Machine.{Machine}
+use Rattle.bx_node_steps.specs.declared.machine.Machine.{Machine}
 use Rattle.bx_nodes.proofs.Machines.{seen_same, seen_there, set_here, set_there}
 use Rattle.bx_owners.specs.declared.owners.Owners as owners
 use Rattle.bx_post.specs.declared.packets.Letter.{Letter}

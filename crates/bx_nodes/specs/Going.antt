@@ -3,7 +3,7 @@ use Rattle.std.specs.Prelude.{ℕ, Option, Some, None}
 use Rattle.bx_node_tries.specs.Tries.{AllGo, AreNone}
 use Rattle.bx_node_tries.specs.declared.round.Round.{Round}
 use Rattle.bx_nodes.specs.declared.answers.Attempted.{Attempted}
-use Rattle.bx_nodes.specs.declared.machine.Machine.{Machine}
+use Rattle.bx_node_steps.specs.declared.machine.Machine.{Machine}
 
 -- Each call that waited still waits, in its order, or is answered at this moment, or begins a record.
 pub record AllSettle (moment : ℕ) (old new : Machine) (attempted : Attempted) : Type 0 where

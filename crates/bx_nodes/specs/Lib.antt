@@ -1,9 +1,10 @@
 pub mod Asks
-pub mod Changing
-pub mod Gives
+pub mod Calls
 pub mod Going
-pub mod Joined
-pub mod Logging
-pub mod Seen
+pub mod Renewing
+pub mod Sending
+pub mod Standing
+pub mod Starting
+pub mod Stopping
 pub mod Taking
 pub mod Turns

@@ -1,37 +1,37 @@
 //! What a node wants.
 
-ghost use Rattle.std.specs.Prelude.{◌≡◌, ◌⊎◌, ◌++◌, ℕ, ◌<◌, false, true, length, List, IfSome, IsSome, IsSomeAnd, OnOk, None, Some, slice_get};
+ghost use Rattle.std.specs.Prelude.{◌≡◌, ◌≢◌, ◌⊎◌, ◌++◌, ℕ, ◌<◌, false, true, length, List, IfSome, IsSome, IsSomeAnd, OnOk, None, Some, slice_get};
 ghost use Rattle.std.specs.List.{AllByRecursion};
 ghost use Rattle.bx_base.specs.declared.names.Actor.TheVariants.{Node};
 ghost use Rattle.bx_disk.specs.Disks.{Disks};
 ghost use Rattle.bx_facts.specs.Chains.{LivesIn, last};
+ghost use Rattle.bx_node_cache.specs.Kept.{kept_in};
 ghost use Rattle.bx_node_machines.specs.Machines.{home_of};
-ghost use Rattle.bx_node_machines.specs.Nodes.{NodesStand};
-ghost use Rattle.bx_nodes.specs.Asks.{Asks, KeepsUnneeded, KeepsUnwanted, Later, MayRead, is_less, is_weaker};
-ghost use Rattle.bx_nodes.specs.Changing.{LetsGo};
-ghost use Rattle.bx_nodes.specs.Joined.{IsJoined};
-ghost use Rattle.bx_nodes.specs.Seen.{seen};
+ghost use Rattle.bx_node_steps.specs.Changing.{LetsGo};
+ghost use Rattle.bx_node_steps.specs.declared.machine.Fetch.TheVariants.{Block};
+ghost use Rattle.bx_node_steps.specs.declared.machine.Machine.{Machine};
+ghost use Rattle.bx_node_steps.specs.declared.machine.Stage.TheVariants.{Idle};
+ghost use Rattle.bx_nodes.specs.Asks.{Gets, IsWanted, KeepsUnneeded, KeepsUnwanted, Later, MayRead, OnlyHolds, is_less, is_weaker};
+ghost use Rattle.bx_nodes.specs.Standing.{Asking, IsUnder, OfBoth, OfNode, Ready, Rests, Stand};
 ghost use Rattle.bx_nodes.specs.Turns.{OnlyMachine};
-ghost use Rattle.bx_nodes.specs.declared.machine.Fetch.TheVariants.{Block};
-ghost use Rattle.bx_nodes.specs.declared.machine.Stage.TheVariants.{Idle};
 ghost use Rattle.bx_places.specs.Places.{IsBlock};
 ghost use Rattle.bx_post.specs.declared.packets.Letter.{Letter};
 ghost use Rattle.bx_world_standing.specs.Parts.{Clocks};
 ghost use Rattle.bx_world_standing.specs.Standing.{Course};
 
-use crate::machine::Fetch;
 use crate::nodes::Nodes;
 use bx_base::{Actor, Mode, OutOfMemory};
 use bx_facts::{Register, Store};
+use bx_node_steps::Fetch;
 use bx_owners::Owners;
 use bx_places::BLOCK_SECTORS;
 use bx_post::Outbox;
 use bx_records::Wants;
-use bx_views::{Engine, View};
+use bx_views::Engine;
 
 impl<G: Register, O: Owners, S: Store, E: Engine> Nodes<G, O, S, E> {
-    /// Does something about a block that is wanted: nothing where a request for it is out; else it is wanted, where it isn't held so; else it is read, where
-    /// the node doesn't have it, knows the index of its grant and reads nothing else. Only for a node whose log rests.
+    /// Does something about a block that is wanted: nothing where a request for it is out; else it is wanted, where it isn't held so; and where it is held by
+    /// then it is read, where the node knows the index of its grant and reads nothing else. Only for a node whose log rests and that has no write out.
     pub fn ask(
         &mut self,
         node: u32,
@@ -39,21 +39,26 @@ impl<G: Register, O: Owners, S: Store, E: Engine> Nodes<G, O, S, E> {
         out: &mut Outbox,
     ) -> Result<(), OutOfMemory>
         requires there { (node < length self.old.machines.items) × (node < G.nodes self.old.register) }
-        requires joined { IfSome (slice_get self.old.machines.items node) (IsJoined (S.made self.old.store) (E.areas self.old.engine) (O.own self.old.owners node) (S.own self.old.store node) (S.asked self.old.store node)) }
-        requires rests { IfSome (slice_get self.old.machines.items node) (λ machine. machine.stage ≡ Idle) }
+        requires ready { Ready S.Store E.Engine self.old node }
+        requires sessions { IsSome (O.own self.old.owners node) × IsSome (S.own self.old.store node) }
+        requires rests { Rests self.old node }
+        requires none_out { S.out_of self.old.store node ≡ None }
         requires is_block { IsBlock (S.made self.old.store).areas wanted.0 }
-        ensures stands { (x : Disks) (letters : List Letter) (clocks : Clocks) (c : Course) (tree : E.Tree) (session : ℕ) → clocks.down (Node node) ≡ false
-            → NodesStand G.Register O.Owners S.Store (E.stands self.old.engine) (E.step self.old.engine) self.old.register self.old.owners self.old.store x (letters ++ out.old) clocks (seen self.old.machines.items) c tree
-            → O.own self.old.owners node ≡ Some session → LivesIn (last c.register.chain) session → IfSome (slice_get self.old.machines.items node) (λ machine. machine.session ≡ Some session)
-            → OnOk result (Later (λ later. NodesStand G.Register O.Owners S.Store (E.stands self.new.engine) (E.step self.new.engine) self.new.register self.new.owners self.new.store x (letters ++ out.new) clocks (seen self.new.machines.items) later tree) c) }
-        ensures asks { OnOk result (IfSome (slice_get self.old.machines.items node) (λ old. IfSome (slice_get self.new.machines.items node) (λ new.
-            Asks (O.request self.old.owners node wanted.0) (O.hold self.old.owners node wanted.0) old wanted.0 (G.knows self.old.register (Node node)).index wanted.1
-            ((new ≡ old) × (self.new.owners ≡ self.old.owners) × (self.new.store ≡ self.old.store) × (out.new ≡ out.old))
-            (LetsGo wanted.0 old new × O.grants self.old.owners node wanted.0 wanted.1 self.new.owners × (self.new.store ≡ self.old.store)
-            × (((O.request self.new.owners node wanted.0 ≡ Some wanted.1) ⊎ IsSomeAnd (O.hold self.new.owners node wanted.0) (λ held. held.0 ≡ wanted.1)) ⊎ (O.is_spent self.old.owners node × (out.new ≡ out.old))))
-            (λ held. (new ≡ record old { fetch = Block wanted.0 held }) × (self.new.owners ≡ self.old.owners) × (S.asked self.new.store node ≡ Some (home_of (S.made self.old.store).devices wanted.0)))))) }
-        ensures joined { OnOk result (IfSome (slice_get self.new.machines.items node) (IsJoined (S.made self.new.store) (E.areas self.new.engine) (O.own self.new.owners node) (S.own self.new.store node) (S.asked self.new.store node))) }
-        ensures rests { OnOk result (IfSome (slice_get self.new.machines.items node) (λ machine. (machine.stage ≡ Idle) × IfSome (slice_get self.old.machines.items node) (λ old. machine.session ≡ old.session))) }
+        ensures stands { (x : Disks) (letters : List Letter) (clocks : Clocks) (c : Course) (tree : E.Tree) (session : ℕ) → clocks.down (Node node) ≡ false → Stand G.Register O.Owners S.Store E.Engine self.old x (letters ++ out.old) clocks c tree
+            → O.own self.old.owners node ≡ Some session → LivesIn (last c.register.chain) session → IsUnder self.old node session
+            → OnOk result (Later (λ later. Stand G.Register O.Owners S.Store E.Engine self.new x (letters ++ out.new) clocks later tree) c) }
+        ensures requested { IsSome (O.request self.old.owners node wanted.0) → OnOk result ((self.new ≡ self.old) × (out.new ≡ out.old)) }
+        ensures held { O.request self.old.owners node wanted.0 ≡ None → is_weaker (O.hold self.old.owners node wanted.0) wanted.1 ≡ false
+            → OnOk result ((self.new.owners ≡ self.old.owners) × OfBoth self.old self.new node (Gets (O.hold self.old.owners node wanted.0) (G.knows self.old.register (Node node)).index wanted.0 (S.asked self.new.store node ≡ Some (home_of (S.made self.old.store).devices wanted.0)) ((self.new.store ≡ self.old.store) × (out.new ≡ out.old)))) }
+        ensures wants { O.request self.old.owners node wanted.0 ≡ None → is_weaker (O.hold self.old.owners node wanted.0) wanted.1 ≡ true
+            → OnOk result (O.grants self.old.owners node wanted.0 wanted.1 self.new.owners × IsWanted (O.request self.new.owners node wanted.0) (O.hold self.new.owners node wanted.0) wanted.1 (O.is_spent self.new.owners node)
+            × OfBoth self.old self.new node (λ old new. (middle : Machine) × LetsGo wanted.0 old middle × Gets (O.hold self.new.owners node wanted.0) (G.knows self.old.register (Node node)).index wanted.0 (S.asked self.new.store node ≡ Some (home_of (S.made self.old.store).devices wanted.0)) (self.new.store ≡ self.old.store) middle new)) }
+        ensures asking { OnOk result (Asking G.Register O.Owners self.new node wanted.0) }
+        ensures asks_on { (at : ℕ) → Asking G.Register O.Owners self.old node at → OnOk result (Asking G.Register O.Owners self.new node at) }
+        ensures keeps { OnOk result (OfBoth self.old self.new node (λ old new. (at : ℕ) → at ≢ wanted.0 → kept_in new.cache.kept at ≡ kept_in old.cache.kept at)) }
+        ensures ready { OnOk result (Ready S.Store E.Engine self.new node) }
+        ensures rests { OnOk result (Rests self.new node) }
+        ensures only { OnOk result (OfBoth self.old self.new node OnlyHolds) }
         ensures parts { (self.new.register ≡ self.old.register) × (self.new.engine ≡ self.old.engine) × (S.made self.new.store ≡ S.made self.old.store) }
         ensures own { (other : ℕ) → (O.own self.new.owners other ≡ O.own self.old.owners other) × (O.end_of self.new.owners other ≡ O.end_of self.old.owners other) × (S.own self.new.store other ≡ S.own self.old.store other) × (S.out_of self.new.store other ≡ S.out_of self.old.store other) }
         ensures others { OnlyMachine node self.old.machines.items self.new.machines.items }
@@ -63,16 +68,11 @@ impl<G: Register, O: Owners, S: Store, E: Engine> Nodes<G, O, S, E> {
         if self.owners.wanted(node, at).is_some() {
             return Ok(());
         }
-        let Some(hold) = self.owners.holds(node, at) else {
-            return self.want(node, at, mode, out);
-        };
-        if is_less(hold.0, mode) {
-            return self.want(node, at, mode, out);
+        if is_weaker(self.owners.holds(node, at), mode) {
+            self.want(node, at, mode, out)?;
+            return self.get(node, at, out);
         }
-        if self.may_read(node, at, hold.1) {
-            return self.read(node, at, hold, out);
-        }
-        Ok(())
+        self.get(node, at, out)
     }
 
     /// Does something about each of the blocks that calls need, in their order.
@@ -83,16 +83,20 @@ impl<G: Register, O: Owners, S: Store, E: Engine> Nodes<G, O, S, E> {
         out: &mut Outbox,
     ) -> Result<(), OutOfMemory>
         requires there { (node < length self.old.machines.items) × (node < G.nodes self.old.register) }
-        requires joined { IfSome (slice_get self.old.machines.items node) (IsJoined (S.made self.old.store) (E.areas self.old.engine) (O.own self.old.owners node) (S.own self.old.store node) (S.asked self.old.store node)) }
-        requires rests { IfSome (slice_get self.old.machines.items node) (λ machine. machine.stage ≡ Idle) }
+        requires ready { Ready S.Store E.Engine self.old node }
+        requires sessions { IsSome (O.own self.old.owners node) × IsSome (S.own self.old.store node) }
+        requires rests { Rests self.old node }
+        requires none_out { S.out_of self.old.store node ≡ None }
         requires blocks { AllByRecursion (AllByRecursion (λ wanted. IsBlock (S.made self.old.store).areas wanted.0)) needs.now }
-        ensures stands { (x : Disks) (letters : List Letter) (clocks : Clocks) (c : Course) (tree : E.Tree) (session : ℕ) → clocks.down (Node node) ≡ false
-            → NodesStand G.Register O.Owners S.Store (E.stands self.old.engine) (E.step self.old.engine) self.old.register self.old.owners self.old.store x (letters ++ out.old) clocks (seen self.old.machines.items) c tree
-            → O.own self.old.owners node ≡ Some session → LivesIn (last c.register.chain) session → IfSome (slice_get self.old.machines.items node) (λ machine. machine.session ≡ Some session)
-            → OnOk result (Later (λ later. NodesStand G.Register O.Owners S.Store (E.stands self.new.engine) (E.step self.new.engine) self.new.register self.new.owners self.new.store x (letters ++ out.new) clocks (seen self.new.machines.items) later tree) c) }
-        ensures keeps { OnOk result (IfSome (slice_get self.old.machines.items node) (λ old. IfSome (slice_get self.new.machines.items node) (KeepsUnneeded needs.now old))) }
-        ensures joined { OnOk result (IfSome (slice_get self.new.machines.items node) (IsJoined (S.made self.new.store) (E.areas self.new.engine) (O.own self.new.owners node) (S.own self.new.store node) (S.asked self.new.store node))) }
-        ensures rests { OnOk result (IfSome (slice_get self.new.machines.items node) (λ machine. (machine.stage ≡ Idle) × IfSome (slice_get self.old.machines.items node) (λ old. machine.session ≡ old.session))) }
+        ensures stands { (x : Disks) (letters : List Letter) (clocks : Clocks) (c : Course) (tree : E.Tree) (session : ℕ) → clocks.down (Node node) ≡ false → Stand G.Register O.Owners S.Store E.Engine self.old x (letters ++ out.old) clocks c tree
+            → O.own self.old.owners node ≡ Some session → LivesIn (last c.register.chain) session → IsUnder self.old node session
+            → OnOk result (Later (λ later. Stand G.Register O.Owners S.Store E.Engine self.new x (letters ++ out.new) clocks later tree) c) }
+        ensures keeps { OnOk result (OfBoth self.old self.new node (KeepsUnneeded needs.now)) }
+        ensures asking { OnOk result (AllByRecursion (AllByRecursion (λ wanted. Asking G.Register O.Owners self.new node wanted.0)) needs.now) }
+        ensures asks_on { (at : ℕ) → Asking G.Register O.Owners self.old node at → OnOk result (Asking G.Register O.Owners self.new node at) }
+        ensures ready { OnOk result (Ready S.Store E.Engine self.new node) }
+        ensures rests { OnOk result (Rests self.new node) }
+        ensures only { OnOk result (OfBoth self.old self.new node OnlyHolds) }
         ensures parts { (self.new.register ≡ self.old.register) × (self.new.engine ≡ self.old.engine) × (S.made self.new.store ≡ S.made self.old.store) }
         ensures own { (other : ℕ) → (O.own self.new.owners other ≡ O.own self.old.owners other) × (O.end_of self.new.owners other ≡ O.end_of self.old.owners other) × (S.own self.new.store other ≡ S.own self.old.store other) × (S.out_of self.new.store other ≡ S.out_of self.old.store other) }
         ensures others { OnlyMachine node self.old.machines.items self.new.machines.items }
@@ -113,16 +117,20 @@ impl<G: Register, O: Owners, S: Store, E: Engine> Nodes<G, O, S, E> {
         out: &mut Outbox,
     ) -> Result<(), OutOfMemory>
         requires there { (node < length self.old.machines.items) × (node < G.nodes self.old.register) }
-        requires joined { IfSome (slice_get self.old.machines.items node) (IsJoined (S.made self.old.store) (E.areas self.old.engine) (O.own self.old.owners node) (S.own self.old.store node) (S.asked self.old.store node)) }
-        requires rests { IfSome (slice_get self.old.machines.items node) (λ machine. machine.stage ≡ Idle) }
+        requires ready { Ready S.Store E.Engine self.old node }
+        requires sessions { IsSome (O.own self.old.owners node) × IsSome (S.own self.old.store node) }
+        requires rests { Rests self.old node }
+        requires none_out { S.out_of self.old.store node ≡ None }
         requires blocks { AllByRecursion (λ wanted. IsBlock (S.made self.old.store).areas wanted.0) wants.now }
-        ensures stands { (x : Disks) (letters : List Letter) (clocks : Clocks) (c : Course) (tree : E.Tree) (session : ℕ) → clocks.down (Node node) ≡ false
-            → NodesStand G.Register O.Owners S.Store (E.stands self.old.engine) (E.step self.old.engine) self.old.register self.old.owners self.old.store x (letters ++ out.old) clocks (seen self.old.machines.items) c tree
-            → O.own self.old.owners node ≡ Some session → LivesIn (last c.register.chain) session → IfSome (slice_get self.old.machines.items node) (λ machine. machine.session ≡ Some session)
-            → OnOk result (Later (λ later. NodesStand G.Register O.Owners S.Store (E.stands self.new.engine) (E.step self.new.engine) self.new.register self.new.owners self.new.store x (letters ++ out.new) clocks (seen self.new.machines.items) later tree) c) }
-        ensures keeps { OnOk result (IfSome (slice_get self.old.machines.items node) (λ old. IfSome (slice_get self.new.machines.items node) (KeepsUnwanted wants.now old))) }
-        ensures joined { OnOk result (IfSome (slice_get self.new.machines.items node) (IsJoined (S.made self.new.store) (E.areas self.new.engine) (O.own self.new.owners node) (S.own self.new.store node) (S.asked self.new.store node))) }
-        ensures rests { OnOk result (IfSome (slice_get self.new.machines.items node) (λ machine. (machine.stage ≡ Idle) × IfSome (slice_get self.old.machines.items node) (λ old. machine.session ≡ old.session))) }
+        ensures stands { (x : Disks) (letters : List Letter) (clocks : Clocks) (c : Course) (tree : E.Tree) (session : ℕ) → clocks.down (Node node) ≡ false → Stand G.Register O.Owners S.Store E.Engine self.old x (letters ++ out.old) clocks c tree
+            → O.own self.old.owners node ≡ Some session → LivesIn (last c.register.chain) session → IsUnder self.old node session
+            → OnOk result (Later (λ later. Stand G.Register O.Owners S.Store E.Engine self.new x (letters ++ out.new) clocks later tree) c) }
+        ensures keeps { OnOk result (OfBoth self.old self.new node (KeepsUnwanted wants.now)) }
+        ensures asking { OnOk result (AllByRecursion (λ wanted. Asking G.Register O.Owners self.new node wanted.0) wants.now) }
+        ensures asks_on { (at : ℕ) → Asking G.Register O.Owners self.old node at → OnOk result (Asking G.Register O.Owners self.new node at) }
+        ensures ready { OnOk result (Ready S.Store E.Engine self.new node) }
+        ensures rests { OnOk result (Rests self.new node) }
+        ensures only { OnOk result (OfBoth self.old self.new node OnlyHolds) }
         ensures parts { (self.new.register ≡ self.old.register) × (self.new.engine ≡ self.old.engine) × (S.made self.new.store ≡ S.made self.old.store) }
         ensures own { (other : ℕ) → (O.own self.new.owners other ≡ O.own self.old.owners other) × (O.end_of self.new.owners other ≡ O.end_of self.old.owners other) × (S.own self.new.store other ≡ S.own self.old.store other) × (S.out_of self.new.store other ≡ S.out_of self.old.store other) }
         ensures others { OnlyMachine node self.old.machines.items self.new.machines.items }
@@ -135,21 +143,22 @@ impl<G: Register, O: Owners, S: Store, E: Engine> Nodes<G, O, S, E> {
         self.ask_each(node, rest, out)
     }
 
-    /// Wants a block in a mode in which it isn't held: what the node has of it is let go.
+    /// Wants a block that isn't held so, and lets go what the node has of it.
     fn want(&mut self, node: u32, at: u64, mode: Mode, out: &mut Outbox) -> Result<(), OutOfMemory>
         requires there { node < length self.old.machines.items }
-        requires joined { IfSome (slice_get self.old.machines.items node) (IsJoined (S.made self.old.store) (E.areas self.old.engine) (O.own self.old.owners node) (S.own self.old.store node) (S.asked self.old.store node)) }
-        requires rests { IfSome (slice_get self.old.machines.items node) (λ machine. machine.stage ≡ Idle) }
+        requires ready { Ready S.Store E.Engine self.old node }
+        requires session { IsSome (O.own self.old.owners node) }
+        requires rests { Rests self.old node }
         requires none_out { O.request self.old.owners node at ≡ None }
         requires weaker { is_weaker (O.hold self.old.owners node at) mode ≡ true }
-        ensures stands { (x : Disks) (letters : List Letter) (clocks : Clocks) (c : Course) (tree : E.Tree) (session : ℕ) → clocks.down (Node node) ≡ false
-            → NodesStand G.Register O.Owners S.Store (E.stands self.old.engine) (E.step self.old.engine) self.old.register self.old.owners self.old.store x (letters ++ out.old) clocks (seen self.old.machines.items) c tree
-            → O.own self.old.owners node ≡ Some session → LivesIn (last c.register.chain) session → IfSome (slice_get self.old.machines.items node) (λ machine. machine.session ≡ Some session)
-            → OnOk result (Later (λ later. NodesStand G.Register O.Owners S.Store (E.stands self.new.engine) (E.step self.new.engine) self.new.register self.new.owners self.new.store x (letters ++ out.new) clocks (seen self.new.machines.items) later tree) c) }
-        ensures goes { OnOk result (IfSome (slice_get self.old.machines.items node) (λ old. IfSome (slice_get self.new.machines.items node) (LetsGo at old))) }
-        ensures wants { OnOk result (O.grants self.old.owners node at mode self.new.owners
-            × (((O.request self.new.owners node at ≡ Some mode) ⊎ IsSomeAnd (O.hold self.new.owners node at) (λ held. held.0 ≡ mode)) ⊎ (O.is_spent self.old.owners node × (out.new ≡ out.old)))) }
-        ensures joined { OnOk result (IfSome (slice_get self.new.machines.items node) (IsJoined (S.made self.new.store) (E.areas self.new.engine) (O.own self.new.owners node) (S.own self.new.store node) (S.asked self.new.store node))) }
+        ensures stands { (x : Disks) (letters : List Letter) (clocks : Clocks) (c : Course) (tree : E.Tree) (session : ℕ) → clocks.down (Node node) ≡ false → Stand G.Register O.Owners S.Store E.Engine self.old x (letters ++ out.old) clocks c tree
+            → O.own self.old.owners node ≡ Some session → LivesIn (last c.register.chain) session → IsUnder self.old node session
+            → OnOk result (Later (λ later. Stand G.Register O.Owners S.Store E.Engine self.new x (letters ++ out.new) clocks later tree) c) }
+        ensures goes { OnOk result (OfBoth self.old self.new node (LetsGo at)) }
+        ensures wants { OnOk result (O.grants self.old.owners node at mode self.new.owners × IsWanted (O.request self.new.owners node at) (O.hold self.new.owners node at) mode (O.is_spent self.new.owners node)) }
+        ensures asks_on { (other : ℕ) → other ≢ at → Asking G.Register O.Owners self.old node other → OnOk result (Asking G.Register O.Owners self.new node other) }
+        ensures rests { OnOk result (Rests self.new node) }
+        ensures ready { OnOk result (Ready S.Store E.Engine self.new node) }
         ensures parts { (self.new.register ≡ self.old.register) × (self.new.engine ≡ self.old.engine) × (self.new.store ≡ self.old.store) }
         ensures own { (other : ℕ) → (O.own self.new.owners other ≡ O.own self.old.owners other) × (O.end_of self.new.owners other ≡ O.end_of self.old.owners other) }
         ensures others { OnlyMachine node self.old.machines.items self.new.machines.items }
@@ -159,19 +168,69 @@ impl<G: Register, O: Owners, S: Store, E: Engine> Nodes<G, O, S, E> {
         self.owners.want(node, at, mode, out)
     }
 
+    /// Reads a block, where it is held and may be read now; what the node has of it, it lets go.
+    fn get(&mut self, node: u32, at: u64, out: &mut Outbox) -> Result<(), OutOfMemory>
+        requires there { (node < length self.old.machines.items) × (node < G.nodes self.old.register) }
+        requires ready { Ready S.Store E.Engine self.old node }
+        requires session { IsSome (S.own self.old.store node) }
+        requires rests { Rests self.old node }
+        requires none_out { S.out_of self.old.store node ≡ None }
+        requires is_block { IsBlock (S.made self.old.store).areas at }
+        ensures stands { (x : Disks) (letters : List Letter) (clocks : Clocks) (c : Course) (tree : E.Tree) (session : ℕ) → clocks.down (Node node) ≡ false → Stand G.Register O.Owners S.Store E.Engine self.old x (letters ++ out.old) clocks c tree
+            → O.own self.old.owners node ≡ Some session → LivesIn (last c.register.chain) session → IsUnder self.old node session
+            → OnOk result (Later (λ later. Stand G.Register O.Owners S.Store E.Engine self.new x (letters ++ out.new) clocks later tree) c) }
+        ensures gets { OnOk result (OfBoth self.old self.new node (Gets (O.hold self.old.owners node at) (G.knows self.old.register (Node node)).index at (S.asked self.new.store node ≡ Some (home_of (S.made self.old.store).devices at)) ((self.new.store ≡ self.old.store) × (out.new ≡ out.old)))) }
+        ensures asking { IsSome (O.hold self.old.owners node at) → OnOk result (Asking G.Register O.Owners self.new node at) }
+        ensures asks_on { (other : ℕ) → Asking G.Register O.Owners self.old node other → OnOk result (Asking G.Register O.Owners self.new node other) }
+        ensures rests { OnOk result (Rests self.new node) }
+        ensures only { OnOk result (OfBoth self.old self.new node OnlyHolds) }
+        ensures ready { OnOk result (Ready S.Store E.Engine self.new node) }
+        ensures parts { (self.new.register ≡ self.old.register) × (self.new.engine ≡ self.old.engine) × (self.new.owners ≡ self.old.owners) × (S.made self.new.store ≡ S.made self.old.store) }
+        ensures own { (other : ℕ) → (S.own self.new.store other ≡ S.own self.old.store other) × (S.out_of self.new.store other ≡ S.out_of self.old.store other) }
+        ensures others { OnlyMachine node self.old.machines.items self.new.machines.items }
+        ensures count { length self.new.machines.items ≡ length self.old.machines.items }
+    {
+        let Some(hold) = self.owners.holds(node, at) else {
+            return Ok(());
+        };
+        if !self.may_read(node, hold.1) {
+            return Ok(());
+        }
+        self.let_go(node, at);
+        self.read(node, at, hold, out)
+    }
+
+    /// Lets go what a node has of a block that it holds on.
+    fn let_go(&mut self, node: u32, at: u64)
+        requires there { node < length self.old.machines.items }
+        requires ready { Ready S.Store E.Engine self.old node }
+        requires rests { Rests self.old node }
+        requires none_out { S.out_of self.old.store node ≡ None }
+        ensures stands { (x : Disks) (letters : List Letter) (clocks : Clocks) (c : Course) (tree : E.Tree) (session : ℕ) → clocks.down (Node node) ≡ false → Stand G.Register O.Owners S.Store E.Engine self.old x letters clocks c tree
+            → O.own self.old.owners node ≡ Some session → LivesIn (last c.register.chain) session → IsUnder self.old node session
+            → Later (λ later. Stand G.Register O.Owners S.Store E.Engine self.new x letters clocks later tree) c }
+        ensures goes { OfBoth self.old self.new node (LetsGo at) }
+        ensures rests { Rests self.new node }
+        ensures ready { Ready S.Store E.Engine self.new node }
+        ensures parts { (self.new.register ≡ self.old.register) × (self.new.engine ≡ self.old.engine) × (self.new.owners ≡ self.old.owners) × (self.new.store ≡ self.old.store) }
+        ensures others { OnlyMachine node self.old.machines.items self.new.machines.items }
+        ensures count { length self.new.machines.items ≡ length self.old.machines.items }
+    {
+        self.machines[node as usize].let_go(at);
+    }
+
     /// Whether a block that is held may be read now.
-    fn may_read(&self, node: u32, at: u64, index: u64) -> bool
+    fn may_read(&self, node: u32, index: u64) -> bool
         requires there { (node < length self.now.machines.items) × (node < G.nodes self.now.register) }
-        ensures may { result ≡ true → IfSome (slice_get self.now.machines.items node) (λ machine. MayRead machine at index (G.knows self.now.register (Node node)).index) }
-        ensures may_not { result ≡ false → IfSome (slice_get self.now.machines.items node) (λ machine. MayRead machine at index (G.knows self.now.register (Node node)).index → ⊥) }
+        ensures may { result ≡ true → OfNode self.now node (λ machine. MayRead machine index (G.knows self.now.register (Node node)).index) }
+        ensures may_not { result ≡ false → OfNode self.now node (λ machine. MayRead machine index (G.knows self.now.register (Node node)).index → ⊥) }
     {
         let machine = &self.machines[node as usize];
         matches!(machine.fetch, Fetch::Nothing)
-            && machine.cache.block(at, Mode::Shared).is_none()
             && index <= self.register.known(Actor::Node(node)).index
     }
 
-    /// Reads the home of a block that is held.
+    /// Reads the home of a block that is held, and of which the node has nothing.
     fn read(
         &mut self,
         node: u32,
@@ -180,17 +239,18 @@ impl<G: Register, O: Owners, S: Store, E: Engine> Nodes<G, O, S, E> {
         out: &mut Outbox,
     ) -> Result<(), OutOfMemory>
         requires there { node < length self.old.machines.items }
-        requires joined { IfSome (slice_get self.old.machines.items node) (IsJoined (S.made self.old.store) (E.areas self.old.engine) (O.own self.old.owners node) (S.own self.old.store node) (S.asked self.old.store node)) }
-        requires rests { IfSome (slice_get self.old.machines.items node) (λ machine. machine.stage ≡ Idle) }
+        requires ready { Ready S.Store E.Engine self.old node }
+        requires session { IsSome (S.own self.old.store node) }
+        requires rests { Rests self.old node }
         requires is_block { IsBlock (S.made self.old.store).areas at }
         requires hold { O.hold self.old.owners node at ≡ Some hold }
-        requires may { IfSome (slice_get self.old.machines.items node) (λ machine. MayRead machine at hold.1 (G.knows self.old.register (Node node)).index) }
-        ensures stands { (x : Disks) (letters : List Letter) (clocks : Clocks) (c : Course) (tree : E.Tree) (session : ℕ) → clocks.down (Node node) ≡ false
-            → NodesStand G.Register O.Owners S.Store (E.stands self.old.engine) (E.step self.old.engine) self.old.register self.old.owners self.old.store x (letters ++ out.old) clocks (seen self.old.machines.items) c tree
-            → O.own self.old.owners node ≡ Some session → LivesIn (last c.register.chain) session → IfSome (slice_get self.old.machines.items node) (λ machine. machine.session ≡ Some session)
-            → OnOk result (Later (λ later. NodesStand G.Register O.Owners S.Store (E.stands self.new.engine) (E.step self.new.engine) self.new.register self.new.owners self.new.store x (letters ++ out.new) clocks (seen self.new.machines.items) later tree) c) }
-        ensures reads { OnOk result (IfSome (slice_get self.old.machines.items node) (λ old. IfSome (slice_get self.new.machines.items node) (λ new. new ≡ record old { fetch = Block at hold.0 })) × (S.asked self.new.store node ≡ Some (home_of (S.made self.old.store).devices at))) }
-        ensures joined { OnOk result (IfSome (slice_get self.new.machines.items node) (IsJoined (S.made self.new.store) (E.areas self.new.engine) (O.own self.new.owners node) (S.own self.new.store node) (S.asked self.new.store node))) }
+        requires none { OfNode self.old node (λ machine. kept_in machine.cache.kept at ≡ None) }
+        requires may { OfNode self.old node (λ machine. MayRead machine hold.1 (G.knows self.old.register (Node node)).index) }
+        ensures stands { (x : Disks) (letters : List Letter) (clocks : Clocks) (c : Course) (tree : E.Tree) (session : ℕ) → clocks.down (Node node) ≡ false → Stand G.Register O.Owners S.Store E.Engine self.old x (letters ++ out.old) clocks c tree
+            → O.own self.old.owners node ≡ Some session → LivesIn (last c.register.chain) session → IsUnder self.old node session
+            → OnOk result (Later (λ later. Stand G.Register O.Owners S.Store E.Engine self.new x (letters ++ out.new) clocks later tree) c) }
+        ensures reads { OnOk result (OfBoth self.old self.new node (λ old new. new ≡ record old { fetch = Block at hold.0 }) × (S.asked self.new.store node ≡ Some (home_of (S.made self.old.store).devices at))) }
+        ensures ready { OnOk result (Ready S.Store E.Engine self.new node) }
         ensures parts { (self.new.register ≡ self.old.register) × (self.new.engine ≡ self.old.engine) × (self.new.owners ≡ self.old.owners) × (S.made self.new.store ≡ S.made self.old.store) }
         ensures own { (other : ℕ) → (S.own self.new.store other ≡ S.own self.old.store other) × (S.out_of self.new.store other ≡ S.out_of self.old.store other) }
         ensures others { OnlyMachine node self.old.machines.items self.new.machines.items }
@@ -202,6 +262,16 @@ impl<G: Register, O: Owners, S: Store, E: Engine> Nodes<G, O, S, E> {
             .read(node, device, place, BLOCK_SECTORS as u32, out)?;
         machine.fetch = Fetch::Block(at, hold.0);
         Ok(())
+    }
+}
+
+/// Whether a mode that is wanted isn't held yet.
+fn is_weaker(hold: Option<(Mode, u64)>, wanted: Mode) -> bool
+    ensures { result ≡ is_weaker hold wanted }
+{
+    match hold {
+        None => true,
+        Some((held, _)) => is_less(held, wanted),
     }
 }
 

@@ -1,19 +1,19 @@
-//! The nodes of a cluster, over any register, owners, store and engine: what each has, reads, wants and gives back; turns that only answer, records that begin, and
-//! the steps of their logs; and what machines are handed.
+//! The nodes of a cluster, over any register, owners, store and engine: what each reads, wants and gives back; calls that come, and turns, in which records begin and
+//! their logs go on; what machines are handed; machines that stop and start; and sessions that are new to a node.
 #![tactic(auto)]
 
 mod answers;
 mod asks;
+mod calls;
 mod gives;
-mod logs;
-mod machine;
 mod nodes;
 mod reads;
-mod recording;
+mod renew;
 mod sends;
+mod stops;
 mod takes;
 mod turns;
 
 pub use answers::Attempted;
-pub use machine::{Fetch, Machine, Mark, Pending, Stage};
 pub use nodes::Nodes;
+pub use turns::Lease;

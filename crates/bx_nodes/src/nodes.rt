@@ -2,8 +2,8 @@
 
 ghost use Rattle.std.specs.Prelude.{◌≡◌};
 
-use crate::machine::Machine;
 use bx_facts::{Register, Store};
+use bx_node_steps::Machine;
 use bx_owners::Owners;
 use bx_views::Engine;
 use std::alloc::Global;

@@ -12,8 +12,8 @@ ghost use Rattle.bx_facts.specs.Machines.{IsMachine, OnlyAt};
 ghost use Rattle.bx_facts.specs.Pasts.{RegisterPast, register_with};
 ghost use Rattle.bx_facts.specs.declared.input.FactError.TheVariants.{Disk as DiskFails};
 ghost use Rattle.bx_global.specs.Table.{IsLegal};
-ghost use Rattle.bx_node_machines.specs.Nodes.{NodesStand};
-ghost use Rattle.bx_nodes.specs.Seen.{seen};
+ghost use Rattle.bx_nodes.specs.Standing.{Stand, StandBut};
+ghost use Rattle.bx_nodes.specs.Stopping.{Empties, IsDown, with_down};
 ghost use Rattle.bx_nodes.specs.Taking.{Hears, Offers, Proposes, with_reading};
 ghost use Rattle.bx_post.specs.declared.packets.Letter.{Letter};
 ghost use Rattle.bx_world_standing.specs.Parts.{Clocks};
@@ -30,7 +30,7 @@ use bx_views::Engine;
 
 impl<G: Register, O: Owners, S: Store, E: Engine> Nodes<G, O, S, E> {
     /// Hands an input to a machine that is up: to its register, and with the state that it knows by now to the owners and the store. The change that one of
-    /// these hands back is proposed, the owners' first. At a disk fault nothing of it is sent, and the machine is to be stopped.
+    /// these hands back is proposed, the owners' first. At a disk fault the machine stops, and nothing in the box is sent. For want of memory it isn't used again.
     pub fn take<R: Rack>(
         &mut self,
         rack: &mut R,
@@ -41,8 +41,47 @@ impl<G: Register, O: Owners, S: Store, E: Engine> Nodes<G, O, S, E> {
         requires there { IsMachine (G.nodes self.old.register) at × IsMachine (O.nodes self.old.owners) at × IsMachine ((S.made self.old.store).nodes) at }
         requires room { HasRoom (G.needs self.old.register) (R.state rack.old).sizes × HasRoom (S.needs self.old.store) (R.state rack.old).sizes }
         ensures stands { (letters : List Letter) (clocks : Clocks) (c : Course) (tree : E.Tree) → R.tells rack.old → clocks.down at ≡ false → IsSteady clocks.greatest input.now → IsComing (letters ++ out.old) input.now
-            → NodesStand G.Register O.Owners S.Store (E.stands self.old.engine) (E.step self.old.engine) self.old.register self.old.owners self.old.store (R.state rack.old) (letters ++ out.old) clocks (seen self.old.machines.items) c tree
-            → OnOk result (Hears (λ later. NodesStand G.Register O.Owners S.Store (E.stands self.new.engine) (E.step self.new.engine) self.new.register self.new.owners self.new.store (R.state rack.new) (letters ++ out.new) (with_reading clocks input.now) (seen self.new.machines.items) later tree) c) }
+            → Stand G.Register O.Owners S.Store E.Engine self.old (R.state rack.old) (letters ++ out.old) clocks c tree
+            → OnOk result (Hears (λ later. Stand G.Register O.Owners S.Store E.Engine self.new (R.state rack.new) (letters ++ out.new) (with_reading clocks input.now) later tree) c) }
+        ensures stopped { (letters : List Letter) (clocks : Clocks) (c : Course) (tree : E.Tree) → R.tells rack.old → clocks.down at ≡ false → IsSteady clocks.greatest input.now → IsComing (letters ++ out.old) input.now
+            → Stand G.Register O.Owners S.Store E.Engine self.old (R.state rack.old) (letters ++ out.old) clocks c tree
+            → IsErrOf result DiskFails → Hears (λ later. Stand G.Register O.Owners S.Store E.Engine self.new (R.state rack.new) (letters ++ out.old) (with_down (with_reading clocks input.now) at) later tree) c }
+        ensures offers { OnOk result (Offers (O.hands self.old.owners (G.knows self.new.register at) at input.now) (S.hands self.old.store (G.knows self.new.register at) at input.now) (λ one. (G.is_busy self.old.register at ⊎ G.is_busy self.new.register at) ⊎ (IsLegal (G.knows self.new.register at) one → ⊥))) }
+        ensures steps { OnOk result (S.steps self.old.store (G.knows self.new.register at) at input.now self.new.store) }
+        ensures machines { (IsErrOf result DiskFails → ⊥) → self.new.machines ≡ self.old.machines }
+        ensures empties { IsErrOf result DiskFails → Empties at self.old.machines.items self.new.machines.items }
+        ensures down { IsErrOf result DiskFails → IsDown G.Register S.Store self.new.register self.new.store at }
+        ensures engine { self.new.engine ≡ self.old.engine }
+        ensures knows { OnlyAt at (G.knows self.old.register) (G.knows self.new.register) }
+        ensures rises { (who : Actor) → (G.knows self.old.register who).index ≤ (G.knows self.new.register who).index }
+        ensures own { (node : ℕ) → at ≢ Node node → (O.own self.new.owners node ≡ O.own self.old.owners node) × (S.own self.new.store node ≡ S.own self.old.store node) }
+        ensures needs { NeedsNoMore (G.needs self.old.register) (G.needs self.new.register) × NeedsNoMore (S.needs self.old.store) (S.needs self.new.store) }
+        ensures made { (G.made self.new.register ≡ G.made self.old.register) × (G.nodes self.new.register ≡ G.nodes self.old.register) × (O.nodes self.new.owners ≡ O.nodes self.old.owners) × (S.made self.new.store ≡ S.made self.old.store) }
+        ensures rack { Counted R.Rack rack.old rack.new result DiskFails }
+    {
+        let taken = self.hand(rack, at, input, out);
+        if matches!(taken, Err(FactError::Disk)) {
+            self.crash(at);
+        }
+        taken
+    }
+
+    /// Hands the input to register, owners and store, and offers what comes back. At a disk fault the machine is to stop.
+    fn hand<R: Rack>(
+        &mut self,
+        rack: &mut R,
+        at: Actor,
+        input: &Input,
+        out: &mut Outbox,
+    ) -> Result<(), FactError>
+        requires there { IsMachine (G.nodes self.old.register) at × IsMachine (O.nodes self.old.owners) at × IsMachine ((S.made self.old.store).nodes) at }
+        requires room { HasRoom (G.needs self.old.register) (R.state rack.old).sizes × HasRoom (S.needs self.old.store) (R.state rack.old).sizes }
+        ensures stands { (letters : List Letter) (clocks : Clocks) (c : Course) (tree : E.Tree) → R.tells rack.old → clocks.down at ≡ false → IsSteady clocks.greatest input.now → IsComing (letters ++ out.old) input.now
+            → Stand G.Register O.Owners S.Store E.Engine self.old (R.state rack.old) (letters ++ out.old) clocks c tree
+            → OnOk result (Hears (λ later. Stand G.Register O.Owners S.Store E.Engine self.new (R.state rack.new) (letters ++ out.new) (with_reading clocks input.now) later tree) c) }
+        ensures faulted { (letters : List Letter) (clocks : Clocks) (c : Course) (tree : E.Tree) → R.tells rack.old → clocks.down at ≡ false → IsSteady clocks.greatest input.now → IsComing (letters ++ out.old) input.now
+            → Stand G.Register O.Owners S.Store E.Engine self.old (R.state rack.old) (letters ++ out.old) clocks c tree
+            → IsErrOf result DiskFails → Hears (λ later. StandBut G.Register O.Owners S.Store E.Engine self.new (R.state rack.new) at (letters ++ out.old) (with_reading clocks input.now) later tree) c }
         ensures offers { OnOk result (Offers (O.hands self.old.owners (G.knows self.new.register at) at input.now) (S.hands self.old.store (G.knows self.new.register at) at input.now) (λ one. (G.is_busy self.old.register at ⊎ G.is_busy self.new.register at) ⊎ (IsLegal (G.knows self.new.register at) one → ⊥))) }
         ensures steps { OnOk result (S.steps self.old.store (G.knows self.new.register at) at input.now self.new.store) }
         ensures machines { (self.new.machines ≡ self.old.machines) × (self.new.engine ≡ self.old.engine) }

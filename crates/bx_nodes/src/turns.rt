@@ -1,62 +1,204 @@
-//! Turns that only answer.
+//! Turns.
 
-ghost use Rattle.std.specs.Prelude.{◌≡◌, ℕ, ◌+◌, ◌<◌, ◌≤◌, false, true, length, List, IfOk, IfSome, Some, slice_get};
+ghost use Rattle.std.specs.Prelude.{◌≡◌, ℕ, ◌+◌, ◌++◌, ◌<◌, ◌≤◌, [], false, true, length, List, IfOk, IfSome, IsSome, None, OnOk, Some, option_to_list, slice_get};
 ghost use Rattle.bx_base.specs.declared.names.Actor.TheVariants.{Node};
 ghost use Rattle.bx_disk.specs.Disks.{Disks};
-ghost use Rattle.bx_node_machines.specs.Nodes.{NodesStand};
-ghost use Rattle.bx_nodes.specs.Seen.{seen};
-ghost use Rattle.bx_nodes.specs.Turns.{IsRelied, OnlyMachine, Turned};
+ghost use Rattle.bx_facts.specs.Chains.{LivesIn, last};
+ghost use Rattle.bx_facts.specs.Holds.{first_of};
+ghost use Rattle.bx_nodes.specs.Standing.{Asking, BeReady, HasLease, IsUnder, OfNode, Ready, Rests, Stand};
+ghost use Rattle.bx_nodes.specs.Turns.{OnlyMachine, Turned, Waits, newest_of};
 ghost use Rattle.bx_post.specs.declared.packets.Letter.{Letter};
 ghost use Rattle.bx_world_standing.specs.Parts.{Clocks};
 ghost use Rattle.bx_world_standing.specs.Standing.{Course};
 
+use crate::answers::Attempted;
 use crate::nodes::Nodes;
-use bx_base::OutOfMemory;
-use bx_facts::{Register, Store};
+use bx_base::{CallNo, OutOfMemory};
+use bx_facts::{Outbox, Register, Store};
+use bx_node_steps::Stage;
 use bx_node_tries::Said;
 use bx_owners::Owners;
 use bx_views::Engine;
 
+/// What a node works under in a turn.
+#[derive(Clone, Copy)]
+pub struct Lease {
+    /// Its session.
+    pub session: u64,
+    /// The end of that, in milliseconds.
+    pub until: u64,
+}
+
 impl<G: Register, O: Owners, S: Store, E: Engine> Nodes<G, O, S, E> {
-    /// A turn in which no record may be begun, at a reading in milliseconds: where the lease is valid, the calls are answered that can be from what
-    /// the node holds.
-    pub fn answer_turn(&mut self, node: u32, reading: u64) -> Result<Vec<Said>, OutOfMemory>
-        requires there { node < length self.old.machines.items }
+    /// A node's turn, at a reading in milliseconds. Where its lease is valid it takes in what it has read, and its log goes on; where that rests it gives back what
+    /// it is asked for, its calls are attempted, and one begins a record, or what they need is asked for. Says the answers, in the order in which the calls acted.
+    pub fn turn(
+        &mut self,
+        node: u32,
+        reading: u64,
+        out: &mut Outbox,
+    ) -> Result<Vec<Said>, OutOfMemory>
+        requires there { (node < length self.old.machines.items) × (node < G.nodes self.old.register) }
+        requires ready { BeReady S.Store E.Engine self.old node }
         requires moment { reading ≤ 4294967295999 }
         ensures stands { (x : Disks) (letters : List Letter) (clocks : Clocks) (c : Course) (tree : E.Tree) → clocks.down (Node node) ≡ false → clocks.greatest ≤ reading + 500
-            → NodesStand G.Register O.Owners S.Store (E.stands self.old.engine) (E.step self.old.engine) self.old.register self.old.owners self.old.store x letters clocks (seen self.old.machines.items) c tree
-            → IfOk result (λ said. Turned (E.step self.old.engine) (NodesStand G.Register O.Owners S.Store (E.stands self.new.engine) (E.step self.new.engine) self.new.register self.new.owners self.new.store x letters clocks (seen self.new.machines.items)) c tree said.items) }
+            → Stand G.Register O.Owners S.Store E.Engine self.old x (letters ++ out.old) clocks c tree
+            → IfOk result (λ said. Turned (E.step self.old.engine) (Stand G.Register O.Owners S.Store E.Engine self.new x (letters ++ out.new) clocks) c tree said.items) }
+        ensures waits { (lease : Lease) → HasLease O.Owners S.Store self.old node reading lease → OnOk result (OfNode self.new node (Waits O.Owners E.Engine self.new.engine node reading lease.session (S.out_of self.new.store node) (Asking G.Register O.Owners self.new node))) }
+        ensures ready { OnOk result (BeReady S.Store E.Engine self.new node) }
+        ensures parts { (self.new.register ≡ self.old.register) × (self.new.engine ≡ self.old.engine) × (S.made self.new.store ≡ S.made self.old.store) }
         ensures others { OnlyMachine node self.old.machines.items self.new.machines.items }
+        ensures count { length self.new.machines.items ≡ length self.old.machines.items }
     {
-        let Some(session) = self.relied(node, reading) else {
+        self.note_asked(node);
+        let said = self.act(node, reading, out)?;
+        self.note_asked(node);
+        Ok(said)
+    }
+
+    /// What a node does in a turn, once it has noted what it is asked for.
+    fn act(&mut self, node: u32, reading: u64, out: &mut Outbox) -> Result<Vec<Said>, OutOfMemory>
+        requires there { (node < length self.old.machines.items) × (node < G.nodes self.old.register) }
+        requires ready { BeReady S.Store E.Engine self.old node }
+        requires moment { reading ≤ 4294967295999 }
+        ensures stands { (x : Disks) (letters : List Letter) (clocks : Clocks) (c : Course) (tree : E.Tree) → clocks.down (Node node) ≡ false → clocks.greatest ≤ reading + 500
+            → Stand G.Register O.Owners S.Store E.Engine self.old x (letters ++ out.old) clocks c tree
+            → IfOk result (λ said. Turned (E.step self.old.engine) (Stand G.Register O.Owners S.Store E.Engine self.new x (letters ++ out.new) clocks) c tree said.items) }
+        ensures waits { (lease : Lease) → HasLease O.Owners S.Store self.old node reading lease → OnOk result (OfNode self.new node (Waits O.Owners E.Engine self.new.engine node reading lease.session (S.out_of self.new.store node) (Asking G.Register O.Owners self.new node))) }
+        ensures ready { OnOk result (BeReady S.Store E.Engine self.new node) }
+        ensures parts { (self.new.register ≡ self.old.register) × (self.new.engine ≡ self.old.engine) × (S.made self.new.store ≡ S.made self.old.store) }
+        ensures others { OnlyMachine node self.old.machines.items self.new.machines.items }
+        ensures count { length self.new.machines.items ≡ length self.old.machines.items }
+    {
+        let Some(lease) = self.lease_at(node, reading) else {
             return Ok(Vec::new(self.alloc));
         };
-        if !self.is_under(node as usize, session) {
-            return Ok(Vec::new(self.alloc));
+        self.receive(node)?;
+        let acked = self.step_log(node, lease.until, out)?;
+        let answers = self.attempt_turn(node, lease, reading, out)?;
+        together(acked, answers)
+    }
+
+    /// The attempts of a turn: where its log rests and no write of it is out the node works on; else it only answers.
+    fn attempt_turn(
+        &mut self,
+        node: u32,
+        lease: Lease,
+        reading: u64,
+        out: &mut Outbox,
+    ) -> Result<Vec<Said>, OutOfMemory>
+        requires there { (node < length self.old.machines.items) × (node < G.nodes self.old.register) }
+        requires ready { Ready S.Store E.Engine self.old node }
+        requires sessions { IsSome (O.own self.old.owners node) × IsSome (S.own self.old.store node) }
+        requires moment { reading ≤ 4294967295999 }
+        requires busy { (S.out_of self.old.store node ≡ None) → Rests self.old node }
+        ensures stands { (x : Disks) (letters : List Letter) (clocks : Clocks) (c : Course) (tree : E.Tree) (session : ℕ) → clocks.down (Node node) ≡ false → Stand G.Register O.Owners S.Store E.Engine self.old x (letters ++ out.old) clocks c tree
+            → O.own self.old.owners node ≡ Some session → O.end_of self.old.owners node ≡ Some lease.until → LivesIn (last c.register.chain) session → IsUnder self.old node session
+            → IfOk result (λ said. Turned (E.step self.old.engine) (Stand G.Register O.Owners S.Store E.Engine self.new x (letters ++ out.new) clocks) c tree said.items) }
+        ensures waits { OnOk result (OfNode self.new node (Waits O.Owners E.Engine self.new.engine node reading lease.session (S.out_of self.new.store node) (Asking G.Register O.Owners self.new node))) }
+        ensures ready { OnOk result (Ready S.Store E.Engine self.new node) }
+        ensures parts { (self.new.register ≡ self.old.register) × (self.new.engine ≡ self.old.engine) × (S.made self.new.store ≡ S.made self.old.store) }
+        ensures others { OnlyMachine node self.old.machines.items self.new.machines.items }
+        ensures count { length self.new.machines.items ≡ length self.old.machines.items }
+    {
+        if self.store.done(node) {
+            return self.rounds(node, lease, reading, out);
         }
-        let attempted = self.attempt(node as usize, reading, false)?;
+        let attempted = self.attempt(node as usize, reading, None, false)?;
         Ok(attempted.said)
     }
 
-    /// The node's session; where its lease is valid at a reading.
-    fn relied(&self, node: u32, reading: u64) -> Option<u64>
-        ensures some { IfSome result (IsRelied (O.own self.now.owners node) (O.end_of self.now.owners node) reading) }
+    /// Gives back what the node is asked for, and attempts its calls; again, where one was answered and a block is kept for calls that waited. Then one begins a
+    /// record, or what they need is asked for.
+    fn rounds(
+        &mut self,
+        node: u32,
+        lease: Lease,
+        reading: u64,
+        out: &mut Outbox,
+    ) -> Result<Vec<Said>, OutOfMemory>
+        requires there { (node < length self.old.machines.items) × (node < G.nodes self.old.register) }
+        requires ready { Ready S.Store E.Engine self.old node }
+        requires sessions { IsSome (O.own self.old.owners node) × IsSome (S.own self.old.store node) }
+        requires rests { Rests self.old node }
+        requires none_out { S.out_of self.old.store node ≡ None }
+        requires moment { reading ≤ 4294967295999 }
+        ensures stands { (x : Disks) (letters : List Letter) (clocks : Clocks) (c : Course) (tree : E.Tree) (session : ℕ) → clocks.down (Node node) ≡ false → Stand G.Register O.Owners S.Store E.Engine self.old x (letters ++ out.old) clocks c tree
+            → O.own self.old.owners node ≡ Some session → O.end_of self.old.owners node ≡ Some lease.until → LivesIn (last c.register.chain) session → IsUnder self.old node session
+            → IfOk result (λ said. Turned (E.step self.old.engine) (Stand G.Register O.Owners S.Store E.Engine self.new x (letters ++ out.new) clocks) c tree said.items) }
+        ensures waits { OnOk result (OfNode self.new node (Waits O.Owners E.Engine self.new.engine node reading lease.session (S.out_of self.new.store node) (Asking G.Register O.Owners self.new node))) }
+        ensures ready { OnOk result (Ready S.Store E.Engine self.new node) }
+        ensures parts { (self.new.register ≡ self.old.register) × (self.new.engine ≡ self.old.engine) × (S.made self.new.store ≡ S.made self.old.store) }
+        ensures others { OnlyMachine node self.old.machines.items self.new.machines.items }
+        ensures count { length self.new.machines.items ≡ length self.old.machines.items }
     {
-        let end = self.owners.lease(node)?;
-        if end < reading {
-            return None;
+        self.give_back(node, lease.session, out)?;
+        let newest = self.newest_asked(node);
+        let Attempted {
+            mut said,
+            begun,
+            needs,
+        } = self.attempt(node as usize, reading, newest, true)?;
+        if let Some(begun) = begun {
+            self.begin(node, lease.until, begun, reading, out)?;
+            return Ok(said);
         }
-        self.owners.session(node)
+        if said.is_empty() || newest.is_none() {
+            self.ask_all(node, needs.as_slice(), out)?;
+            return Ok(said);
+        }
+        let mut more = self.rounds(node, lease, reading, out)?;
+        said.append(&mut more)?;
+        Ok(said)
     }
 
-    /// Whether the node has what it has under this session.
-    fn is_under(&self, node: usize, session: u64) -> bool
+    /// The newest call that waited when the first of the blocks was seen that the node is asked for; `None` where it is asked for none.
+    fn newest_asked(&self, node: u32) -> Option<CallNo>
         requires there { node < length self.now.machines.items }
-        ensures { result ≡ true → IfSome (slice_get self.now.machines.items node) (λ machine. machine.session ≡ Some session) }
+        ensures { OfNode self.now node (λ machine. result ≡ newest_of (first_of (O.asks self.now.owners node)) machine) }
     {
-        match self.machines[node].session {
-            None => false,
-            Some(own) => own == session,
-        }
+        let (block, asking) = self.owners.asked(node)?;
+        Some(self.machines[node as usize].since(block, asking))
     }
+
+    /// The session that a node has what it has under, and its end; where owners and store know it, and its lease is valid at a reading.
+    fn lease_at(&self, node: u32, reading: u64) -> Option<Lease>
+        requires there { node < length self.now.machines.items }
+        ensures some { IfSome result (HasLease O.Owners S.Store self.now node reading) }
+        ensures none { result ≡ None → (lease : Lease) → HasLease O.Owners S.Store self.now node reading lease → ⊥ }
+    {
+        let session = self.owners.session(node)?;
+        let until = self.owners.lease(node)?;
+        let machine = &self.machines[node as usize];
+        if is_one(self.store.session(node), session)
+            && is_one(machine.session, session)
+            && reading <= until
+        {
+            return Some(Lease { session, until });
+        }
+        None
+    }
+}
+
+/// Whether there is a session, and it is this one.
+fn is_one(found: Option<u64>, session: u64) -> bool
+    ensures is { result ≡ true → found ≡ Some session }
+    ensures is_not { result ≡ false → found ≡ Some session → ⊥ }
+{
+    match found {
+        None => false,
+        Some(one) => one == session,
+    }
+}
+
+/// The answer to the call whose record was acknowledged, where there is one, and the others behind it.
+fn together(acked: Option<Said>, answers: Vec<Said>) -> Result<Vec<Said>, OutOfMemory>
+    ensures { IfOk result (λ said. said.items ≡ option_to_list acked ++ answers.items) }
+{
+    let Some(acked) = acked else {
+        return Ok(answers);
+    };
+    let mut said = answers;
+    said.insert(0, acked)?;
+    Ok(said)
 }

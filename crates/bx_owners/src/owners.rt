@@ -104,8 +104,10 @@ pub trait Owners: Drop {
         requires none_out { request self.old node block ≡ None }
         ensures keeps { (past : OwnersPast) (session : ℕ) → keeps self.old (owners_with past out.old) → past.told.down (Node node) ≡ false → own self.old node ≡ Some session → OnOk result (Holding (KeepsOthers session block past.holding) (keeps self.new) (owners_with past out.new)) }
         ensures wants { OnOk result (((request self.new node block ≡ Some mode) ⊎ IsSomeAnd (hold self.new node block) (λ held. held.0 ≡ mode)) ⊎ (is_spent self.old node × (request self.new node block ≡ None) × (hold self.new node block ≡ None) × (out.new ≡ out.old))) }
+        ensures spent { is_spent self.old node → OnOk result (is_spent self.new node) }
         ensures grants { OnOk result (grants self.old node block mode self.new) }
-        ensures requests { (other at : ℕ) → (other ≢ node) ⊎ (at ≢ block) → OnOk result ((request self.new other at ≡ None) ⊎ (request self.new other at ≡ request self.old other at)) }
+        ensures requests { (other : ℕ) → other ≢ node → OnOk result ((request self.new other block ≡ None) ⊎ (request self.new other block ≡ request self.old other block)) }
+        ensures other_blocks { (other at : ℕ) → at ≢ block → OnOk result ((request self.new other at ≡ request self.old other at) × (hold self.new other at ≡ hold self.old other at)) }
         ensures asks { OnOk result (without_block block (asks self.new node) ≡ without_block block (asks self.old node)) }
         ensures own { (other : ℕ) → (own self.new other ≡ own self.old other) × (end_of self.new other ≡ end_of self.old other) }
         ensures apart { is_separate → (other at : ℕ) → other ≢ node → (hold self.new other at ≡ hold self.old other at) × (request self.new other at ≡ request self.old other at) × (asks self.new other ≡ asks self.old other) }

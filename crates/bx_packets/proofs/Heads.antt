@@ -1,6 +1,5 @@
 -- A field at the front of bytes, and what is behind it: what is read is what stands there, and where nothing is read nothing stands.
-use Rattle.std.proofs.Common.{◌≡◌, ℕ, List, [], ◌∷◌, ◌++◌, length, true, false, eqb, Option, Some, None, refl, sym, ap, ◌∙◌, arith, eq-eqb}
-use Rattle.std.proofs.lemmas.Bool.{eqb-true}
+use Rattle.std.proofs.Common.{◌≡◌, ℕ, List, ◌++◌, Option, Some, None, sym, ap, ◌∙◌}
 use Rattle.std.proofs.lemmas.Option.{some_pair_parts}
 use Rattle.bx_fields.specs.Reading.{Reader}
 use Rattle.bx_fields.proofs.Fields.{IsField}
@@ -15,14 +14,4 @@ pub head_none : {X : Type 0} {read : Reader X} {text : X → List ℕ} {Fits : X
     → read bytes ≡ None → bytes ≡ text y ++ more → Fits y → ⊥
 head_none {X} {read} {text} {Fits} p bytes more y e is fits =
     let both : ◌≡◌ {A = Option (X × List ℕ)} None (Some (y, more)) = sym e ∙ (ap read is ∙ p.again y more fits) in
-    absurd cc
-
-pub empty_is : (xs : List ℕ) → eqb (length xs) 0 ≡ true → xs ≡ []
-empty_is [] e = refl
-empty_is (x ∷ xs) e = absurd (omega (arith, eqb-true (length (x ∷ xs)) 0 e))
-
--- bytes that aren't empty, though they are
-pub not_empty : (xs : List ℕ) → eqb (length xs) 0 ≡ false → xs ≡ [] → ⊥
-not_empty xs e is =
-    let yes : eqb (length xs) 0 ≡ true = eq-eqb (length xs) 0 (ap length is) in
     absurd cc

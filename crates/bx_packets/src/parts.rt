@@ -5,7 +5,7 @@ ghost use Rattle.bx_fields.specs.Reading.{Gives};
 ghost use Rattle.bx_packets.specs.Reading.{NoPromise, NoProposal, NoRefusal, NoState, NoVote, SpellsPromise, SpellsProposal, SpellsRefusal, SpellsState, SpellsVote, marks_at, refusal_at, vote_at};
 
 use crate::message::Promise;
-use bx_fields::{ReadError, u32_at, u64_at};
+use bx_fields::{ReadError, all_of, u32_at, u64_at};
 use bx_global::{Ballot, GlobalState};
 use bx_rows::ballot_of;
 use std::alloc::Global;
@@ -85,11 +85,7 @@ fn marks_of(bytes: &[u8]) -> Result<(Marks, &[u8]), ReadError>
 pub(crate) fn vote_in(bytes: &[u8]) -> Result<(Ballot, u64), ReadError>
     ensures { MatchResult result (λ x. SpellsVote x.0 x.1 bytes.now) (λ e. NoVote e bytes.now) }
 {
-    let (vote, rest) = vote_of(bytes)?;
-    if !rest.is_empty() {
-        return Err(ReadError::Malformed);
-    }
-    Ok(vote)
+    all_of(vote_of(bytes)?)
 }
 
 /// A ballot and an index at the front, and the bytes behind them.
@@ -106,11 +102,7 @@ fn vote_of(bytes: &[u8]) -> Result<((Ballot, u64), &[u8]), ReadError>
 pub(crate) fn refusal_in(bytes: &[u8]) -> Result<(u64, Ballot), ReadError>
     ensures { MatchResult result (λ x. SpellsRefusal x.0 x.1 bytes.now) (λ e. NoRefusal e bytes.now) }
 {
-    let (refusal, rest) = refusal_of(bytes)?;
-    if !rest.is_empty() {
-        return Err(ReadError::Malformed);
-    }
-    Ok(refusal)
+    all_of(refusal_of(bytes)?)
 }
 
 /// An index and a ballot at the front, and the bytes behind them.

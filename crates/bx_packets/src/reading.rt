@@ -1,6 +1,6 @@
 //! Reading what a packet says.
 
-ghost use Rattle.std.specs.Prelude.{◌≡◌, ℕ, IfOk, IfSome, IfNone, MatchResult};
+ghost use Rattle.std.specs.Prelude.{◌≡◌, IfOk, IfSome, IfNone, MatchResult};
 ghost use Rattle.bx_packets.specs.Messages.{Spells};
 ghost use Rattle.bx_packets.specs.Reading.{NoneSpells};
 ghost use Rattle.bx_packets.specs.declared.message.Message.{Message};
@@ -37,71 +37,25 @@ fn message_of(alloc: Global, kind: u8, body: &[u8], devices: u32) -> Result<Mess
     ensures { MatchResult result (λ message. Spells devices message kind body.now) (λ e. NoneSpells e devices kind body.now) }
 {
     match kind {
-        1 => ask_of(body),
-        2 => decided_of(alloc, body, devices),
-        3 => prepare_of(alloc, body, devices),
-        4 => promise_of(alloc, body, devices),
-        5 => accept_of(alloc, body, devices),
-        6 => accepted_of(body),
-        7 => refused_of(body),
+        1 if body.is_empty() => Ok(Message::Ask),
+        2 => Ok(Message::Decided(state_in(alloc, body, devices)?)),
+        3 => {
+            let (ballot, state) = proposal_in(alloc, body, devices)?;
+            Ok(Message::Prepare(ballot, state))
+        }
+        4 => Ok(Message::Promise(promise_in(alloc, body, devices)?)),
+        5 => {
+            let (ballot, state) = proposal_in(alloc, body, devices)?;
+            Ok(Message::Accept(ballot, state))
+        }
+        6 => {
+            let (ballot, index) = vote_in(body)?;
+            Ok(Message::Accepted(ballot, index))
+        }
+        7 => {
+            let (index, ballot) = refusal_in(body)?;
+            Ok(Message::Refused(index, ballot))
+        }
         _ => Err(ReadError::Malformed),
     }
-}
-
-/// An ask.
-fn ask_of(body: &[u8]) -> Result<Message, ReadError>
-    ensures { (devices : ℕ) → MatchResult result (λ message. Spells devices message 1 body.now) (λ e. NoneSpells e devices 1 body.now) }
-{
-    if !body.is_empty() {
-        return Err(ReadError::Malformed);
-    }
-    Ok(Message::Ask)
-}
-
-/// A decided state.
-fn decided_of(alloc: Global, body: &[u8], devices: u32) -> Result<Message, ReadError>
-    ensures { MatchResult result (λ message. Spells devices message 2 body.now) (λ e. NoneSpells e devices 2 body.now) }
-{
-    let state = state_in(alloc, body, devices)?;
-    Ok(Message::Decided(state))
-}
-
-/// A prepare.
-fn prepare_of(alloc: Global, body: &[u8], devices: u32) -> Result<Message, ReadError>
-    ensures { MatchResult result (λ message. Spells devices message 3 body.now) (λ e. NoneSpells e devices 3 body.now) }
-{
-    let (ballot, state) = proposal_in(alloc, body, devices)?;
-    Ok(Message::Prepare(ballot, state))
-}
-
-/// A promise.
-fn promise_of(alloc: Global, body: &[u8], devices: u32) -> Result<Message, ReadError>
-    ensures { MatchResult result (λ message. Spells devices message 4 body.now) (λ e. NoneSpells e devices 4 body.now) }
-{
-    let promise = promise_in(alloc, body, devices)?;
-    Ok(Message::Promise(promise))
-}
-
-/// An accept.
-fn accept_of(alloc: Global, body: &[u8], devices: u32) -> Result<Message, ReadError>
-    ensures { MatchResult result (λ message. Spells devices message 5 body.now) (λ e. NoneSpells e devices 5 body.now) }
-{
-    let (ballot, state) = proposal_in(alloc, body, devices)?;
-    Ok(Message::Accept(ballot, state))
-}
-
-/// An acceptance.
-fn accepted_of(body: &[u8]) -> Result<Message, ReadError>
-    ensures { (devices : ℕ) → MatchResult result (λ message. Spells devices message 6 body.now) (λ e. NoneSpells e devices 6 body.now) }
-{
-    let (ballot, index) = vote_in(body)?;
-    Ok(Message::Accepted(ballot, index))
-}
-
-/// A refusal.
-fn refused_of(body: &[u8]) -> Result<Message, ReadError>
-    ensures { (devices : ℕ) → MatchResult result (λ message. Spells devices message 7 body.now) (λ e. NoneSpells e devices 7 body.now) }
-{
-    let (index, ballot) = refusal_in(body)?;
-    Ok(Message::Refused(index, ballot))
 }

@@ -1,9 +1,5 @@
 //! Why an entry wasn't put.
 
-ghost use Rattle.std.specs.Prelude.{◌≡◌};
-ghost use Rattle.bx_page.specs.declared.error.PageError.TheVariants.{OutOfMemory as MemoryRanOut};
-
-use std::alloc::AllocFailed;
 use thiserror::Error;
 
 /// Why an entry wasn't put into a page. The page is as it was.
@@ -15,20 +11,4 @@ pub enum PageError {
     /// Memory ran out.
     #[error("out of memory")]
     OutOfMemory,
-}
-
-impl From<bx_base::OutOfMemory> for PageError {
-    ghost from_gives = { λ _ error. error ≡ MemoryRanOut };
-
-    fn from(_error: bx_base::OutOfMemory) -> PageError {
-        PageError::OutOfMemory
-    }
-}
-
-impl<T: Drop> From<AllocFailed<T>> for PageError {
-    ghost from_gives = { λ _ error. error ≡ MemoryRanOut };
-
-    fn from(_error: AllocFailed<T>) -> PageError {
-        PageError::OutOfMemory
-    }
 }

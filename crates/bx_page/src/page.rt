@@ -165,7 +165,9 @@ impl Page {
         if SIZE < self.size_with(&place, key, value) {
             return Err(PageError::NoRoom);
         }
-        put_at(self.alloc, &mut self.entries, &place, key, value)?;
+        let Ok(()) = put_at(self.alloc, &mut self.entries, &place, key, value) else {
+            return Err(PageError::OutOfMemory);
+        };
         Ok(())
     }
 

@@ -12,7 +12,7 @@ use crate::entry::Entry;
 use crate::page::{Page, SIZE};
 use crate::writing::NO_HIGH;
 use bx_base::{OutOfMemory, Raw};
-use bx_fields::{ReadError, are_zeros, front_at, u16_at, u64_at};
+use bx_fields::{ReadError, before_zeros, front_at, u16_at, u64_at};
 use std::alloc::Global;
 
 /// The most bytes of a key.
@@ -39,14 +39,9 @@ impl Page {
         if payload.len() != SIZE {
             return Ok(None);
         }
-        let (parts, rest) = match parts_of(alloc, payload) {
-            Ok(found) => found,
-            Err(ReadError::Malformed) => return Ok(None),
-            Err(ReadError::OutOfMemory) => return Err(OutOfMemory),
-        };
-        if !are_zeros(rest) {
+        let Some(parts) = before_zeros(parts_of(alloc, payload))? else {
             return Ok(None);
-        }
+        };
         if !are_fit(&parts) {
             return Ok(None);
         }

@@ -2,7 +2,7 @@
 use Rattle.std.proofs.Common.{◌≡◌, ◌≢◌, ◌⊎◌, inl, inr, ⊎_elim, ℕ, zero, suc, ◌+◌, ◌<◌, ◌≤◌, Bool, true, false, List, [], ◌∷◌, length, Option, Some, None, refl, sym, ◌∙◌, ap, subst, arith, slice_get}
 use Rattle.std.specs.Prelude.{IfSome, IsSome, IsSomeAnd, if◌then◌else◌, nat_lt, not}
 use Rattle.bx_base.specs.declared.names.Mode.{Mode}
-use Rattle.bx_facts.specs.Holds.{Hold, hold_of}
+use Rattle.bx_facts.specs.Holds.{Hold, Holds, hold_of}
 use Rattle.bx_plain.specs.declared.rows.Row.{Row}
 use Rattle.bx_plain.specs.Asks.{AlikeBut}
 use Rattle.bx_plain.specs.Fits.{own_in}
@@ -237,6 +237,11 @@ module _ (session block : ℕ) (rows mid new : List Row) (others : (other at : �
       (passes.each session block)
 
 -- ---- what a node holds, by its session
+
+-- a block is held as before where each session holds it as before
+pub same_of : (own : Option ℕ) (holding before : Holds) (at : ℕ) → ((session : ℕ) → holding session at ≡ before session at) → hold_of own holding at ≡ hold_of own before at
+same_of None holding before at same = refl
+same_of (Some session) holding before at same = same session
 
 pub held_by_own : (nodes node block : ℕ) (rows : List Row) → IsSome (own_in nodes node) → hold_of (own_in nodes node) (hold_in rows) block ≡ hold_in rows (node + 1) block
 held_by_own nodes node block rows some = by_test (nat_lt node nodes) refl

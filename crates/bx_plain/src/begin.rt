@@ -3,13 +3,12 @@
 ghost use Rattle.std.specs.Prelude.{◌≡◌, ◌≤◌, IfOk};
 ghost use Rattle.bx_global.specs.Allowed.{IsAllowed};
 ghost use Rattle.bx_facts.specs.Chains.{IsAboveBoots};
-ghost use Rattle.bx_plain.specs.Begin.{plain_rows, plain_state};
+ghost use Rattle.bx_plain.specs.Begin.{plain_state};
 ghost use Rattle.bx_plain.specs.Fits.{IsPlainState};
 
-use bx_base::{List, OutOfMemory};
+use bx_base::OutOfMemory;
 use bx_global::GlobalState;
-use bx_global_laws::opening;
-use bx_rows::SessionRow;
+use bx_global_laws::{opening, sessions_until};
 use std::alloc::Global;
 
 /// When sessions and the term end, in milliseconds.
@@ -28,26 +27,7 @@ pub fn endless(alloc: Global, nodes: u32, devices: u32) -> Result<GlobalState, O
     let first = opening(alloc, nodes, devices)?;
     Ok(GlobalState {
         term_end: NEVER,
-        sessions: endless_sessions(alloc, nodes)?,
+        sessions: sessions_until(alloc, nodes, NEVER)?,
         ..first
     })
-}
-
-/// The sessions of this many nodes.
-fn endless_sessions(alloc: Global, nodes: u32) -> Result<List<SessionRow>, OutOfMemory>
-    ensures { IfOk result (λ rows. rows ≡ plain_rows nodes) }
-{
-    let mut rows = List::new(alloc);
-    for node in 0..nodes {
-        rows.push(SessionRow {
-            number: u64::from(node) + 1,
-            node,
-            boot: 0,
-            slot: node,
-            until: NEVER,
-            dead: 0,
-            by: 0,
-        })?;
-    }
-    Ok(rows)
 }

@@ -1,15 +1,9 @@
--- What an error of a rack, and one of an audit, is to a command.
-use Rattle.bx_disk.specs.declared.fault.RackError.{RackError}
-use Rattle.bx_disk.specs.declared.fault.RackError.TheVariants as racks
+-- What an error of an audit is to a command.
 use Rattle.bx_overlay.specs.declared.error.AuditError.{AuditError}
 use Rattle.bx_overlay.specs.declared.error.AuditError.TheVariants as audits
 use Rattle.bx_rack_commands.specs.declared.failure.Failure.{Failure}
 use Rattle.bx_rack_commands.specs.declared.failure.Failure.TheVariants.{DiskFault, Refused, OutOfMemory}
 use Rattle.bx_rack_commands.specs.declared.failure.Refusal.TheVariants.{Disk, Majority, Device, Block}
-
-abbrev pub failure_of_rack : RackError → Failure
-failure_of_rack racks.Fault = DiskFault
-failure_of_rack racks.OutOfMemory = OutOfMemory
 
 abbrev pub failure_of : AuditError → Failure
 failure_of audits.DiskFault = DiskFault

@@ -1,6 +1,5 @@
 //! Why a command on a rack stops short.
 
-use bx_disk::RackError;
 use bx_overlay::AuditError;
 use thiserror::Error;
 
@@ -36,20 +35,6 @@ pub enum Failure {
     /// Memory ran out.
     #[error("out of memory")]
     OutOfMemory,
-}
-
-impl From<RackError> for Failure {
-    ghost use Rattle.bx_rack_commands.specs.Failures.{failure_of_rack};
-    ghost use Rattle.std.specs.Prelude.{◌≡◌};
-
-    ghost from_gives = { λ error failure. failure ≡ failure_of_rack error };
-
-    fn from(error: RackError) -> Failure {
-        match error {
-            RackError::Fault => Failure::DiskFault,
-            RackError::OutOfMemory => Failure::OutOfMemory,
-        }
-    }
 }
 
 impl From<AuditError> for Failure {

@@ -1,5 +1,5 @@
 -- What is to be written first, by what posting and splitting answer.
-use Rattle.std.proofs.Common.{ℕ, List, [], Option, Some, None, inl, inr}
+use Rattle.std.proofs.Common.{ℕ, List, Option, Some, None, inl, inr}
 use Rattle.std.specs.Prelude.{Result, Ok, Err}
 use Rattle.bx_base.specs.declared.names.Mode.{Mode}
 use Rattle.bx_blink.specs.declared.error.BlinkError.{BlinkError}

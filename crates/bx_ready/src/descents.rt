@@ -1,15 +1,11 @@
 //! Descents: how a key is looked for over what is held alone, where no page may be passed.
 
-ghost use Rattle.std.specs.Prelude.{◌≡◌};
-ghost use Rattle.bx_blink.specs.Walks.{passes, child_of};
-ghost use Rattle.bx_truth.specs.PageTrees.{handle_in};
 ghost use Rattle.bx_ready.specs.Descents.{DescendsTo, FindsPage, StepsAt};
 
 use bx_base::Mode;
-use bx_blink::{block_at, page_of};
+use bx_blink::{block_at, child_of, page_of, passes};
 use bx_page_bytes::PageBytes;
 use bx_views::View;
-use byteorder::{BigEndian, ByteOrder};
 
 /// How many pages a descent may come to, and one.
 const MOST: u64 = 61_441;
@@ -96,35 +92,4 @@ pub(crate) fn descend<V: View>(view: &V, root: u64, key: &[u8]) -> Descent
         }
     }
     Descent::Lost
-}
-
-/// Whether a page's keys are all below a key.
-fn passes(page: &PageBytes, key: &[u8]) -> bool
-    ensures { result ≡ passes page.now key.now }
-{
-    match page.high() {
-        None => false,
-        Some(high) => !key.cmp(high).is_lt(),
-    }
-}
-
-/// The handle at the greatest key that isn't above a key; 0 where there is none.
-fn child_of(page: &PageBytes, key: &[u8]) -> u64
-    ensures { result ≡ child_of page.now key.now }
-{
-    match page.last_up_to(key) {
-        None => 0,
-        Some(entry) => handle_in(entry.value()),
-    }
-}
-
-/// The handle that a value is; 0 where it hasn't got eight bytes.
-fn handle_in(value: &[u8]) -> u64
-    ensures { result ≡ handle_in value.now }
-{
-    if value.len() == 8 {
-        BigEndian::read_u64(value)
-    } else {
-        0
-    }
 }

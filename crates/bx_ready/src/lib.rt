@@ -6,7 +6,9 @@ mod descents;
 mod readying;
 mod rooms;
 mod separators;
+mod target;
 
 pub use readying::ready;
 pub use rooms::split_for;
 pub use separators::post_for;
+pub use target::Target;

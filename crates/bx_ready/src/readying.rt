@@ -10,6 +10,7 @@ ghost use Rattle.bx_ready.specs.Spare.{IfFull};
 
 use crate::rooms::split_for;
 use crate::separators::post_for;
+use crate::target::Target;
 use bx_blink::BlinkError;
 use bx_records::Draft;
 use bx_views::View;
@@ -20,43 +21,30 @@ use std::alloc::Global;
 /// where the entry finds room, below no missing separator: a draft comes only where room is lacking. It leaves all files as they are.
 ///
 /// `Need`, `Stale` and `Full` come as they do of `post_for` and `split_for`.
-pub fn ready<V: View>(
-    alloc: Global,
-    view: &V,
-    root: u64,
-    key: &[u8],
-    near: u16,
-    areas: u16,
-) -> Result<Option<Draft>, BlinkError>
-    ensures map { (truth : Truth) (tree : PageTree) → Under areas (V.held view.now) (V.hints view.now) truth [] root tree → ReadiesIn areas (V.held view.now) (V.hints view.now) truth root tree key.now result }
-    ensures lacks { (truth : Truth) (tree : PageTree) → Under areas (V.held view.now) (V.hints view.now) truth [] root tree → IfOk result (λ found. IfSome found (MakesRoom areas (V.held view.now) (V.hints view.now) truth root key.now)) }
-    ensures finds { (truth : Truth) (tree : PageTree) → Under areas (V.held view.now) (V.hints view.now) truth [] root tree → IfOk result (λ found. IfNone found (FindsRoom areas truth root key.now)) }
-    ensures files { (truth : Truth) (tree : Tree) → IsFileUnder areas (V.held view.now) (V.hints view.now) truth root tree → IfOk result (λ found. IfSome found (λ new. KeepsFiles areas truth [] new tree)) }
-    ensures fair { NeedsUnheld (V.held view.now) (OnReadyPath near areas (V.held view.now) (V.hints view.now) root key.now) result }
+pub fn ready<V: View>(alloc: Global, view: &V, at: &Target) -> Result<Option<Draft>, BlinkError>
+    ensures map { (truth : Truth) (tree : PageTree) → Under at.now.areas (V.held view.now) (V.hints view.now) truth [] at.now.root tree → ReadiesIn at.now.areas (V.held view.now) (V.hints view.now) truth at.now.root tree at.now.key.now result }
+    ensures lacks { (truth : Truth) (tree : PageTree) → Under at.now.areas (V.held view.now) (V.hints view.now) truth [] at.now.root tree → IfOk result (λ found. IfSome found (MakesRoom at.now.areas (V.held view.now) (V.hints view.now) truth at.now.root at.now.key.now)) }
+    ensures finds { (truth : Truth) (tree : PageTree) → Under at.now.areas (V.held view.now) (V.hints view.now) truth [] at.now.root tree → IfOk result (λ found. IfNone found (FindsRoom at.now.areas truth at.now.root at.now.key.now)) }
+    ensures files { (truth : Truth) (tree : Tree) → IsFileUnder at.now.areas (V.held view.now) (V.hints view.now) truth at.now.root tree → IfOk result (λ found. IfSome found (λ new. KeepsFiles at.now.areas truth [] new tree)) }
+    ensures fair { NeedsUnheld (V.held view.now) (OnReadyPath at.now.near at.now.areas (V.held view.now) (V.hints view.now) at.now.root at.now.key.now) result }
     ensures held { IfOk result (λ found. IfSome found (IsHeldDraft (V.held view.now))) }
-    ensures full { IfFull (NoSlots (V.held view.now) near areas []) result }
-    ensures taken { IfOk result (λ found. IfSome found (TakesSlots (V.held view.now) near areas [])) }
+    ensures full { IfFull (NoSlots (V.held view.now) at.now.near at.now.areas []) result }
+    ensures taken { IfOk result (λ found. IfSome found (TakesSlots (V.held view.now) at.now.near at.now.areas [])) }
 {
-    first_of(alloc, view, root, key, (near, areas))
+    first_of(alloc, view, at)
 }
 
 /// The same, but for the files.
-fn first_of<V: View>(
-    alloc: Global,
-    view: &V,
-    root: u64,
-    key: &[u8],
-    near: (u16, u16),
-) -> Result<Option<Draft>, BlinkError>
-    ensures map { (truth : Truth) (tree : PageTree) → Under near.1 (V.held view.now) (V.hints view.now) truth [] root tree → ReadiesIn near.1 (V.held view.now) (V.hints view.now) truth root tree key.now result }
-    ensures fair { NeedsUnheld (V.held view.now) (OnReadyPath near.0 near.1 (V.held view.now) (V.hints view.now) root key.now) result }
+fn first_of<V: View>(alloc: Global, view: &V, at: &Target) -> Result<Option<Draft>, BlinkError>
+    ensures map { (truth : Truth) (tree : PageTree) → Under at.now.areas (V.held view.now) (V.hints view.now) truth [] at.now.root tree → ReadiesIn at.now.areas (V.held view.now) (V.hints view.now) truth at.now.root tree at.now.key.now result }
+    ensures fair { NeedsUnheld (V.held view.now) (OnReadyPath at.now.near at.now.areas (V.held view.now) (V.hints view.now) at.now.root at.now.key.now) result }
     ensures held { IfOk result (λ found. IfSome found (IsHeldDraft (V.held view.now))) }
-    ensures full { IfFull (NoSlots (V.held view.now) near.0 near.1 []) result }
-    ensures taken { IfOk result (λ found. IfSome found (TakesSlots (V.held view.now) near.0 near.1 [])) }
+    ensures full { IfFull (NoSlots (V.held view.now) at.now.near at.now.areas []) result }
+    ensures taken { IfOk result (λ found. IfSome found (TakesSlots (V.held view.now) at.now.near at.now.areas [])) }
 {
-    match post_for(alloc, view, root, key, near.0, near.1) {
+    match post_for(alloc, view, at) {
         Err(error) => Err(error),
         Ok(Some(draft)) => Ok(Some(draft)),
-        Ok(None) => split_for(alloc, view, root, key, near.0, near.1),
+        Ok(None) => split_for(alloc, view, at),
     }
 }

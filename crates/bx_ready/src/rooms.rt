@@ -6,8 +6,9 @@ ghost use Rattle.bx_ready.specs.Common.{IsHeldDraft, NeedsUnheld, NoSlots, PageT
 ghost use Rattle.bx_ready.specs.Rooms.{FindsFull, OnSplitPath, SplitsForIn};
 ghost use Rattle.bx_ready.specs.Spare.{IfFull};
 
-use bx_base::Mode;
-use bx_blink::{BlinkError, End, block_at, seen, walk};
+use crate::target::Target;
+use bx_blink::BlinkError;
+use bx_leaves::leaf_of;
 use bx_records::Draft;
 use bx_splits::split;
 use bx_views::View;
@@ -22,26 +23,19 @@ const ROOM: usize = 544;
 /// `Need` names a block that isn't held in that mode: one on the path of the walk to the leaf, which is to be held exclusively, or what the next
 /// slot needs for a new page. `Stale` comes where what is held is no tree, and `Full` only where the leaf is full and that slot isn't there: it
 /// tells how many are free in the view, which are fewer than 8.
-pub fn split_for<V: View>(
-    alloc: Global,
-    view: &V,
-    root: u64,
-    key: &[u8],
-    near: u16,
-    areas: u16,
-) -> Result<Option<Draft>, BlinkError>
-    ensures map { (truth : Truth) (tree : PageTree) → Under areas (V.held view.now) (V.hints view.now) truth [] root tree → SplitsForIn areas (V.held view.now) (V.hints view.now) truth root tree key.now result }
-    ensures fair { NeedsUnheld (V.held view.now) (OnSplitPath near areas (V.held view.now) (V.hints view.now) root key.now) result }
+pub fn split_for<V: View>(alloc: Global, view: &V, at: &Target) -> Result<Option<Draft>, BlinkError>
+    ensures map { (truth : Truth) (tree : PageTree) → Under at.now.areas (V.held view.now) (V.hints view.now) truth [] at.now.root tree → SplitsForIn at.now.areas (V.held view.now) (V.hints view.now) truth at.now.root tree at.now.key.now result }
+    ensures fair { NeedsUnheld (V.held view.now) (OnSplitPath at.now.near at.now.areas (V.held view.now) (V.hints view.now) at.now.root at.now.key.now) result }
     ensures held { IfOk result (λ found. IfSome found (IsHeldDraft (V.held view.now))) }
-    ensures full { IfFull (NoSlots (V.held view.now) near areas []) result }
-    ensures taken { IfOk result (λ found. IfSome found (TakesSlots (V.held view.now) near areas [])) }
+    ensures full { IfFull (NoSlots (V.held view.now) at.now.near at.now.areas []) result }
+    ensures taken { IfOk result (λ found. IfSome found (TakesSlots (V.held view.now) at.now.near at.now.areas [])) }
 {
     let mut draft = Draft::new(alloc);
-    match full_leaf(&draft, view, root, key) {
+    match full_leaf(&draft, view, at.root, at.key) {
         Err(error) => Err(error),
         Ok(found) => match found {
             None => Ok(None),
-            Some(leaf) => match split(alloc, &mut draft, view, root, leaf, near, areas) {
+            Some(leaf) => match split(alloc, &mut draft, view, at.root, leaf, at.near, at.areas) {
                 Ok(()) => Ok(Some(draft)),
                 Err(error) => Err(error),
             },
@@ -58,15 +52,13 @@ fn full_leaf<V: View>(
 ) -> Result<Option<u64>, BlinkError>
     ensures { FindsFull (reads_with (V.held view.now) (V.hints view.now) draft.now) root key.now result }
 {
-    match walk(draft, view, root, key, 0, Mode::Exclusive) {
-        End::Needs(at, mode) => Err(BlinkError::Need(at, mode)),
-        End::Lost => Err(BlinkError::Stale),
-        End::Lands(handle, page) => {
-            let at = block_at(handle);
-            match seen(draft, view, at, Mode::Exclusive) {
-                None => Err(BlinkError::Need(at, Mode::Exclusive)),
-                Some(_) if page.room() < ROOM => Ok(Some(handle)),
-                Some(_) => Ok(None),
+    match leaf_of(draft, view, root, key) {
+        Err(error) => Err(error),
+        Ok((handle, page)) => {
+            if page.room() < ROOM {
+                Ok(Some(handle))
+            } else {
+                Ok(None)
             }
         }
     }

@@ -9,7 +9,7 @@ ghost use Rattle.bx_records.specs.declared.record_head.RecordHead.{RecordHead};
 
 use crate::numbers::put_numbers;
 use bx_base::{Numbers, OutOfMemory};
-use bx_fields::{ReadError, are_zeros, clear_from, put_u32, put_u64, u32_at, u64_at};
+use bx_fields::{ReadError, before_zeros, clear_from, put_u32, put_u64, u32_at, u64_at};
 use bx_places::{MOST_AREAS, MOST_BLOCKS, SECTOR, is_block};
 use std::alloc::Global;
 
@@ -37,15 +37,7 @@ impl RecordHead {
         if sector.len() != SECTOR {
             return Ok(None);
         }
-        let (head, rest) = match head_of(alloc, sector) {
-            Ok(found) => found,
-            Err(ReadError::Malformed) => return Ok(None),
-            Err(ReadError::OutOfMemory) => return Err(OutOfMemory),
-        };
-        if !are_zeros(rest) {
-            return Ok(None);
-        }
-        Ok(Some(head))
+        before_zeros(head_of(alloc, sector))
     }
 
     /// Writes the header into the 512 bytes of a sector.

@@ -55,6 +55,13 @@ pub record Stands (tree : Tree) (machines : Machines) (waits : List traces.Takin
   pub in_range : AllByRecursion InTraceRange (trace_of (parts_of done))
   pub output : written ≡ start ++ trace_text (reverse (trace_of (parts_of done)))
 
+-- no fault of a sink, and of a bench, is forgotten, and both go on to tell what they told
+pub record GoesOn (sink_told sink_tells : Type 0) (sink_before sink_now : ℕ) (bench_told bench_tells_now : Type 0) (bench_before bench_now : ℕ) : Type 0 where
+  pub later : sink_before ≤ sink_now
+  pub keeps_telling : sink_told → sink_tells
+  pub bench_later : bench_before ≤ bench_now
+  pub bench_tells : bench_told → bench_tells_now
+
 -- facts that hold unless the source failed, unless the sink failed, unless memory ran out, and unless the bench failed
 abbrev pub UnlessRead : {A : Type 0} → Result A Stop → Type 0 → Type 0
 UnlessRead (Ok _) P = P

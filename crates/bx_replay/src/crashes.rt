@@ -8,7 +8,7 @@ ghost use Rattle.bx_model.specs.declared.tree.Tree.{Tree};
 ghost use Rattle.bx_script.specs.declared.line.Line.TheVariants.{Crash as CrashLine, Restart as RestartLine};
 ghost use Rattle.bx_replay.specs.Course.{MovesDisks};
 ghost use Rattle.bx_replay.specs.Headline.{IsInPlace, IsSteady, machines_at};
-ghost use Rattle.bx_replay.specs.Replay.{DoesLine, HasPrintCause, Stands, StandsAfter, UnlessWrite};
+ghost use Rattle.bx_replay.specs.Replay.{DoesLine, GoesOn, HasPrintCause, Stands, StandsAfter, UnlessWrite};
 ghost use Rattle.bx_service.specs.Rounds.{Doubt};
 
 use crate::bench::crash_all;
@@ -68,10 +68,7 @@ impl<M: Service> Replay<M> {
         ensures first { UnlessWrite result (K.faults out.new ≡ K.faults out.old) }
         ensures calls { self.new.calls ≡ self.old.calls }
         ensures clock { self.new.clock ≡ self.old.clock }
-        ensures later { K.faults out.old ≤ K.faults out.new }
-        ensures keeps_telling { K.tells out.old → K.tells out.new }
-        ensures bench_later { B.faults bench.old ≤ B.faults bench.new }
-        ensures bench_tells { B.tells bench.old → B.tells bench.new }
+        ensures goes_on { GoesOn (K.tells out.old) (K.tells out.new) (K.faults out.old) (K.faults out.new) (B.tells bench.old) (B.tells bench.new) (B.faults bench.old) (B.faults bench.new) }
     {
         if self.service.is_up() {
             return Ok(());

@@ -7,7 +7,7 @@ ghost use Rattle.bx_model.specs.declared.tree.Tree.{Tree};
 ghost use Rattle.bx_script.specs.declared.line.Line.TheVariants.{Run as RunLine};
 ghost use Rattle.bx_script.specs.TraceText.{InTraceRange, trace_text};
 ghost use Rattle.bx_replay.specs.Headline.{machines_at};
-ghost use Rattle.bx_replay.specs.Replay.{DoesLine, HasPrintCause, Prints, StandsAfter, UnlessMemory, UnlessWrite, desk_then, told_at};
+ghost use Rattle.bx_replay.specs.Replay.{DoesLine, GoesOn, HasPrintCause, Prints, StandsAfter, UnlessMemory, UnlessWrite, desk_then, told_at};
 ghost use Rattle.bx_service.specs.Rounds.{Doubt, IsRun};
 
 use crate::print::print_lines;
@@ -47,10 +47,7 @@ impl<M: Service> Replay<M> {
         ensures first { UnlessWrite result (K.faults out.new ≡ K.faults out.old) }
         ensures calls { self.new.calls ≡ self.old.calls }
         ensures clock { self.new.clock ≡ self.old.clock }
-        ensures later { K.faults out.old ≤ K.faults out.new }
-        ensures keeps_telling { K.tells out.old → K.tells out.new }
-        ensures bench_later { B.faults bench.old ≤ B.faults bench.new }
-        ensures bench_tells { B.tells bench.old → B.tells bench.new }
+        ensures goes_on { GoesOn (K.tells out.old) (K.tells out.new) (K.faults out.old) (K.faults out.new) (B.tells bench.old) (B.tells bench.new) (B.faults bench.old) (B.faults bench.new) }
     {
         for _ in 0..limit {
             if self.service.is_quiet() {

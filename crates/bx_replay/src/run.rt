@@ -42,36 +42,9 @@ pub fn replay<M: Service, S: Source, K: Sink, B: CrashRack>(
     ensures sink_tells { K.tells out.old → K.tells out.new }
 {
     let mut reader = LineReader::new(alloc, MAX_LINE)?;
-    play::<M, S, K, B>(alloc, &mut reader, input, out, bench)
-}
-
-/// Replays as `replay` does, by a reader that hasn't read anything.
-fn play<M: Service, S: Source, K: Sink, B: CrashRack>(
-    alloc: Global,
-    reader: &mut LineReader,
-    input: &mut S,
-    out: &mut K,
-    bench: &mut B,
-) -> Result<(), Stop>
-    requires none { reader.old.ahead ≡ [] }
-    requires most { reader.old.most ≡ 18600 }
-    ensures leaves { S.tells input.old → Leaves (K.tells out.old × B.tells bench.old) (IsShownBy (B.state bench.new)) result (S.left input.old) (S.left input.new) (K.written out.old) (K.written out.new) }
-    ensures course { S.tells input.old → B.tells bench.old → OnOk result (IsPlayed M.rests M.returns M.turns (S.left input.old) (B.state bench.new)) }
-    ensures dropped { (d s : ℕ) → B.tells bench.old → OnOk result ((B.state bench.new).unsure d s ≡ false) }
-    ensures cause { IfErr result (λ stop. HasCause stop (S.faults input.old) (S.faults input.new) (K.faults out.old) (K.faults out.new) (B.tells bench.old) (B.faults bench.old) (B.faults bench.new)) }
-    ensures disk_when { IsErrOf result stops.DiskFault → S.tells input.old → (out.new ≡ out.old) ⊎ (IsPlayable (S.left input.old) × (S.left input.new ≡ [])) }
-    ensures bench_later { B.faults bench.old ≤ B.faults bench.new }
-    ensures bench_tells { B.tells bench.old → B.tells bench.new }
-    ensures source_first { UnlessRead result (S.faults input.new ≡ S.faults input.old) }
-    ensures sink_first { UnlessWrite result (K.faults out.new ≡ K.faults out.old) }
-    ensures source_later { S.faults input.old ≤ S.faults input.new }
-    ensures sink_later { K.faults out.old ≤ K.faults out.new }
-    ensures source_tells { S.tells input.old → S.tells input.new }
-    ensures sink_tells { K.tells out.old → K.tells out.new }
-{
-    let mut replay: Replay<M> = Replay::begin(alloc, reader, input, bench)?;
+    let mut replay: Replay<M> = Replay::begin(alloc, &mut reader, input, bench)?;
     let mut number = 1;
-    'lines: while let Some(line) = next_line(alloc, reader, input, number + 1)? {
+    'lines: while let Some(line) = next_line(alloc, &mut reader, input, number + 1)? {
         number += 1;
         replay.step(alloc, number, line, bench, out)?;
     }

@@ -7,7 +7,7 @@ ghost use Rattle.bx_script.specs.declared.line.Line.TheVariants.{Tick as TickLin
 ghost use Rattle.bx_script.specs.Schedule.{reading_of};
 ghost use Rattle.bx_replay.specs.Course.{Moves};
 ghost use Rattle.bx_replay.specs.Headline.{IsInPlace, IsSteady, IsThere, greatest_with, machines_at};
-ghost use Rattle.bx_replay.specs.Replay.{DoesLine, HasStepCause, Hears, HearsUp, Stands, StandsAfter, UnlessWrite};
+ghost use Rattle.bx_replay.specs.Replay.{DoesLine, GoesOn, HasStepCause, Hears, HearsUp, Stands, StandsAfter, UnlessWrite};
 ghost use Rattle.bx_service.specs.Rounds.{Doubt};
 
 use crate::calls::Incoming;
@@ -47,10 +47,7 @@ impl<M: Service> Replay<M> {
         ensures cause { IfErr result (λ stop. HasStepCause stop number (K.faults out.old) (K.faults out.new)) }
         ensures first { UnlessWrite result (K.faults out.new ≡ K.faults out.old) }
         ensures calls { self.new.calls ≤ self.old.calls + 1 }
-        ensures later { K.faults out.old ≤ K.faults out.new }
-        ensures keeps_telling { K.tells out.old → K.tells out.new }
-        ensures bench_later { B.faults bench.old ≤ B.faults bench.new }
-        ensures bench_tells { B.tells bench.old → B.tells bench.new }
+        ensures goes_on { GoesOn (K.tells out.old) (K.tells out.new) (K.faults out.old) (K.faults out.new) (B.tells bench.old) (B.tells bench.new) (B.faults bench.old) (B.faults bench.new) }
     {
         let clock = self.admit(number, &line)?;
         self.act(alloc, number, line, bench, out)?;
@@ -87,10 +84,7 @@ impl<M: Service> Replay<M> {
         ensures cause { IfErr result (λ stop. HasStepCause stop number (K.faults out.old) (K.faults out.new)) }
         ensures first { UnlessWrite result (K.faults out.new ≡ K.faults out.old) }
         ensures calls { self.new.calls ≤ self.old.calls + 1 }
-        ensures later { K.faults out.old ≤ K.faults out.new }
-        ensures keeps_telling { K.tells out.old → K.tells out.new }
-        ensures bench_later { B.faults bench.old ≤ B.faults bench.new }
-        ensures bench_tells { B.tells bench.old → B.tells bench.new }
+        ensures goes_on { GoesOn (K.tells out.old) (K.tells out.new) (K.faults out.old) (K.faults out.new) (B.tells bench.old) (B.tells bench.new) (B.faults bench.old) (B.faults bench.new) }
     {
         match line {
             Line::Call {

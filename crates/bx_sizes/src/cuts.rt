@@ -7,7 +7,8 @@ ghost use Rattle.bx_truth.specs.PageTrees.{PageTree, map_of};
 ghost use Rattle.bx_sizes.specs.Clearing.{FindsLast, FoundBy, OnIndexes};
 
 use crate::first_pieces::first_piece;
-use bx_files::{content_key, handle_in, value_at};
+use bx_blink::handle_in;
+use bx_files::{content_key, value_at};
 use bx_inodes::Stop;
 use bx_model::STALE;
 use bx_views::View;

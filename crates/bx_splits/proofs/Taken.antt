@@ -1,5 +1,5 @@
 -- A split takes slots near an area; the pages that it puts stand in the place of pages, or of what was taken.
-use Rattle.std.proofs.Common.{◌≡◌, ℕ, List, sym, ap, subst, ◌∙◌, arith, inl, inr}
+use Rattle.std.proofs.Common.{◌≡◌, ℕ, List, sym, subst, arith, inl, inr}
 use Rattle.std.specs.Prelude.{Result, Ok, Err, OnOk, ◌⊎◌, ◌≢◌}
 use Rattle.bx_base.specs.declared.names.Mode.TheVariants.{Exclusive}
 use Rattle.bx_records.specs.Drafts.{Changed}

@@ -42,27 +42,11 @@ pub fn split<V: View>(
     ensures taken { OnOk result (TakesSlots (V.held view.now) near areas draft.old draft.new) }
     ensures held { IsHeldDraft (V.held view.now) draft.old → OnOk result (IsHeldDraft (V.held view.now) draft.new) }
 {
-    split_page(alloc, draft, view, root, page, (near, areas))
-}
-
-/// The same, by what is held.
-fn split_page<V: View>(
-    alloc: Global,
-    draft: &mut Draft,
-    view: &V,
-    root: u64,
-    handle: u64,
-    near: (u16, u16),
-) -> Result<(), BlinkError>
-    requires { (contents : Contents) → IsOwned (reads_with (V.held view.now) (V.hints view.now) draft.old) handle contents → 4096 < size contents + 544 }
-    ensures unchanged { OnErr result (draft.new ≡ draft.old) }
-    ensures at { SplitsAt (V.held view.now) (V.hints view.now) draft.old draft.new root handle near.0 near.1 result }
-{
     // for the proof: a draft has at most sixteen blocks, each once
     let _blocks = draft.blocks();
-    let page = owned_page(alloc, draft, view, handle)?;
+    let owned = owned_page(alloc, draft, view, page)?;
     let mut next = copy_of(alloc, draft)?;
-    put_halves(alloc, &mut next, view, root, handle, page, near)?;
+    put_halves(alloc, &mut next, view, root, page, owned, (near, areas))?;
     *draft = next;
     Ok(())
 }

@@ -53,6 +53,21 @@ impl<R> StopRack<R> {
     {
         self.inner
     }
+
+    /// Lets a call on a disk pass, where one is left; else it fails, and counts on the disk.
+    fn pass(&mut self, disk: u32) -> Result<(), DiskFault>
+        ensures passed { OnOk result ((0 < self.old.left) × (self.new ≡ record { inner = self.old.inner; left = self.old.left - 1; failed = self.old.failed; failed_on = self.old.failed_on })) }
+        ensures stopped { OnErr result ((self.old.left ≡ 0) × (self.new ≡ record { inner = self.old.inner; left = 0; failed = count_up self.old.failed; failed_on = counted_on self.old.failed_on disk })) }
+        ensures later { (d : ℕ) → slice_index self.old.failed_on d ≤ slice_index self.new.failed_on d }
+    {
+        if self.left == 0 {
+            self.failed = self.failed.saturating_add(1);
+            count_on(&mut self.failed_on, disk);
+            return Err(DiskFault);
+        }
+        self.left -= 1;
+        Ok(())
+    }
 }
 
 impl<R: Rack> Rack for StopRack<R> {
@@ -105,12 +120,7 @@ impl<R: Rack> Rack for StopRack<R> {
         ensures sizes { (R.state self.new.inner).sizes ≡ (R.state self.old.inner).sizes }
         ensures keeps_telling { R.tells self.old.inner → R.tells self.new.inner }
     {
-        if self.left == 0 {
-            self.failed = self.failed.saturating_add(1);
-            count_on(&mut self.failed_on, disk);
-            return Err(DiskFault);
-        }
-        self.left -= 1;
+        self.pass(disk)?;
         self.inner.read(disk, sector, into)
     }
 
@@ -133,12 +143,7 @@ impl<R: Rack> Rack for StopRack<R> {
         ensures sizes { (R.state self.new.inner).sizes ≡ (R.state self.old.inner).sizes }
         ensures keeps_telling { R.tells self.old.inner → R.tells self.new.inner }
     {
-        if self.left == 0 {
-            self.failed = self.failed.saturating_add(1);
-            count_on(&mut self.failed_on, disk);
-            return Err(RackError::Fault);
-        }
-        self.left -= 1;
+        self.pass(disk)?;
         self.inner.write(disk, sector, bytes)
     }
 
@@ -157,12 +162,7 @@ impl<R: Rack> Rack for StopRack<R> {
         ensures sizes { (R.state self.new.inner).sizes ≡ (R.state self.old.inner).sizes }
         ensures keeps_telling { R.tells self.old.inner → R.tells self.new.inner }
     {
-        if self.left == 0 {
-            self.failed = self.failed.saturating_add(1);
-            count_on(&mut self.failed_on, disk);
-            return Err(DiskFault);
-        }
-        self.left -= 1;
+        self.pass(disk)?;
         self.inner.sync(disk)
     }
 

@@ -25,6 +25,10 @@ pub(crate) enum Step {
     Reads(u64),
     /// A node wants the block.
     Wants(u32, Mode),
+    /// A node wants the block, and its letter comes.
+    Asks(u32, Mode),
+    /// It does, and the server's letter comes too.
+    Gets(u32, Mode),
     /// A node gives the block up at an index.
     GivesUp(u32, u64),
     /// The oldest letter from one machine to another comes.
@@ -369,6 +373,11 @@ impl Desk {
         }
     }
 
+    /// A node wants the block, and its letter comes. Says whether all went well.
+    fn asks(&mut self, node: u32, mode: Mode) -> bool {
+        self.wants(node, mode) && self.passes(Step::Pass(Actor::Node(node), L0))
+    }
+
     /// Takes a step, and says whether it came out so.
     fn goes(&mut self, step: Step) -> bool {
         match step {
@@ -377,6 +386,10 @@ impl Desk {
                 true
             }
             Step::Wants(node, mode) => self.wants(node, mode),
+            Step::Asks(node, mode) => self.asks(node, mode),
+            Step::Gets(node, mode) => {
+                self.asks(node, mode) && self.passes(Step::Pass(L0, Actor::Node(node)))
+            }
             Step::GivesUp(node, index) => self.gives_up(node, index),
             Step::Ticks(who, wanted) => self.ticks(who, &wanted),
             Step::Decides(change) => self.decides(&change),

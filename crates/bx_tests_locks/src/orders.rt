@@ -1,39 +1,30 @@
 //! Orders of letters between a lock server and clerks.
 
 use crate::locks::Step::{
-    Decides, GivesUp, Holds, HoldsNot, IsAsked, Learns, Lose, Overtake, Pass, Reads, Repeat, Sent,
-    Ticks, Wants,
+    Asks, Decides, Gets, GivesUp, Holds, HoldsNot, IsAsked, Learns, Lose, Overtake, Pass, Reads,
+    Repeat, Sent, Ticks, Wants,
 };
 use crate::locks::{L0, N0, N1, Step, first_wrong};
 use bx_base::Mode::{Exclusive, Shared};
 use bx_global::Change;
 
 /// A node holds the block exclusively, gave it up with index 9, which was lost, and holds it again.
-const GIVEN_UP_AND_HELD_AGAIN: [Step; 10] = [
-    Wants(0, Exclusive),
-    Pass(N0, L0),
-    Pass(L0, N0),
+const GIVEN_UP_AND_HELD_AGAIN: [Step; 6] = [
+    Gets(0, Exclusive),
     Holds(0, Exclusive, 0),
     GivesUp(0, 9),
     Lose(N0, L0),
-    Wants(0, Exclusive),
-    Pass(N0, L0),
-    Pass(L0, N0),
+    Gets(0, Exclusive),
     Holds(0, Exclusive, 9),
 ];
 
 /// Then it gives it up with a lower index: the next one may read from 9 on all the same.
-const A_LOWER_INDEX: [Step; 17] = [
-    Wants(0, Exclusive),
-    Pass(N0, L0),
-    Pass(L0, N0),
+const A_LOWER_INDEX: [Step; 12] = [
+    Gets(0, Exclusive),
     GivesUp(0, 9),
     Lose(N0, L0),
-    Wants(0, Exclusive),
-    Pass(N0, L0),
-    Pass(L0, N0),
-    Wants(1, Shared),
-    Pass(N1, L0),
+    Gets(0, Exclusive),
+    Asks(1, Shared),
     Sent(L0, N1, 0),
     Sent(L0, N0, 1),
     GivesUp(0, 3),
@@ -44,14 +35,11 @@ const A_LOWER_INDEX: [Step; 17] = [
 ];
 
 /// A release was lost; the answer to a revoke has its index.
-const WHAT_IS_NOT_HELD_IS_ASKED_BACK: [Step; 11] = [
-    Wants(0, Exclusive),
-    Pass(N0, L0),
-    Pass(L0, N0),
+const WHAT_IS_NOT_HELD_IS_ASKED_BACK: [Step; 8] = [
+    Gets(0, Exclusive),
     GivesUp(0, 9),
     Lose(N0, L0),
-    Wants(1, Shared),
-    Pass(N1, L0),
+    Asks(1, Shared),
     Pass(L0, N0),
     Pass(N0, L0),
     Pass(L0, N1),
@@ -59,15 +47,12 @@ const WHAT_IS_NOT_HELD_IS_ASKED_BACK: [Step; 11] = [
 ];
 
 /// A shared want overtakes the release of what was held exclusively: the block is held exclusively again, and no one comes in beside.
-const A_WANT_OVERTAKES_A_RELEASE: [Step; 19] = [
-    Wants(0, Exclusive),
-    Pass(N0, L0),
-    Pass(L0, N0),
+const A_WANT_OVERTAKES_A_RELEASE: [Step; 16] = [
+    Gets(0, Exclusive),
     GivesUp(0, 9),
     Wants(0, Shared),
     Overtake(N0, L0),
-    Wants(1, Shared),
-    Pass(N1, L0),
+    Asks(1, Shared),
     Sent(L0, N1, 0),
     Pass(L0, N0),
     Holds(0, Exclusive, 9),
@@ -97,10 +82,8 @@ const EXPIRES: Change = Change::Expire {
 
 /// Session 1 is closed behind the server's back, which asked for its expiry: its release is passed over, and the next grant has the index of the
 /// Close.
-const A_LATE_RELEASE: [Step; 31] = [
-    Wants(0, Exclusive),
-    Pass(N0, L0),
-    Pass(L0, N0),
+const A_LATE_RELEASE: [Step; 28] = [
+    Gets(0, Exclusive),
     Reads(5000),
     Ticks(L0, Some(RENEWS)),
     Decides(RENEWS),
@@ -113,8 +96,7 @@ const A_LATE_RELEASE: [Step; 31] = [
     Decides(EXPIRES),
     Decides(Change::Claim { dead: 1, by: 2 }),
     Decides(Change::Close { dead: 1, by: 2 }),
-    Wants(1, Shared),
-    Pass(N1, L0),
+    Asks(1, Shared),
     Sent(L0, N0, 1),
     Sent(L0, N1, 0),
     GivesUp(0, 3),
@@ -133,7 +115,7 @@ const A_LATE_RELEASE: [Step; 31] = [
 
 /// A session is opened, expired, claimed and closed between two states that the server knows: none of the rows that it knew is gone, and its next
 /// grant has the index of the Close all the same.
-const A_CLOSING_BETWEEN_TWO_STATES: [Step; 12] = [
+const A_CLOSING_BETWEEN_TWO_STATES: [Step; 11] = [
     Decides(Change::Open {
         node: 2,
         boot: 0,
@@ -151,14 +133,13 @@ const A_CLOSING_BETWEEN_TWO_STATES: [Step; 12] = [
     Pass(N0, L0),
     Pass(L0, N0),
     Holds(0, Shared, 8),
-    Wants(1, Shared),
-    Pass(N1, L0),
+    Asks(1, Shared),
     Sent(L0, N1, 1),
 ];
 
 /// A want that comes twice is granted twice under its number; the second node's waits until the release, whose index its grant has; and the first
 /// want is passed over when it comes late.
-const WANTS_AND_THEIR_ANSWERS: [Step; 21] = [
+const WANTS_AND_THEIR_ANSWERS: [Step; 20] = [
     Wants(0, Exclusive),
     Repeat(N0, L0),
     Sent(L0, N0, 1),
@@ -168,8 +149,7 @@ const WANTS_AND_THEIR_ANSWERS: [Step; 21] = [
     Holds(0, Exclusive, 0),
     Pass(L0, N0),
     Holds(0, Exclusive, 0),
-    Wants(1, Shared),
-    Pass(N1, L0),
+    Asks(1, Shared),
     Sent(L0, N1, 0),
     Pass(L0, N0),
     IsAsked(0, Some(2)),
@@ -186,9 +166,8 @@ const WANTS_AND_THEIR_ANSWERS: [Step; 21] = [
 const PAST_THE_TERM: [Step; 4] = [Wants(0, Shared), Reads(8001), Pass(N0, L0), Sent(L0, N0, 0)];
 
 /// A grant that comes again behind the give-up is no hold.
-const A_REPEATED_GRANT: [Step; 9] = [
-    Wants(0, Exclusive),
-    Pass(N0, L0),
+const A_REPEATED_GRANT: [Step; 8] = [
+    Asks(0, Exclusive),
     Repeat(L0, N0),
     Holds(0, Exclusive, 0),
     GivesUp(0, 4),
@@ -199,11 +178,9 @@ const A_REPEATED_GRANT: [Step; 9] = [
 ];
 
 /// A revoke comes before the grant of its number: the number is released, and the grant is no hold.
-const A_REVOKE_BEFORE_ITS_GRANT: [Step; 10] = [
-    Wants(0, Exclusive),
-    Pass(N0, L0),
-    Wants(1, Shared),
-    Pass(N1, L0),
+const A_REVOKE_BEFORE_ITS_GRANT: [Step; 8] = [
+    Asks(0, Exclusive),
+    Asks(1, Shared),
     Overtake(L0, N0),
     Sent(N0, L0, 1),
     Pass(L0, N0),

@@ -1,3 +1,4 @@
+pub mod Mirrors
 pub mod Promises
 pub mod Rooms
 pub mod Together

@@ -2,6 +2,8 @@
 use Rattle.std.specs.Prelude.{◌≡◌, ℕ, List}
 use Rattle.bx_facts.specs.Disks.{HasRoom}
 use Rattle.bx_facts.specs.Writes.{Made}
+use Rattle.bx_global.specs.Allowed.{IsAllowed}
+use Rattle.bx_global.specs.declared.state.GlobalState.{GlobalState}
 
 -- what the store is for
 abbrev pub made : Made
@@ -18,3 +20,8 @@ pub record IsShared (of_register of_owners : ℕ) (of_store : Made) (register_ne
   pub owners : of_owners ≡ 2
   pub room : HasRoom register_needs sizes
   pub store : IsBench of_store store_needs sizes
+
+-- All machines know a state that is allowed.
+pub record IsDesk (of_store : Made) (needs : ℕ → ℕ) (sizes : List ℕ) (state : GlobalState) : Type 0 where
+  pub bench : IsBench of_store needs sizes
+  pub known : IsAllowed state

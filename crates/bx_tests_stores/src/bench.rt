@@ -1,7 +1,7 @@
 //! A register, owners and a store over a rack, and steps that machines take with them, for tables of cases. The store is for volume 7 with two
 //! nodes, one device and one area.
 
-ghost use Rattle.std.specs.Prelude.{◌≡◌, ◌≤◌, IfOk, is_some};
+ghost use Rattle.std.specs.Prelude.{◌≡◌, ◌≤◌, IfOk};
 ghost use Rattle.bx_facts.specs.Disks.{NeedsNoMore};
 ghost use Rattle.bx_facts.specs.Machines.{IsMachine};
 ghost use Rattle.bx_facts.specs.Writes.{AreRuns};
@@ -21,27 +21,6 @@ use std::alloc::Global;
 /// The block that nodes want.
 const BLOCK: u64 = 7;
 
-/// A store that tells which sessions and reads it has.
-trait Tells: Store {
-    /// The session of a node.
-    fn session(&self, node: u32) -> Option<u64>
-        ensures { result ≡ Self.own self.now node };
-
-    /// Whether a node's read is out, or its answer wasn't taken yet.
-    fn is_reading(&self, node: u32) -> bool
-        ensures { result ≡ is_some (Self.asked self.now node) };
-}
-
-impl Tells for PlainStore {
-    fn session(&self, node: u32) -> Option<u64> {
-        PlainStore::session(self, node)
-    }
-
-    fn is_reading(&self, node: u32) -> bool {
-        PlainStore::is_reading(self, node)
-    }
-}
-
 /// One run of one sector, all of whose bytes are this one.
 fn one_run(alloc: Global, place: u64, byte: u8) -> Result<Runs, OutOfMemory>
     requires least { 1 ≤ place }
@@ -58,7 +37,14 @@ fn one_run(alloc: Global, place: u64, byte: u8) -> Result<Runs, OutOfMemory>
 }
 
 /// Sends a write of one sector, if nothing of the node is out, and says whether that went well.
-fn writes<S: Tells>(store: &mut S, alloc: Global, node: u32, place: u64, byte: u8) -> bool
+pub(crate) fn writes<S: Store>(
+    store: &mut S,
+    alloc: Global,
+    node: u32,
+    place: u64,
+    byte: u8,
+    out: &mut Outbox,
+) -> bool
     requires { S.made store.old ≡ made }
     ensures made { S.made store.new ≡ made }
     ensures needs { NeedsNoMore (S.needs store.old) (S.needs store.new) }
@@ -69,12 +55,11 @@ fn writes<S: Tells>(store: &mut S, alloc: Global, node: u32, place: u64, byte: u
     let Ok(runs) = one_run(alloc, place, byte) else {
         return false;
     };
-    let mut out = Outbox::new(alloc);
-    store.write(node, &runs, 5000, &mut out).is_ok()
+    store.write(node, &runs, 5000, out).is_ok()
 }
 
 /// Sends a read of one sector, if none of the node is out, and says whether that went well.
-fn reads<S: Tells>(store: &mut S, alloc: Global, node: u32, place: u64) -> bool
+pub(crate) fn reads<S: Store>(store: &mut S, node: u32, place: u64, out: &mut Outbox) -> bool
     requires { S.made store.old ≡ made }
     ensures made { S.made store.new ≡ made }
     ensures needs { NeedsNoMore (S.needs store.old) (S.needs store.new) }
@@ -82,12 +67,11 @@ fn reads<S: Tells>(store: &mut S, alloc: Global, node: u32, place: u64) -> bool
     if place < 1 || place > 100 || store.is_reading(node) || store.session(node).is_none() {
         return false;
     }
-    let mut out = Outbox::new(alloc);
-    store.read(node, 0, place, 1, &mut out).is_ok()
+    store.read(node, 0, place, 1, out).is_ok()
 }
 
 /// Takes the answer to a node's read, and says whether it is this: nothing, or a sector all of whose bytes are this one.
-fn brings<S: Store>(store: &mut S, node: u32, wanted: Option<u8>) -> bool
+pub(crate) fn brings<S: Store>(store: &mut S, node: u32, wanted: Option<u8>) -> bool
     requires { S.made store.old ≡ made }
     ensures made { S.made store.new ≡ made }
     ensures needs { NeedsNoMore (S.needs store.old) (S.needs store.new) }
@@ -104,7 +88,7 @@ fn is_sector(bytes: &[u8], wanted: Option<u8>) -> bool {
 }
 
 /// Whether a sector is there, and all of its bytes are this one.
-fn has<R: Rack>(rack: &mut R, disk: u32, sector: u64, byte: u8) -> bool
+pub(crate) fn has<R: Rack>(rack: &mut R, disk: u32, sector: u64, byte: u8) -> bool
     ensures { (R.state rack.new).sizes ≡ (R.state rack.old).sizes }
 {
     let mut into = [!byte; 512];
@@ -196,7 +180,7 @@ struct Desk<G, O, S, R> {
     rack: R,
 }
 
-impl<G: Register, O: Owners, S: Tells, R: Rack> Desk<G, O, S, R> {
+impl<G: Register, O: Owners, S: Store, R: Rack> Desk<G, O, S, R> {
     /// A machine's event, and whether it went well.
     fn hears(&mut self, at: Actor, input: &Input) -> bool
         requires shared { IsShared (G.nodes self.old.register) (O.nodes self.old.owners) (S.made self.old.store) (G.needs self.old.register) (S.needs self.old.store) (R.state self.old.rack).sizes }
@@ -241,14 +225,17 @@ impl<G: Register, O: Owners, S: Tells, R: Rack> Desk<G, O, S, R> {
         ensures { IsShared (G.nodes self.new.register) (O.nodes self.new.owners) (S.made self.new.store) (G.needs self.new.register) (S.needs self.new.store) (R.state self.new.rack).sizes }
     {
         let alloc = self.alloc;
+        let mut out = Outbox::new(alloc);
         match step {
             Step::Ticks(node) => node < 2 && self.hears(Actor::Node(node), &Input::Tick(1000)),
             Step::Syncs(member, well) => {
                 member < 2 && self.hears(Actor::Member(member), &Input::Synced) == well
             }
-            Step::Writes(node, place, byte) => writes(&mut self.store, alloc, node, place, byte),
+            Step::Writes(node, place, byte) => {
+                writes(&mut self.store, alloc, node, place, byte, &mut out)
+            }
             Step::IsDone(node, wanted) => self.store.done(node) == wanted,
-            Step::Reads(node, place) => reads(&mut self.store, alloc, node, place),
+            Step::Reads(node, place) => reads(&mut self.store, node, place, &mut out),
             Step::Brings(node, wanted) => brings(&mut self.store, node, wanted),
             Step::Waits(member, wanted) => self.store.waiting(Actor::Member(member)) == wanted,
             Step::Has(disk, sector, byte) => has(&mut self.rack, disk, sector, byte),

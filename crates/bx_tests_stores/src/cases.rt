@@ -88,7 +88,7 @@ const NODE_CRASHES: [Step; 12] = [
 ];
 
 /// A fault leaves a write out.
-const FAULTS: [Step; 10] = [
+const FAULTS: [Step; 11] = [
     Ticks(0),
     Writes(0, 5, 170),
     Syncs(0, false),
@@ -99,6 +99,7 @@ const FAULTS: [Step; 10] = [
     IsDone(0, false),
     Syncs(0, true),
     IsDone(0, true),
+    Has(3, 5, 170),
 ];
 
 /// Node 0 writes the block and gives it up to node 1, which reads what was written, and then has a write of its own out.

@@ -2,11 +2,15 @@
 #![tactic(auto)]
 
 #[cfg(test)]
+mod begins;
+#[cfg(test)]
 mod bench;
 #[cfg(test)]
 mod blocks;
 #[cfg(test)]
 mod cases;
+#[cfg(test)]
+mod letters;
 mod toy;
 
 pub use toy::hear;

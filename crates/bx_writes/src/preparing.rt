@@ -15,10 +15,11 @@ ghost use Rattle.bx_writes.specs.Steps.{FoundAt, HoldsPrepared, IsRegularOf, Mis
 
 use crate::payloads::overwritten;
 use bx_base::Raw;
+use bx_blink::handle_in;
 use bx_changes::ChangeError;
-use bx_files::{content_key, handle_in, value_at};
+use bx_files::{content_key, value_at};
 use bx_inodes::Stop;
-use bx_ready::ready;
+use bx_ready::{Target, ready};
 use bx_sizes::piece_held;
 use bx_views::View;
 use std::alloc::Global;
@@ -104,7 +105,13 @@ fn missing<V: View>(
     ensures none { IfOk result (λ made. made.0 ≡ None) }
     ensures long { IfOk result (λ made. length made.1 ≡ 4096) }
 {
-    match ready(alloc, view, root, &content_key(place.0), near.0, near.1) {
+    let at = Target {
+        root,
+        key: &content_key(place.0),
+        near: near.0,
+        areas: near.1,
+    };
+    match ready(alloc, view, &at) {
         Err(error) => Err(ChangeError::of_tree(near.1, error)),
         Ok(Some(draft)) => Err(ChangeError::Stopped(Stop::Inner(draft))),
         Ok(None) => match overwritten(alloc, None, place.1, part) {

@@ -1,4 +1,4 @@
-use Rattle.std.proofs.Common.{true, List, Contains, refl, subst}
+use Rattle.std.proofs.Common.{true, List, Contains, arith, refl, subst}
 use Rattle.bx_facts.specs.Writes.{WritesIn}
 use Rattle.bx_global.specs.Opening.{opening_state}
 use Rattle.bx_lone_repair.specs.Resting.{StandsAs, closes_log}
@@ -7,6 +7,10 @@ use Rattle.bx_lone_repair.proofs.Labels.{labelled_kept}
 use Rattle.bx_lone_repair.proofs.Results.{on_err}
 use Rattle.bx_lone_repair.proofs.Shutting.{first_closed, is_done, is_out, log_stays, not_idle_closes}
 use Rattle.bx_records.specs.declared.runs.Run.{Run}
+use Rattle.bx_lone_repair.proofs.Sparing.{one_beside, spares_same, written_spares}
+use Rattle.bx_redo.proofs.Asked.{as_many}
+use Rattle.bx_redo.specs.Stands.{bytes_of}
+use Rattle.bx_redo.specs.declared.work.Work.TheVariants.{Closes}
 use Rattle.bx_lone_repair.proofs.closing.close_first.Goals as goal
 
 pub write_through-requires-clause-fit : goal.write_through-requires-clause-fit
@@ -42,3 +46,15 @@ returns-clause-closes g c = λ volume floor count tree records tells some st.
     count records st
     (is_done x z (record (closes_log count) { out = true }) runs not_idle_closes c.in_ok-runs.ensures (λ d s content only was. c.write_through.ensures.keeps (opening_state 1 1) d s content tells only was)
     st.before (c.in_ok-write_through.ensures.done (opening_state 1 1) tells refl))
+
+-- the other slots and the replicas are left alone
+pub returns-in_err-runs-clause-spares : goal.returns-in_err-runs-clause-spares
+returns-in_err-runs-clause-spares g c = λ tells. spares_same (g.R.Rack.state c.args.rack.now) (g.R.Rack.state c.args.rack.now) refl
+
+pub returns-in_err-write_through-clause-spares : goal.returns-in_err-write_through-clause-spares
+returns-in_err-write_through-clause-spares g c = λ tells. written_spares (g.R.Rack.state c.args.rack.now) (g.R.Rack.state c.write_through.new.rack) c.in_ok-runs.runs (c.write_through.ensures.members tells)
+    (one_beside 1 (bytes_of Closes) c.in_ok-runs.runs c.in_ok-runs.ensures (let many = as_many Closes in omega (arith, many)))
+
+pub returns-clause-spares : goal.returns-clause-spares
+returns-clause-spares g c = λ tells. written_spares (g.R.Rack.state c.args.rack.now) (g.R.Rack.state c.write_through.new.rack) c.in_ok-runs.runs (c.write_through.ensures.members tells)
+    (one_beside 1 (bytes_of Closes) c.in_ok-runs.runs c.in_ok-runs.ensures (let many = as_many Closes in omega (arith, many)))

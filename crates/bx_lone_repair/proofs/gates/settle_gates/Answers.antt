@@ -13,6 +13,7 @@ use Rattle.bx_places.specs.Places.{log_start}
 use Rattle.bx_plain_store.specs.Out.{IsFitting}
 use Rattle.bx_records.specs.declared.runs.Run.{Run}
 use Rattle.bx_redo.specs.Found.{Settles, gates_run, with_gates}
+use Rattle.bx_lone_repair.proofs.Sparing.{one_beside, spares_same, spares_then, written_spares}
 use Rattle.bx_lone_repair.proofs.gates.settle_gates.Goals as goal
 
 -- in a list of one
@@ -117,3 +118,28 @@ returns-clause-settles g c = λ state areas before logs truth more log tells man
     let read = c.gates_are_read.ensures x state 1 areas state.sessions before logs truth more log false bytes stands source_is long reads in
     let found = c.gates_are_settled.ensures x z state state 1 areas state.sessions before now logs truth more log bytes stands read settled in
     (now, subst (λ (n : ℕ). Settles (IsSettled z state) 1 areas state.sessions now logs truth more n log.work) slot found)
+
+-- the other slots and the replicas are left alone
+pub returns-in_err-read_sectors-clause-spares : goal.returns-in_err-read_sectors-clause-spares
+returns-in_err-read_sectors-clause-spares g c = λ tells. spares_same (g.R.Rack.state c.args.rack.now) (g.R.Rack.state c.read_sectors.new.rack) c.read_sectors.ensures.stays
+
+pub returns-in_err-runs-clause-spares : goal.returns-in_err-runs-clause-spares
+returns-in_err-runs-clause-spares g c = λ tells. spares_same (g.R.Rack.state c.args.rack.now) (g.R.Rack.state c.read_sectors.new.rack) c.read_sectors.ensures.stays
+
+pub returns-in_err-write_through-clause-spares : goal.returns-in_err-write_through-clause-spares
+returns-in_err-write_through-clause-spares g c = λ tells.
+    let x : Disks = g.R.Rack.state c.args.rack.now in
+    let mid : Disks = g.R.Rack.state c.read_sectors.new.rack in
+    let z : Disks = g.R.Rack.state c.write_through.new.rack in
+    let long : length c.read_sectors.new.into ≡ 4096 = omega arith in
+    spares_then x mid z (spares_same x mid c.read_sectors.ensures.stays)
+    (written_spares mid z c.in_ok-runs.runs (c.write_through.ensures.members (c.read_sectors.ensures.rack.keeps_telling tells)) (one_beside 1 c.read_sectors.new.into c.in_ok-runs.runs c.in_ok-runs.ensures (omega (arith, long))))
+
+pub returns-clause-spares : goal.returns-clause-spares
+returns-clause-spares g c = λ tells.
+    let x : Disks = g.R.Rack.state c.args.rack.now in
+    let mid : Disks = g.R.Rack.state c.read_sectors.new.rack in
+    let z : Disks = g.R.Rack.state c.write_through.new.rack in
+    let long : length c.read_sectors.new.into ≡ 4096 = omega arith in
+    spares_then x mid z (spares_same x mid c.read_sectors.ensures.stays)
+    (written_spares mid z c.in_ok-runs.runs (c.write_through.ensures.members (c.read_sectors.ensures.rack.keeps_telling tells)) (one_beside 1 c.read_sectors.new.into c.in_ok-runs.runs c.in_ok-runs.ensures (omega (arith, long))))

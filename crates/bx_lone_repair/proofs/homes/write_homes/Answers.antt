@@ -6,6 +6,7 @@ use Rattle.bx_lone_repair.proofs.HomesOf.{behind_label, homes_fit, homes_once, i
 use Rattle.bx_lone_repair.proofs.Homing.{closes_with, homes_stand, rests_still}
 use Rattle.bx_lone_repair.proofs.Labels.{labelled_kept}
 use Rattle.bx_lone_repair.proofs.Results.{on_err}
+use Rattle.bx_lone_repair.proofs.Sparing.{homes_beside, spares_same, written_spares}
 use Rattle.bx_lone_repair.proofs.homes.write_homes.Goals as goal
 
 pub write_through-requires-clause-fit : goal.write_through-requires-clause-fit
@@ -40,3 +41,20 @@ returns-clause-homed g c = λ volume floor tree records tells rests newest some.
     (its_homes c.args.newest.now records runs are newest)
     (labelled_kept x z volume runs rests.labelled c.write_through.ensures.rack.sizes (c.write_through.ensures.members tells) (behind_label c.args.newest.now runs are))
     (c.in_ok-write_through.ensures.done (opening_state 1 1) tells refl))
+
+-- the other slots and the replicas are left alone
+pub returns-in_err-runs-clause-spares : goal.returns-in_err-runs-clause-spares
+returns-in_err-runs-clause-spares g c = λ tells. spares_same (g.R.Rack.state c.args.rack.now) (g.R.Rack.state c.args.rack.now) refl
+
+pub returns-in_default-clause-spares : goal.returns-in_default-clause-spares
+returns-in_default-clause-spares g c = λ tells. spares_same (g.R.Rack.state c.args.rack.now) (g.R.Rack.state c.args.rack.now) refl
+
+pub returns-in_err-write_through-clause-spares : goal.returns-in_err-write_through-clause-spares
+returns-in_err-write_through-clause-spares g c = λ tells.
+    let are = rw c.in-Some.is at c.in_ok-runs.ensures.some in
+    written_spares (g.R.Rack.state c.args.rack.now) (g.R.Rack.state c.write_through.new.rack) c.in-Some.runs (c.write_through.ensures.members tells) (homes_beside c.args.newest.now c.in-Some.runs are)
+
+pub returns-clause-spares : goal.returns-clause-spares
+returns-clause-spares g c = λ tells.
+    let are = rw c.in-Some.is at c.in_ok-runs.ensures.some in
+    written_spares (g.R.Rack.state c.args.rack.now) (g.R.Rack.state c.write_through.new.rack) c.in-Some.runs (c.write_through.ensures.members tells) (homes_beside c.args.newest.now c.in-Some.runs are)

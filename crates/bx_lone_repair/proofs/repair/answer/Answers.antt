@@ -3,6 +3,8 @@ use Rattle.bx_base.specs.declared.names.Point.{Point}
 use Rattle.bx_lone_repair.specs.Left.{IsLeft}
 use Rattle.bx_lone_repair.proofs.Finding.{above_acted, none_above}
 use Rattle.bx_lone_repair.proofs.Results.{on_err}
+use Rattle.bx_lone_repair.proofs.Sparing.{spares_same}
+use Rattle.std.proofs.Common.{refl}
 use Rattle.bx_lone_repair.proofs.repair.answer.Goals as goal
 
 pub returns-in-Some-clause-recovers : goal.returns-in-Some-clause-recovers
@@ -22,3 +24,13 @@ returns-clause-recovers g c = λ volume tree doubt records tells came read.
     let low = subst (λ (l : List Point). (point : Point) → Contains l point → point.call ≤ c.args.floor) c.items.ensures c.in_default.ensures.none in
     let rests = none_above volume c.args.floor tree doubt records (g.R.Rack.state c.args.rack.now) c.args.log.now read low came in
     c.in_ok-close_all.ensures.closes volume c.args.floor tree records tells rests read
+
+-- the other slots and the replicas are left alone
+pub returns-in-Some-clause-spares : goal.returns-in-Some-clause-spares
+returns-in-Some-clause-spares g c = λ tells. spares_same (g.R.Rack.state c.args.rack.now) (g.R.Rack.state c.args.rack.now) refl
+
+pub returns-in_err-close_all-clause-spares : goal.returns-in_err-close_all-clause-spares
+returns-in_err-close_all-clause-spares g c = λ tells. c.close_all.ensures.spares tells
+
+pub returns-clause-spares : goal.returns-clause-spares
+returns-clause-spares g c = λ tells. c.close_all.ensures.spares tells

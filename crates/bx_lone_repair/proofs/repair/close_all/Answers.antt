@@ -10,6 +10,7 @@ use Rattle.bx_lone_repair.specs.declared.reading.OpenLog.{OpenLog}
 use Rattle.bx_lone_repair.proofs.Homing.{none_stands}
 use Rattle.bx_lone_repair.proofs.Leaving.{stands_left}
 use Rattle.bx_lone_repair.proofs.Results.{on_err}
+use Rattle.bx_lone_repair.proofs.Sparing.{spares_then}
 use Rattle.bx_lone_repair.proofs.repair.close_all.Goals as goal
 
 nil_of : (records : List Logged) → length records ≡ 0 → records ≡ []
@@ -51,3 +52,19 @@ returns-in_err-close_others-2-clause-left g c = λ volume floor tree doubt recor
 pub returns-clause-closes : goal.returns-clause-closes
 returns-clause-closes g c = λ volume floor tree records tells rests is.
     c.in_ok-close_others-2.ensures.closes volume floor tree (c.close_open.ensures.keeps_telling tells) (c.in_ok-close_open.ensures.closes volume floor tree records tells rests is)
+
+-- the other slots and the replicas are left alone
+pub returns-in_err-close_others-clause-spares : goal.returns-in_err-close_others-clause-spares
+returns-in_err-close_others-clause-spares g c = λ tells. c.close_others.ensures.spares tells
+
+pub returns-then-len-eq0-clause-spares : goal.returns-then-len-eq0-clause-spares
+returns-then-len-eq0-clause-spares g c = λ tells. c.close_others.ensures.spares tells
+
+pub returns-in_err-close_open-clause-spares : goal.returns-in_err-close_open-clause-spares
+returns-in_err-close_open-clause-spares g c = λ tells. c.close_open.ensures.spares tells
+
+pub returns-in_err-close_others-2-clause-spares : goal.returns-in_err-close_others-2-clause-spares
+returns-in_err-close_others-2-clause-spares g c = λ tells. spares_then (g.R.Rack.state c.args.rack.now) (g.R.Rack.state c.close_open.new.rack) (g.R.Rack.state c.close_others-2.new.rack) (c.close_open.ensures.spares tells) (c.close_others-2.ensures.spares (c.close_open.ensures.keeps_telling tells))
+
+pub returns-clause-spares : goal.returns-clause-spares
+returns-clause-spares g c = λ tells. spares_then (g.R.Rack.state c.args.rack.now) (g.R.Rack.state c.close_open.new.rack) (g.R.Rack.state c.close_others-2.new.rack) (c.close_open.ensures.spares tells) (c.close_others-2.ensures.spares (c.close_open.ensures.keeps_telling tells))

@@ -11,6 +11,7 @@ use Rattle.bx_lone_repair.specs.Resting.{IsOpenLog, closes_log}
 use Rattle.bx_lone_repair.specs.declared.reading.OpenLog.{OpenLog}
 use Rattle.bx_lone_repair.proofs.Leaving.{rests_left, stands_left}
 use Rattle.bx_lone_repair.proofs.Results.{on_err, passed_on}
+use Rattle.bx_lone_repair.proofs.Sparing.{spares_same, spares_then}
 use Rattle.bx_lone_repair.proofs.repair.close_open.Goals as goal
 
 -- the blocks that were read are the records'
@@ -61,3 +62,16 @@ returns-in_default-clause-left g c = λ volume floor tree doubt records tells re
 
 pub returns-in_default-clause-cause : goal.returns-in_default-clause-cause
 returns-in_default-clause-cause g c = λ fault. inr (λ records is. absurd (let h = c.in_default.ensures ∙ is.first_is in cc))
+
+-- the other slots and the replicas are left alone
+pub returns-in_default-clause-spares : goal.returns-in_default-clause-spares
+returns-in_default-clause-spares g c = λ tells. spares_same (g.R.Rack.state c.args.rack.now) (g.R.Rack.state c.args.rack.now) refl
+
+pub returns-in_err-write_homes-clause-spares : goal.returns-in_err-write_homes-clause-spares
+returns-in_err-write_homes-clause-spares g c = λ tells. c.write_homes.ensures.spares tells
+
+pub returns-in_err-close_first-clause-spares : goal.returns-in_err-close_first-clause-spares
+returns-in_err-close_first-clause-spares g c = λ tells. spares_then (g.R.Rack.state c.args.rack.now) (g.R.Rack.state c.write_homes.new.rack) (g.R.Rack.state c.close_first.new.rack) (c.write_homes.ensures.spares tells) (c.close_first.ensures.spares (c.write_homes.ensures.keeps_telling tells))
+
+pub returns-clause-spares : goal.returns-clause-spares
+returns-clause-spares g c = λ tells. spares_then (g.R.Rack.state c.args.rack.now) (g.R.Rack.state c.write_homes.new.rack) (g.R.Rack.state c.close_first.new.rack) (c.write_homes.ensures.spares tells) (c.close_first.ensures.spares (c.write_homes.ensures.keeps_telling tells))

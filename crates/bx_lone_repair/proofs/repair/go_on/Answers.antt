@@ -6,6 +6,7 @@ use Rattle.bx_lone_repair.specs.Resting.{Comes, IsOpenLog}
 use Rattle.bx_lone_repair.proofs.Finding.{found_of}
 use Rattle.bx_lone_repair.proofs.OpenLogs.{all_parts}
 use Rattle.bx_lone_repair.proofs.Results.{on_err, rose_since}
+use Rattle.bx_lone_repair.proofs.Sparing.{spares_same, spares_then}
 use Rattle.bx_lone_repair.proofs.repair.go_on.Goals as goal
 
 pub returns-in_err-log-clause-left : goal.returns-in_err-log-clause-left
@@ -42,3 +43,16 @@ returns-clause-cause g c = λ fault. ⊎_elim
     let read = rw c.in-Some.is at (c.in_ok-log.ensures.reads records found.before found.truth found.more tells found.is) in
     all_parts (g.R.Rack.state c.args.rack.now) records found.before found.truth found.more found.is (none records read)))
     (c.answer.ensures.cause fault)
+
+-- the other slots and the replicas are left alone
+pub returns-in_err-log-clause-spares : goal.returns-in_err-log-clause-spares
+returns-in_err-log-clause-spares g c = λ tells. spares_same (g.R.Rack.state c.args.rack.now) (g.R.Rack.state c.read_open.new.rack) c.read_open.ensures.stays
+
+pub returns-in_default-clause-spares : goal.returns-in_default-clause-spares
+returns-in_default-clause-spares g c = λ tells. spares_same (g.R.Rack.state c.args.rack.now) (g.R.Rack.state c.read_open.new.rack) c.read_open.ensures.stays
+
+pub returns-clause-spares : goal.returns-clause-spares
+returns-clause-spares g c = λ tells.
+    let x = g.R.Rack.state c.args.rack.now in
+    let mid = g.R.Rack.state c.read_open.new.rack in
+    spares_then x mid (g.R.Rack.state c.answer.new.rack) (spares_same x mid c.read_open.ensures.stays) (c.answer.ensures.spares (c.read_open.ensures.rack.keeps_telling tells))

@@ -4,6 +4,7 @@ use Rattle.bx_volume.specs.Records.{Logged}
 use Rattle.bx_lone_repair.specs.Left.{Doubt, IsLeft}
 use Rattle.bx_lone_repair.specs.Resting.{Comes}
 use Rattle.bx_lone_repair.proofs.Results.{on_err, rose_since}
+use Rattle.bx_lone_repair.proofs.Sparing.{spares_then}
 use Rattle.bx_lone_repair.proofs.repair.recover.Goals as goal
 
 pub returns-in_err-settle_gates-clause-left : goal.returns-in_err-settle_gates-clause-left
@@ -28,3 +29,10 @@ returns-clause-cause g c = λ fault. ⊎_elim
     let came = c.in_ok-settle_gates.ensures.comes volume c.args.floor tree doubt tells left in
     none volume tree doubt came.0 (c.settle_gates.ensures.rack.keeps_telling tells) came.1))
     (c.go_on.ensures.cause fault)
+
+-- the other slots and the replicas are left alone
+pub returns-in_err-settle_gates-clause-spares : goal.returns-in_err-settle_gates-clause-spares
+returns-in_err-settle_gates-clause-spares g c = λ tells. c.settle_gates.ensures.spares tells
+
+pub returns-clause-spares : goal.returns-clause-spares
+returns-clause-spares g c = λ tells. spares_then (g.R.Rack.state c.args.rack.now) (g.R.Rack.state c.settle_gates.new.rack) (g.R.Rack.state c.go_on.new.rack) (c.settle_gates.ensures.spares tells) (c.go_on.ensures.spares (c.settle_gates.ensures.rack.keeps_telling tells))

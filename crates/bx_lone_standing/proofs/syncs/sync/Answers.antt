@@ -1,4 +1,4 @@
-use Rattle.std.proofs.Common.{◌≡◌, inl, ℕ, List, Option, None, Err, IsErrAnd, IsErrOf, Result, refl, sym, ◌∙◌, ap, subst}
+use Rattle.std.proofs.Common.{◌≡◌, ⊎_elim, inl, inr, ℕ, List, Option, None, Err, IsErrAnd, IsErrOf, Result, refl, sym, ◌∙◌, ap, subst}
 use Rattle.bx_base.specs.declared.names.Actor.TheVariants.{Member}
 use Rattle.bx_calls.specs.Laws.{leaves_implies}
 use Rattle.bx_facts.specs.Chains.{Chain, HasOwnBoot, IsPlace, last}
@@ -49,7 +49,8 @@ returns-clause-stands g c = λ volume node tree next tells is stood.
     let own = c.in_ok-_change.ensures.others 0 (λ e. absurd cc) in
     let lone : IsLone state later = record { chain = stood.lone.chain; up = stood.lone.up; knew = knew_still at state.index past.told.knew stood.lone.knew; own_knew = stood.lone.own_knew } in
     synced (st.keeps old) (st.keeps new) (st.stands old) (st.stands new) (st.will_read old) (st.will_read new) (st.made old) (st.made new) (st.own old 0) (st.own new 0) (st.out_of old 0) (st.out_of new 0) (st.asked old 0) (st.asked new 0)
-    volume state x y node tree next stood later is lone kept refl own c.in_ok-_change.ensures.made (c.in_ok-_change.ensures.out 0) (c.in_ok-_change.ensures.asked 0)
+    volume state x y node tree next stood later is lone kept refl own c.in_ok-_change.ensures.made (c.in_ok-_change.ensures.out 0)
+    (⊎_elim (λ changed. inl (c.in_ok-_change.ensures.new_session 0 changed)) inr (c.in_ok-_change.ensures.asked 0))
     (λ d s content only was. goes.standing d s content state.index only (stood_as d s content state.index was))
     (λ asks it s content only was. goes.reading 0 s content asks it only (read_as s content was))
     (λ write is_out gone now_own lives d s content brings.
@@ -90,7 +91,8 @@ returns-in_err-_change-clause-stands_faulted g c = λ volume node tree next tell
     let own = c.in_err-_change.ensures.others 0 (λ e. absurd cc) in
     let lone : IsLone state later = record { chain = stood.lone.chain; up = stood.lone.up; knew = knew_still at state.index past.told.knew stood.lone.knew; own_knew = stood.lone.own_knew } in
     synced (st.keeps old) (st.keeps new) (st.stands old) (st.stands new) (st.will_read old) (st.will_read new) (st.made old) (st.made new) (st.own old 0) (st.own new 0) (st.out_of old 0) (st.out_of new 0) (st.asked old 0) (st.asked new 0)
-    volume state x y node tree next stood later is lone kept refl own c.in_err-_change.ensures.made (c.in_err-_change.ensures.out_faulted 0 failed) (c.in_err-_change.ensures.asked_faulted 0 failed)
+    volume state x y node tree next stood later is lone kept refl own c.in_err-_change.ensures.made (c.in_err-_change.ensures.out_faulted 0 failed)
+    (⊎_elim (λ changed. inl (c.in_err-_change.ensures.new_session_faulted 0 failed changed)) inr (c.in_err-_change.ensures.asked_faulted 0 failed))
     (λ d s content only was. goes.standing d s content state.index only (stood_as d s content state.index was))
     (λ asks it s content only was. goes.reading 0 s content asks it only (read_as s content was))
     (λ write is_out gone now_own lives d s content brings.

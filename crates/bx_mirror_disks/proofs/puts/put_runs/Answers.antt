@@ -1,5 +1,5 @@
 use Rattle.std.proofs.Common.{ℕ, ◌<◌, [], ◌∷◌, Contains, refl, sym, ap, ◌∙◌, subst, arith}
-use Rattle.bx_calls.specs.Laws.{inside_by, keeps_part}
+use Rattle.bx_calls.specs.Laws.{inside_by, keeps_part, leaves_part}
 use Rattle.bx_facts.specs.Writes.{member_disk}
 use Rattle.bx_members.proofs.Kept.{keeps_then, leaves_next}
 use Rattle.bx_mirror_disks.proofs.Putting.{keeps_run, leaves_run, lone, lone_brought, lone_taken, none_past, puts_all, stand_more, there_at}
@@ -51,6 +51,15 @@ returns-in_err-put_run-clause-elsewhere g c = λ tells.
     let told = c.loop-i.invariant.rack.keeps_telling tells in
     keeps_part _ _ _ _ _ _ _ _ _ (c.loop-i.invariant.elsewhere tells) (c.put_run.ensures.elsewhere told) (inside_by _ _ _ _ _ _ refl from (omega (arith, from, to)))
 
+pub returns-in_err-put_run-clause-sure_moment : goal.returns-in_err-put_run-clause-sure_moment
+returns-in_err-put_run-clause-sure_moment g c = λ tells.
+    let run = c.in-Some.run'.now in
+    let lies = c.requires.lie.1.each run (there_at c.args.runs.now.1 c.loop-i.i run (sym c.in-Some.ensures)) in
+    let from = lies.behind_label in
+    let to = lies.within in
+    let told = c.loop-i.invariant.rack.keeps_telling tells in
+    leaves_part _ _ _ _ _ _ _ _ _ _ _ _ _ _ (c.loop-i.invariant.sure_moment tells) (c.loop-i.invariant.elsewhere tells) (c.put_run.ensures.sure_moment told) (inside_by _ _ _ _ _ _ refl from (omega (arith, from, to)))
+
 pub loop-i-preserved : goal.loop-i-preserved
 loop-i-preserved g c =
     let run = c.in-Some.run'.now in
@@ -80,6 +89,12 @@ loop-i-preserved g c =
           let to = lies.within in
           let told = inv.rack.keeps_telling tells in
           keeps_part _ _ _ _ _ _ _ _ _ (inv.elsewhere tells) (c.put_run.ensures.elsewhere told) (inside_by _ _ _ _ _ _ refl from (omega (arith, from, to)));
+      sure_moment = λ tells.
+          let lies = c.requires.lie.1.each run has in
+          let from = lies.behind_label in
+          let to = lies.within in
+          let told = inv.rack.keeps_telling tells in
+          leaves_part _ _ _ _ _ _ _ _ _ _ _ _ _ _ (inv.sure_moment tells) (inv.elsewhere tells) (c.put_run.ensures.sure_moment told) (inside_by _ _ _ _ _ _ refl from (omega (arith, from, to)));
       rack = grind arith;
     }
 

@@ -1,5 +1,5 @@
 use Rattle.std.proofs.Common.{◌≡◌, ◌-◌, ℕ, Bool, Ok, List}
-use Rattle.bx_calls.specs.Calls.{KeepsSure, LeavesOnly}
+use Rattle.bx_calls.specs.Calls.{HasSure, KeepsSure, LeavesOnly}
 use Rattle.bx_disk.specs.Kept.{Fails}
 use Rattle.bx_facts.specs.Writes.{Sent, member_disk}
 use Rattle.bx_members.specs.Members.{HasMembers, KeepsMembers}
@@ -13,5 +13,6 @@ invariant-loop-i g l = record {
   keeps : (writes : List Sent) (greatest device : ℕ) (second : Bool) → g.R.Rack.tells l.fn.rack → l.disk ≡ member_disk device second → AllLieIn device l.room l.runs.1 → AreBrought writes greatest device l.runs.1 → KeepsMembers writes greatest (g.R.Rack.state l.fn.rack) (g.R.Rack.state l.rack);
   any_moment : (writes : List Sent) (greatest device : ℕ) (second : Bool) → g.R.Rack.tells l.fn.rack → l.disk ≡ member_disk device second → AllLieIn device l.room l.runs.1 → AreBrought writes greatest device l.runs.1 → LeavesOnly (g.R.Rack.moment l.fn.rack) (g.R.Rack.moment l.rack) (g.R.Rack.left_since l.fn.rack) (g.R.Rack.left_since l.rack) (HasMembers writes greatest (g.R.Rack.state l.fn.rack));
   elsewhere : g.R.Rack.tells l.fn.rack → KeepsSure (g.R.Rack.state l.fn.rack) (g.R.Rack.state l.rack) l.disk 1 (l.room - 1);
+  sure_moment : g.R.Rack.tells l.fn.rack → LeavesOnly (g.R.Rack.moment l.fn.rack) (g.R.Rack.moment l.rack) (g.R.Rack.left_since l.fn.rack) (g.R.Rack.left_since l.rack) (HasSure (g.R.Rack.state l.fn.rack) l.disk 1 (l.room - 1));
   rack : Fails {A = Unit {0}} g.R.Rack l.fn.rack l.rack (Ok tt);
 }

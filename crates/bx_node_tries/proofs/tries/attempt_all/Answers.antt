@@ -26,7 +26,7 @@ loop-call-init g c = (
   tt,
   tt,
   λ truth first is stood. none_led _ _ _ truth first _ c.new.ensures.items,
-  λ may none k d less. absurd (none_below c.new-2.result.items k c.new-2.ensures.items less),
+  λ none k d less. absurd (none_below c.new-2.result.items k c.new-2.ensures.items less),
   NoneGo _,
   tt,
   λ may. refl,
@@ -40,7 +40,7 @@ loop-call-preserved g c =
       tt,
       tt,
       λ truth first is stood. c.in_ok-try_one.ensures.led truth first is stood (c.loop-call.invariant.2 truth first is stood),
-      λ may later. c.in_ok-try_one.ensures.waits may (c.loop-call.invariant.3 may none),
+      λ later. c.in_ok-try_one.ensures.waits (c.loop-call.invariant.3 none),
       MoreGo _ _ _ _ _ c.loop-call.invariant.4 c.in_ok-try_one.ensures.goes,
       c.in_ok-try_one.ensures.begun,
       λ may. c.in_ok-try_one.ensures.may may,
@@ -53,12 +53,12 @@ loop-call-preserved-in-Continue-1 g c = (
   tt,
   tt,
   λ truth first is stood. c.loop-call.invariant.2 truth first is stood,
-  λ may none. absurd (not_none _ (sym c.is_some.ensures ∙ c.if-is_some.true) none),
+  λ none. absurd (not_none _ (sym c.is_some.ensures ∙ c.if-is_some.true) none),
   MoreGo _ _ _ _ _ c.loop-call.invariant.4 (Stays c.in_ok-push.ensures.items refl refl refl),
   c.loop-call.invariant.5,
   λ may. c.loop-call.invariant.6 may,
   c.loop-call.invariant.7,
-  still_needed _ _ _ _ _ _ _ _ _ _ _ _ c.in_ok-push.ensures.items c.loop-call.invariant.8,
+  still_needed _ _ _ _ _ _ _ _ _ c.in_ok-push.ensures.items c.loop-call.invariant.8,
 )
 
 pub returns-clause-goes : goal.returns-clause-goes

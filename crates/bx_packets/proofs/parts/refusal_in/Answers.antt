@@ -1,17 +1,18 @@
-use Rattle.std.proofs.Common.{arith, sym, ◌∙◌}
+use Rattle.std.proofs.Common.{arith}
 use Rattle.std.proofs.lemmas.Result.{err_from_is_err_and}
-use Rattle.bx_packets.proofs.Heads.{empty_is, not_empty}
+use Rattle.bx_fields.proofs.Whole.{all_met}
+use Rattle.bx_packets.specs.Reading.{NoRefusal, SpellsRefusal}
 use Rattle.bx_packets.proofs.Bodies.{no_refusal, refusal_ends, refusal_read}
 use Rattle.bx_packets.proofs.parts.refusal_in.Goals as goal
 
-pub returns-in_err-refusal : goal.returns-in_err-refusal
-returns-in_err-refusal c =
+pub returns-in_err-refusal_of : goal.returns-in_err-refusal_of
+returns-in_err-refusal_of c =
     let p = err_from_is_err_and c.from_residual.result c.from_residual.ensures.1 in
-    rw (p.1, p.2) (no_refusal c.in_err-refusal.field-0.0 c.args.bytes.now c.in_err-refusal.ensures)
-
-pub returns-then-not-is_empty : goal.returns-then-not-is_empty
-returns-then-not-is_empty c = λ i b is.
-    not_empty c.in_ok-refusal.rest.now (sym c.is_empty.ensures ∙ c.if-not-is_empty.true) (refusal_ends c.args.bytes.now c.in_ok-refusal.rest.now c.in_ok-refusal.refusal i b c.in_ok-refusal.ensures is)
+    rw (p.1, p.2) (no_refusal c.in_err-refusal_of.field-0.0 c.args.bytes.now c.in_err-refusal_of.ensures)
 
 pub returns : goal.returns
-returns c = refusal_read c.args.bytes.now c.in_ok-refusal.rest.now c.in_ok-refusal.refusal (λ i. omega (arith, c.type_inv.bytes i)) c.in_ok-refusal.ensures (empty_is c.in_ok-refusal.rest.now (sym c.is_empty.ensures ∙ c.if-not-is_empty.false))
+returns c =
+    let read = c.in_ok-refusal_of.field-0 in
+    all_met (λ x. SpellsRefusal x.0 x.1 c.args.bytes.now) (λ e. NoRefusal e c.args.bytes.now) read.0 read.1.now c.all_of.result
+    (λ none. refusal_read c.args.bytes.now read.1.now read.0 (λ i. omega (arith, c.type_inv.bytes i)) c.in_ok-refusal_of.ensures none)
+    (λ some i b is. some (refusal_ends c.args.bytes.now read.1.now read.0 i b c.in_ok-refusal_of.ensures is)) c.all_of.ensures

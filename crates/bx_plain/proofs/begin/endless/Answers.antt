@@ -13,13 +13,13 @@ made : (first : GlobalState) (rows : List SessionRow) (nodes devices : ℕ) → 
 made first rows nodes devices is are = ap (λ (f : GlobalState). record f { term_end = 4294967295999; sessions = rows }) is ∙ ap (λ (r : List SessionRow). record (opening_state nodes devices) { term_end = 4294967295999; sessions = r }) are
 
 pub returns-clause-plain : goal.returns-clause-plain
-returns-clause-plain c = subst (IsPlainState c.args.nodes) (sym (made c.in_ok-first.first c.in_ok-endless_sessions.field-0 c.args.nodes c.args.devices c.in_ok-first.ensures c.in_ok-endless_sessions.ensures)) (plain_is c.args.nodes c.args.devices)
+returns-clause-plain c = subst (IsPlainState c.args.nodes) (sym (made c.in_ok-first.first c.in_ok-sessions_until.field-0 c.args.nodes c.args.devices c.in_ok-first.ensures c.in_ok-sessions_until.ensures)) (plain_is c.args.nodes c.args.devices)
 
 pub returns-clause-allowed : goal.returns-clause-allowed
 returns-clause-allowed c =
     let allowed = plain_allowed c.args.nodes c.args.devices c.requires.few c.requires.least c.requires.most in
-    subst IsAllowed (sym (made c.in_ok-first.first c.in_ok-endless_sessions.field-0 c.args.nodes c.args.devices c.in_ok-first.ensures c.in_ok-endless_sessions.ensures)) allowed
+    subst IsAllowed (sym (made c.in_ok-first.first c.in_ok-sessions_until.field-0 c.args.nodes c.args.devices c.in_ok-first.ensures c.in_ok-sessions_until.ensures)) allowed
 
 pub returns-clause-boots : goal.returns-clause-boots
 returns-clause-boots c =
-    subst (λ (s : GlobalState). IsAboveBoots s 1) (sym (made c.in_ok-first.first c.in_ok-endless_sessions.field-0 c.args.nodes c.args.devices c.in_ok-first.ensures c.in_ok-endless_sessions.ensures)) (plain_boots c.args.nodes c.args.devices)
+    subst (λ (s : GlobalState). IsAboveBoots s 1) (sym (made c.in_ok-first.first c.in_ok-sessions_until.field-0 c.args.nodes c.args.devices c.in_ok-first.ensures c.in_ok-sessions_until.ensures)) (plain_boots c.args.nodes c.args.devices)

@@ -1,4 +1,4 @@
-use Rattle.std.proofs.Common.{◌≡◌, ◌≤◌, ℕ, List, ◌++◌, refl, sym, ◌∙◌, ap, subst, arith}
+use Rattle.std.proofs.Common.{◌≡◌, inl, inr, ⊎_elim, ◌≤◌, ℕ, List, ◌++◌, refl, sym, ◌∙◌, ap, subst, arith}
 use Rattle.std.specs.Option.{option_or}
 use Rattle.std.specs.Prelude.{slice_index}
 use Rattle.bx_global.specs.declared.state.GlobalState.{GlobalState}
@@ -84,5 +84,5 @@ returns-clause-keeps g c = λ past tells all may.
             (λ who. subst (λ (s : GlobalState). (g.G.Register.knows c.args.register.now who).index ≤ s.index) (sym (c.propose.ensures.knows who)) (c.take.ensures.rises who));
       };
       follows = record { grows = heard.grows; holds = taken.may; letters = refl; boots = refl; down = refl; greatest = refl; knew = ap (λ (n : ℕ). put_at c.args.at n past.knew) last_index; leases = refl; writes = refl };
-      goes_on = both (still_out c.in_ok-by_store.ensures.asked (both (both grown.1 to_store.1) goes)) (since (later_reading past.greatest input) done.1);
+      goes_on = both (still_out (λ reader. ⊎_elim (λ other. inl (c.in_ok-by_store.ensures.new_session reader other)) (λ same. inr same) (c.in_ok-by_store.ensures.asked reader)) (both (both grown.1 to_store.1) goes)) (since (later_reading past.greatest input) done.1);
     }

@@ -21,7 +21,7 @@ returns-clause-kind g c = if_ok c.take_own.result (λ (change : Option Change) d
 
 pub returns-clause-goes : goal.returns-clause-goes
 returns-clause-goes g c = λ node. on_value c.take_own.result (λ (change : Option Change) does.
-    event_goes (g.R.Rack.tells c.args.rack.now) c.args.at c.args.known.now c.input_for-input.result.now c.args.self.now c.take_own.new.self change c.args.out.now c.take_own.new.out (g.R.Rack.state c.args.rack.now) (g.R.Rack.state c.take_own.new.rack) node does c.take_own.ensures.only) c.take_own.ensures.takes
+    event_goes (g.R.Rack.tells c.args.rack.now) c.args.at c.args.known.now c.input_for-input.result.now c.args.self.now c.take_own.new.self change c.args.out.now c.take_own.new.out (g.R.Rack.state c.args.rack.now) (g.R.Rack.state c.take_own.new.rack) node c.take_own.ensures.own_read does c.take_own.ensures.only) c.take_own.ensures.takes
 
 pub returns-clause-session : goal.returns-clause-session
 returns-clause-session g c = λ node here. on_value c.take_own.result (λ (change : Option Change) does.

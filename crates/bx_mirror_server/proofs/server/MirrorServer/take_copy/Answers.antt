@@ -1,5 +1,6 @@
-use Rattle.std.proofs.Common.{◌≡◌, ℕ, List, [], ◌∷◌, inl, sym, ◌∙◌, ap, subst}
-use Rattle.bx_mirror_disks.specs.Puts.{AllLieIn, AreBrought, PutsRuns}
+use Rattle.bx_mirror_server.proofs.Working.{works_none}
+use Rattle.std.proofs.Common.{◌≡◌, ℕ, List, [], ◌∷◌, inl, inr, refl, sym, ◌∙◌, ap, subst}
+use Rattle.bx_mirror_disks.specs.Puts.{AllLieIn, PutsRuns}
 use Rattle.bx_mirror_member.specs.Acting.{IsCopiedHere}
 use Rattle.bx_mirror_member.specs.Standing.{Standing, device_in, disk_in, room_in}
 use Rattle.bx_mirror_member.specs.Steps.{copied_of, with_piece}
@@ -26,7 +27,7 @@ returns-in_err-put_runs-clause-works g c =
     let lie : AllLieIn (device_in n) (room_in n) c.in_ok-runs.runs.1 = subst (AllLieIn (device_in n) (room_in n)) (sym runs_are) (piece_lies n c.args.copy c.requires.copy here) in
     subst (λ (k : Standing). Works g.R.Rack c.args.rack.now c.put_runs.new.rack (disk_in k) (room_in k) (BringsPiece k c.args.copy)) c.self.view_is
     (works_put g.R.Rack c.args.rack.now c.put_runs.new.rack n c.in_ok-runs.runs.1 c.disk.result c.room.result c.disk.ensures c.room.ensures lie
-    (BringsPiece n c.args.copy) (λ writes greatest brings. subst (AreBrought writes greatest (device_in n)) (sym runs_are) (brings here)) c.put_runs.ensures.keeps c.put_runs.ensures.any_moment c.put_runs.ensures.elsewhere)
+    (BringsPiece n c.args.copy) (inr (here, runs_are)) c.put_runs.ensures.keeps c.put_runs.ensures.any_moment c.put_runs.ensures.elsewhere c.put_runs.ensures.sure_moment)
 
 pub returns-in_err-note_piece-clause-works : goal.returns-in_err-note_piece-clause-works
 returns-in_err-note_piece-clause-works g c =
@@ -36,7 +37,7 @@ returns-in_err-note_piece-clause-works g c =
     let lie : AllLieIn (device_in n) (room_in n) c.in_ok-runs.runs.1 = subst (AllLieIn (device_in n) (room_in n)) (sym runs_are) (piece_lies n c.args.copy c.requires.copy here) in
     subst (λ (k : Standing). Works g.R.Rack c.args.rack.now c.put_runs.new.rack (disk_in k) (room_in k) (BringsPiece k c.args.copy)) c.self.view_is
     (works_put g.R.Rack c.args.rack.now c.put_runs.new.rack n c.in_ok-runs.runs.1 c.disk.result c.room.result c.disk.ensures c.room.ensures lie
-    (BringsPiece n c.args.copy) (λ writes greatest brings. subst (AreBrought writes greatest (device_in n)) (sym runs_are) (brings here)) c.put_runs.ensures.keeps c.put_runs.ensures.any_moment c.put_runs.ensures.elsewhere)
+    (BringsPiece n c.args.copy) (inr (here, runs_are)) c.put_runs.ensures.keeps c.put_runs.ensures.any_moment c.put_runs.ensures.elsewhere c.put_runs.ensures.sure_moment)
 
 pub returns-clause-works : goal.returns-clause-works
 returns-clause-works g c =
@@ -46,7 +47,7 @@ returns-clause-works g c =
     let lie : AllLieIn (device_in n) (room_in n) c.in_ok-runs.runs.1 = subst (AllLieIn (device_in n) (room_in n)) (sym runs_are) (piece_lies n c.args.copy c.requires.copy here) in
     subst (λ (k : Standing). Works g.R.Rack c.args.rack.now c.put_runs.new.rack (disk_in k) (room_in k) (BringsPiece k c.args.copy)) c.self.view_is
     (works_put g.R.Rack c.args.rack.now c.put_runs.new.rack n c.in_ok-runs.runs.1 c.disk.result c.room.result c.disk.ensures c.room.ensures lie
-    (BringsPiece n c.args.copy) (λ writes greatest brings. subst (AreBrought writes greatest (device_in n)) (sym runs_are) (brings here)) c.put_runs.ensures.keeps c.put_runs.ensures.any_moment c.put_runs.ensures.elsewhere)
+    (BringsPiece n c.args.copy) (inr (here, runs_are)) c.put_runs.ensures.keeps c.put_runs.ensures.any_moment c.put_runs.ensures.elsewhere c.put_runs.ensures.sure_moment)
 
 pub returns-clause-does : goal.returns-clause-does
 returns-clause-does g c =
@@ -64,3 +65,11 @@ returns-clause-does g c =
             (λ device second own lies. c.in_ok-put_runs.ensures.puts device second told own lies)));
       },
     )
+
+pub returns-then-not-is_copied_here-clause-works : goal.returns-then-not-is_copied_here-clause-works
+returns-then-not-is_copied_here-clause-works g c =
+    works_none g.R.Rack c.args.rack.now (disk_in c.args.self.now) (room_in c.args.self.now) (BringsPiece c.args.self.now c.args.copy) (inl refl) (λ image tells left. g.met.R.Rack.only_now c.args.rack.now image tells left)
+
+pub returns-in_err-runs-clause-works : goal.returns-in_err-runs-clause-works
+returns-in_err-runs-clause-works g c =
+    works_none g.R.Rack c.args.rack.now (disk_in c.args.self.now) (room_in c.args.self.now) (BringsPiece c.args.self.now c.args.copy) (inl refl) (λ image tells left. g.met.R.Rack.only_now c.args.rack.now image tells left)

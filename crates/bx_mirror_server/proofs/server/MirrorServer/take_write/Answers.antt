@@ -1,4 +1,5 @@
-use Rattle.std.proofs.Common.{ℕ, refl, sym, ◌∙◌, ap, subst}
+use Rattle.bx_mirror_server.proofs.Working.{works_none}
+use Rattle.std.proofs.Common.{inl, inr, ℕ, refl, sym, ◌∙◌, ap, subst}
 use Rattle.bx_mirror_disks.specs.Puts.{AllLieIn, PutsRuns}
 use Rattle.bx_mirror_member.specs.declared.judging.Judgement.TheVariants.{Taken}
 use Rattle.bx_mirror_member.specs.Acting.{IsTaken}
@@ -20,14 +21,14 @@ returns-in_err-put_runs-in-Taken-clause-works g c =
     let n : Standing = c.self.inside.member in
     subst (λ (k : Standing). Works g.R.Rack c.args.rack.now c.put_runs.new.rack (disk_in k) (room_in k) (BringsWrite k c.args.reading c.args.write.now)) c.self.view_is
     (works_put g.R.Rack c.args.rack.now c.put_runs.new.rack n c.args.write.now.runs.1 c.disk.result c.room.result c.disk.ensures c.room.ensures (writes_lie n c.args.reading c.args.write.now c.requires.write c.in-Taken.ensures.opens)
-    (BringsWrite n c.args.reading c.args.write.now) (λ writes greatest brings. brings c.in-Taken.ensures) c.put_runs.ensures.keeps c.put_runs.ensures.any_moment c.put_runs.ensures.elsewhere)
+    (BringsWrite n c.args.reading c.args.write.now) (inr (c.in-Taken.ensures, refl)) c.put_runs.ensures.keeps c.put_runs.ensures.any_moment c.put_runs.ensures.elsewhere c.put_runs.ensures.sure_moment)
 
 pub returns-in_err-note_write-in-Taken-clause-works : goal.returns-in_err-note_write-in-Taken-clause-works
 returns-in_err-note_write-in-Taken-clause-works g c =
     let n : Standing = c.self.inside.member in
     subst (λ (k : Standing). Works g.R.Rack c.args.rack.now c.put_runs.new.rack (disk_in k) (room_in k) (BringsWrite k c.args.reading c.args.write.now)) c.self.view_is
     (works_put g.R.Rack c.args.rack.now c.put_runs.new.rack n c.args.write.now.runs.1 c.disk.result c.room.result c.disk.ensures c.room.ensures (writes_lie n c.args.reading c.args.write.now c.requires.write c.in-Taken.ensures.opens)
-    (BringsWrite n c.args.reading c.args.write.now) (λ writes greatest brings. brings c.in-Taken.ensures) c.put_runs.ensures.keeps c.put_runs.ensures.any_moment c.put_runs.ensures.elsewhere)
+    (BringsWrite n c.args.reading c.args.write.now) (inr (c.in-Taken.ensures, refl)) c.put_runs.ensures.keeps c.put_runs.ensures.any_moment c.put_runs.ensures.elsewhere c.put_runs.ensures.sure_moment)
 
 pub returns-in_ok-note_write-in-Taken-clause-does : goal.returns-in_ok-note_write-in-Taken-clause-does
 returns-in_ok-note_write-in-Taken-clause-does g c =
@@ -49,4 +50,16 @@ returns-in_ok-note_write-in-Taken-clause-works g c =
     let n : Standing = c.self.inside.member in
     subst (λ (k : Standing). Works g.R.Rack c.args.rack.now c.put_runs.new.rack (disk_in k) (room_in k) (BringsWrite k c.args.reading c.args.write.now)) c.self.view_is
     (works_put g.R.Rack c.args.rack.now c.put_runs.new.rack n c.args.write.now.runs.1 c.disk.result c.room.result c.disk.ensures c.room.ensures (writes_lie n c.args.reading c.args.write.now c.requires.write c.in-Taken.ensures.opens)
-    (BringsWrite n c.args.reading c.args.write.now) (λ writes greatest brings. brings c.in-Taken.ensures) c.put_runs.ensures.keeps c.put_runs.ensures.any_moment c.put_runs.ensures.elsewhere)
+    (BringsWrite n c.args.reading c.args.write.now) (inr (c.in-Taken.ensures, refl)) c.put_runs.ensures.keeps c.put_runs.ensures.any_moment c.put_runs.ensures.elsewhere c.put_runs.ensures.sure_moment)
+
+pub returns-in_err-repeat-in-Repeated-clause-works : goal.returns-in_err-repeat-in-Repeated-clause-works
+returns-in_err-repeat-in-Repeated-clause-works g c =
+    works_none g.R.Rack c.args.rack.now (disk_in c.args.self.now) (room_in c.args.self.now) (BringsWrite c.args.self.now c.args.reading c.args.write.now) (inl refl) (λ image tells left. g.met.R.Rack.only_now c.args.rack.now image tells left)
+
+pub returns-in_ok-repeat-in-Repeated-clause-works : goal.returns-in_ok-repeat-in-Repeated-clause-works
+returns-in_ok-repeat-in-Repeated-clause-works g c =
+    works_none g.R.Rack c.args.rack.now (disk_in c.args.self.now) (room_in c.args.self.now) (BringsWrite c.args.self.now c.args.reading c.args.write.now) (inl refl) (λ image tells left. g.met.R.Rack.only_now c.args.rack.now image tells left)
+
+pub returns-in-Refused-clause-works : goal.returns-in-Refused-clause-works
+returns-in-Refused-clause-works g c =
+    works_none g.R.Rack c.args.rack.now (disk_in c.args.self.now) (room_in c.args.self.now) (BringsWrite c.args.self.now c.args.reading c.args.write.now) (inl refl) (λ image tells left. g.met.R.Rack.only_now c.args.rack.now image tells left)

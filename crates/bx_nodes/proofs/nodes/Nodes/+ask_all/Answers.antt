@@ -1,11 +1,13 @@
 use Rattle.std.proofs.Common.{◌∙◌, ℕ, ◌<◌, List, IfSome, sym, subst}
 use Rattle.std.specs.Prelude.{slice_get}
+use Rattle.std.specs.List.{AllByRecursion}
 use Rattle.std.proofs.lemmas.Result.{on_ok_weaker}
-use Rattle.bx_facts.specs.Chains.{Chain, LivesIn, last}
-use Rattle.bx_nodes.proofs.Machines.{is_some_there, mark_stays, rests_on}
 use Rattle.bx_base.specs.declared.names.Mode.{Mode}
+use Rattle.bx_facts.specs.Chains.{Chain, LivesIn, last}
 use Rattle.bx_nodes.specs.Asks.{KeepsUnneeded, KeepsUnwanted}
-use Rattle.bx_nodes.proofs.Unwanted.{unneeded_more}
+use Rattle.bx_nodes.specs.Standing.{Asking}
+use Rattle.bx_nodes.proofs.Machines.{both_ok, is_some_there, only_both, under_then}
+use Rattle.bx_nodes.proofs.Unwanted.{still_asking, unneeded_more}
 use Rattle.bx_nodes.proofs.nodes.Nodes.+ask_all.Goals as goal
 
 pub returns-clause-stands : goal.returns-clause-stands
@@ -13,19 +15,19 @@ returns-clause-stands g t c = λ x letters clocks course tree session up stands 
     let one = c.in_ok-ask_each.ensures.stands x letters clocks course tree session up stands own live mine in
     let node = c.args.node in
     let items = c.args.self.now.machines.items in
-    let still = mark_stays (slice_get items node) (slice_get c.ask_each.new.self.machines.items node) session (is_some_there items node c.requires.there.0) c.in_ok-ask_each.ensures.rests mine in
+    let still = under_then (slice_get items node) (slice_get c.ask_each.new.self.machines.items node) session (is_some_there items node c.requires.there.0) c.in_ok-ask_each.ensures.only mine in
     on_ok_weaker c.ask_all.result (λ two. record { later = two.later; chain = two.chain ∙ one.chain; knew = two.knew ∙ one.knew; stands = two.stands })
     (c.ask_all.ensures.stands x letters clocks one.later tree session up one.stands ((c.in_ok-ask_each.ensures.own node).0 ∙ own) (subst (λ (chain : Chain). LivesIn (last chain) session) (sym one.chain) live) still)
 
-pub returns-clause-rests : goal.returns-clause-rests
-returns-clause-rests g t c =
+pub returns-clause-only : goal.returns-clause-only
+returns-clause-only g t c =
     let node = c.args.node in
     let items = c.args.self.now.machines.items in
     let middle = c.ask_each.new.self.machines.items in
     on_ok_weaker c.ask_all.result
-    (λ two. rests_on (slice_get items node) (slice_get middle node) (slice_get c.ask_all.new.self.machines.items node) (is_some_there middle node (subst (λ (n : ℕ). node < n) (sym c.in_ok-ask_each.ensures.count) c.requires.there.0))
-    c.in_ok-ask_each.ensures.rests two)
-    c.ask_all.ensures.rests
+    (λ two. only_both (slice_get items node) (slice_get middle node) (slice_get c.ask_all.new.self.machines.items node) (is_some_there middle node (subst (λ (n : ℕ). node < n) (sym c.in_ok-ask_each.ensures.count) c.requires.there.0))
+    c.in_ok-ask_each.ensures.only two)
+    c.ask_all.ensures.only
 
 pub returns-clause-keeps : goal.returns-clause-keeps
 returns-clause-keeps g t c =
@@ -39,3 +41,12 @@ returns-clause-keeps g t c =
     (unneeded_more c.in-Some.first.now c.in-Some.rest.now (slice_get items node) (slice_get middle node) (slice_get last node)
     (is_some_there middle node (subst (λ (n : ℕ). node < n) (sym c.in_ok-ask_each.ensures.count) c.requires.there.0)) one keeps))
     c.ask_all.ensures.keeps
+
+pub returns-clause-asking : goal.returns-clause-asking
+returns-clause-asking g t c =
+    let Asks : ℕ → Type 0 = λ at. Asking g.G.Register g.O.Owners c.ask_all.new.self c.args.node at in
+    let Asked : ℕ → Type 0 = λ at. Asking g.G.Register g.O.Owners c.ask_each.new.self c.args.node at in
+    let one = subst (λ (wants : List (ℕ × Mode)). AllByRecursion (λ wanted. Asked wanted.0) wants) c.items.ensures c.in_ok-ask_each.ensures.asking in
+    on_ok_weaker c.ask_all.result
+    (λ all. subst (λ (needs : List (List (ℕ × Mode))). AllByRecursion (AllByRecursion (λ wanted. Asks wanted.0)) needs) (sym c.in-Some.ensures.cases.0) (all.0, all.1))
+    (both_ok _ _ c.ask_all.result (still_asking Asked Asks c.in-Some.first.now c.ask_all.result (λ at is. c.ask_all.ensures.asks_on at is) one) c.ask_all.ensures.asking)

@@ -1,11 +1,14 @@
-use Rattle.std.proofs.Common.{◌≡◌, ◌∙◌, ℕ, ◌<◌, List, length, Some, refl, sym, subst, rules}
+use Rattle.std.proofs.Common.{◌≡◌, ◌∙◌, ℕ, ◌<◌, arith, List, length, Some, refl, sym, subst, rules}
 use Rattle.std.specs.Prelude.{slice_get}
 use Rattle.std.proofs.lemmas.Result.{on_ok_weaker}
 use Rattle.bx_facts.specs.Chains.{Chain, LivesIn, last}
 use Rattle.bx_facts.specs.Holds.{first_of}
 use Rattle.bx_nodes.proofs.Fewer.{fewer}
-use Rattle.bx_nodes.proofs.Machines.{is_some_there, mark_stays, rests_on}
+use Rattle.bx_nodes.proofs.Machines.{if_both, is_some_there, only_both, under_then}
+use Rattle.bx_node_steps.specs.Changing.{LetsGo}
+use Rattle.bx_nodes.specs.Asks.{OnlyHolds}
 use Rattle.bx_nodes.proofs.Rests.{steps}
+use Rattle.bx_nodes.proofs.Wanting.{goes_only}
 use Rattle.bx_nodes.proofs.nodes.Nodes.+give_back.Goals as goal
 
 pub give_back-requires : goal.give_back-requires
@@ -21,19 +24,27 @@ returns-clause-stands g t c = λ x letters clocks course tree session up stands 
     let one = c.in_ok-give_up.ensures.stands x letters clocks course tree session up stands own live mine in
     let node = c.args.node in
     let items = c.args.self.now.machines.items in
-    let still = mark_stays (slice_get items node) (slice_get c.give_up.new.self.machines.items node) session (is_some_there items node c.requires.there.0) c.in_ok-give_up.ensures.rests mine in
+    let still = under_then (slice_get items node) (slice_get c.give_up.new.self.machines.items node) session (is_some_there items node c.requires.there.0) (if_both (slice_get items node) (slice_get c.give_up.new.self.machines.items node) (LetsGo c.in-Some.block) OnlyHolds (λ a b goes. goes_only c.in-Some.block a b goes) c.in_ok-give_up.ensures.goes) mine in
     on_ok_weaker c.give_back.result (λ two. record { later = two.later; chain = two.chain ∙ one.chain; knew = two.knew ∙ one.knew; stands = two.stands })
     (c.give_back.ensures.stands x letters clocks one.later tree session up one.stands ((c.in_ok-give_up.ensures.own node).0 ∙ own) (subst (λ (chain : Chain). LivesIn (last chain) session) (sym one.chain) live) still)
 
-pub returns-clause-rests : goal.returns-clause-rests
-returns-clause-rests g t c =
+pub returns-clause-only : goal.returns-clause-only
+returns-clause-only g t c =
     let node = c.args.node in
     let items = c.args.self.now.machines.items in
     let middle = c.give_up.new.self.machines.items in
     on_ok_weaker c.give_back.result
-    (λ two. rests_on (slice_get items node) (slice_get middle node) (slice_get c.give_back.new.self.machines.items node) (is_some_there middle node (subst (λ (n : ℕ). node < n) (sym c.in_ok-give_up.ensures.count) c.requires.there.0))
-    c.in_ok-give_up.ensures.rests two)
-    c.give_back.ensures.rests
+    (λ two. only_both (slice_get items node) (slice_get middle node) (slice_get c.give_back.new.self.machines.items node) (is_some_there middle node (subst (λ (n : ℕ). node < n) (sym c.in_ok-give_up.ensures.count) c.requires.there.0))
+    (if_both (slice_get items node) (slice_get middle node) (LetsGo c.in-Some.block) OnlyHolds (λ a b goes. goes_only c.in-Some.block a b goes) c.in_ok-give_up.ensures.goes) two)
+    c.give_back.ensures.only
+
+pub returns-clause-fewer : goal.returns-clause-fewer
+returns-clause-fewer g t c =
+    let owners = c.args.self.now.owners in
+    let first : first_of (g.O.Owners.asks owners c.args.node) ≡ Some (c.in-Some.block, c.in-Some.asking) = sym c.in-Some.ensures in
+    let less : length (g.O.Owners.asks c.give_up.new.self.owners c.args.node) < length (g.O.Owners.asks owners c.args.node) =
+    subst (λ (l : List (ℕ × ℕ)). length l < length (g.O.Owners.asks owners c.args.node)) (sym c.in_ok-give_up.ensures.gives.2) (fewer (g.O.Owners.asks owners c.args.node) (c.in-Some.block, c.in-Some.asking) first) in
+    on_ok_weaker c.give_back.result (λ more. omega (arith, more, less)) c.give_back.ensures.fewer
 
 pub returns-clause-keeps : goal.returns-clause-keeps
 returns-clause-keeps g t c =

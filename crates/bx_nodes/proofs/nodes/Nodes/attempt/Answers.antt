@@ -3,15 +3,14 @@ use Rattle.std.specs.Prelude.{slice_get, slice_set}
 use Rattle.std.proofs.lemmas.Option.{slice_get-get_or}
 use Rattle.bx_node_machines.proofs.Showing.{sees_truth}
 use Rattle.bx_node_cache.specs.Kept.{held_in, hint_in}
-use Rattle.bx_node_tries.specs.Tries.{AllGo, AreNeeded, WaitsForBlocks}
+use Rattle.bx_node_tries.specs.Tries.{AllGo, AreNeeded, IsToBegin, MayWait}
 use Rattle.bx_node_tries.specs.declared.round.Waiting.{Waiting}
 use Rattle.bx_nodes.specs.Going.{Settle}
-use Rattle.bx_nodes.specs.Logging.{IsFairBegun}
-use Rattle.bx_nodes.specs.Seen.{seen, view_of}
+use Rattle.bx_node_steps.specs.Seen.{seen, view_of}
 use Rattle.bx_nodes.specs.declared.answers.Attempted.{Attempted}
-use Rattle.bx_nodes.specs.declared.machine.Machine.{Machine}
+use Rattle.bx_node_steps.specs.declared.machine.Machine.{Machine}
 use Rattle.bx_nodes.proofs.Answered.{turned}
-use Rattle.bx_nodes.proofs.Machines.{if_some, put_there, seen_same, seen_there, set_here, set_there, was_there}
+use Rattle.bx_nodes.proofs.Machines.{if_some, put_there, seen_same, seen_there, set_here, set_length, set_there, was_there}
 use Rattle.bx_nodes.proofs.nodes.Nodes.attempt.Goals as goal
 
 pub returns : goal.returns
@@ -36,16 +35,15 @@ returns g c =
           subst (λ (m : Option Machine). Settle c.args.moment m (slice_get (slice_set items node after) node) attempted) (sym was)
           (subst (λ (m : Option Machine). Settle c.args.moment (Some before) m attempted) (sym (set_here items node after before was))
           (record { first = went.0; none = went.1; go = subst (λ (l : List Waiting). AllGo c.args.moment l went.0 round) (ap (λ v. v.items) c.replace-calls.ensures.value) went.2 }));
-      needs = subst (λ (m : Option Machine). IfSome m (λ machine. All (AreNeeded (e.stands engine) (e.step engine) (e.free engine) (e.areas engine) (λ client bytes. e.path engine client bytes (held_in machine.cache.kept) (hint_in machine.cache.hinted))
-          (held_in machine.cache.kept) (hint_in machine.cache.hinted) c.args.moment machine.calls.items) round.needs.items)) (sym (set_here items node after before was)) c.in_ok-round.ensures.needs;
-      waits = λ may none. subst (λ (m : Option Machine). IfSome m (λ machine. All (WaitsForBlocks (e.stands engine) (e.step engine) (e.free engine) (e.areas engine) (λ client bytes. e.path engine client bytes (held_in machine.cache.kept) (hint_in machine.cache.hinted))
-          (held_in machine.cache.kept) (hint_in machine.cache.hinted) c.args.moment round.needs.items) machine.calls.items)) (sym (set_here items node after before was)) (c.in_ok-round.ensures.waits may none);
+      needs = put_there (λ (machine : Machine). All (AreNeeded e engine (held_in machine.cache.kept) (hint_in machine.cache.hinted) c.args.moment machine.calls.items) round.needs.items) items node after before was c.in_ok-round.ensures.needs;
+      waits = λ none. put_there (λ (machine : Machine). All (MayWait e engine (held_in machine.cache.kept) (hint_in machine.cache.hinted) c.args.moment c.args.newest c.args.may_begin round.needs.items) machine.calls.items) items node after before was (c.in_ok-round.ensures.waits none);
       may = λ may. c.in_ok-round.ensures.may may;
       begun = if_some round.begun _ _
-          (λ begun is. put_there (IsFairBegun (e.stands engine) (e.step engine) (e.free engine) (e.areas engine) (e.path engine) c.args.moment begun) items node after before was (record { changes = is.0; tried = is.1 }))
+          (λ begun is. put_there (λ (machine : Machine). IsToBegin e engine (held_in machine.cache.kept) (hint_in machine.cache.hinted) c.args.moment begun) items node after before was is)
           c.in_ok-round.ensures.begun;
       only = was_there (λ (old : Machine). IfSome (slice_get (slice_set items node after) node) (λ new. new ≡ record old { calls = new.calls })) (slice_get items node) before was
           (put_there (λ (new : Machine). new ≡ record before { calls = new.calls }) items node after before was refl);
       parts = (refl, refl, refl, refl);
       others = record { others = λ other ne. set_there items node other after ne };
+      count = set_length items node after;
     }

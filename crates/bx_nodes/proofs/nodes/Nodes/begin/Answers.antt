@@ -1,15 +1,14 @@
-use Rattle.std.proofs.Common.{◌≡◌, ◌∙◌, Some, sym, ap, subst}
+use Rattle.std.proofs.Common.{◌≡◌, ◌∙◌, Some, sym, ap}
 use Rattle.std.specs.Prelude.{slice_get}
 use Rattle.std.proofs.lemmas.Option.{slice_get-get_or}
 use Rattle.bx_node_cache.specs.Kept.{held_in, hint_in}
-use Rattle.bx_nodes.specs.Joined.{IsJoined}
-use Rattle.bx_nodes.specs.Logging.{IsFairBegun, IsLogging}
-use Rattle.bx_nodes.specs.declared.machine.Machine.{Machine}
-use Rattle.bx_nodes.specs.declared.machine.Stage.TheVariants.{Idle}
+use Rattle.bx_node_tries.specs.Tries.{IsToBegin}
+use Rattle.bx_node_steps.specs.Ready.{IsReady}
+use Rattle.bx_node_steps.specs.declared.machine.Machine.{Machine}
+use Rattle.bx_node_steps.specs.declared.machine.Stage.TheVariants.{Idle}
 use Rattle.bx_nodes.proofs.Beginning.{begun_there, held_draft, numbered}
-use Rattle.bx_nodes.proofs.Fitting.{begin_fits, begun_logging}
+use Rattle.bx_node_steps.proofs.Fitting.{begin_fits, begun_ready, ready_at}
 use Rattle.bx_nodes.proofs.Machines.{of_there, put_there, set_there, was_there}
-use Rattle.bx_nodes.proofs.Staying.{joined_at, joined_begun}
 use Rattle.bx_nodes.proofs.nodes.Nodes.begin.Goals as goal
 
 pub begin-requires-clause-held : goal.begin-requires-clause-held
@@ -21,18 +20,11 @@ begin-requires-clause-held g c =
     let e = g.E.Engine in
     let begun = c.args.begun in
     let was : slice_get items c.args.node ≡ Some before = slice_get-get_or items c.args.node before c.requires.there ∙ ap (λ (m : Machine). Some m) (sym c.index_mut.ensures.value) in
-    let fair = of_there (IsFairBegun (e.stands engine) (e.step engine) (e.free engine) (e.areas engine) (e.path engine) c.args.moment begun) (slice_get items c.args.node) before was c.requires.begun in
+    let fair = of_there (λ (machine : Machine). IsToBegin e engine (held_in machine.cache.kept) (hint_in machine.cache.hinted) c.args.moment begun) (slice_get items c.args.node) before was c.requires.begun in
     held_draft c.args.moment (e.areas engine) (held_in before.cache.kept) (e.path engine begun.call.client begun.call.message (held_in before.cache.kept) (hint_in before.cache.hinted)) begun.call begun.attempt c.asked_by-recording.result c.asked_by-recording.ensures fair.tried.fair
 
 pub returns-in_err-runs-clause-others : goal.returns-in_err-runs-clause-others
 returns-in_err-runs-clause-others g c = record { others = λ other ne. set_there c.args.self.now.machines.items c.args.node other c.begin.new.self ne }
-
-pub write-requires-clause-session : goal.write-requires-clause-session
-write-requires-clause-session g c =
-    let items = c.args.self.now.machines.items in
-    let before = c.index_mut.result.now in
-    let was : slice_get items c.args.node ≡ Some before = slice_get-get_or items c.args.node before c.requires.there ∙ ap (λ (m : Machine). Some m) (sym c.index_mut.ensures.value) in
-    (of_there (IsLogging (g.S.Store.made c.args.self.now.store) (g.S.Store.own c.args.self.now.store c.args.node)) (slice_get items c.args.node) before was c.requires.logging).session
 
 pub write-requires-clause-runs : goal.write-requires-clause-runs
 write-requires-clause-runs g c =
@@ -40,8 +32,9 @@ write-requires-clause-runs g c =
     let before = c.index_mut.result.now in
     let was : slice_get items c.args.node ≡ Some before = slice_get-get_or items c.args.node before c.requires.there ∙ ap (λ (m : Machine). Some m) (sym c.index_mut.ensures.value) in
     let made = g.S.Store.made c.args.self.now.store in
-    let own = g.S.Store.own c.args.self.now.store c.args.node in
-    begin_fits made own before c.begin.new.self (of_there (IsLogging made own) (slice_get items c.args.node) before was c.requires.logging) c.asked_by-recording.result c.in_ok-runs.runs c.in_ok-runs.ensures
+    let areas = g.E.Engine.areas c.args.self.now.engine in
+    let asked = g.S.Store.asked c.args.self.now.store c.args.node in
+    begin_fits made areas asked before c.begin.new.self (of_there (IsReady made areas asked) (slice_get items c.args.node) before was c.requires.ready) c.asked_by-recording.result c.in_ok-runs.runs c.in_ok-runs.ensures
     (of_there (λ (m : Machine). m.stage ≡ Idle) (slice_get items c.args.node) before was c.requires.idle)
 
 pub returns-in_err-write-clause-others : goal.returns-in_err-write-clause-others
@@ -58,9 +51,11 @@ returns-clause-stands g c = λ x letters clocks course tree session up stands ow
     let was : slice_get items c.args.node ≡ Some before = slice_get-get_or items c.args.node before c.requires.there ∙ ap (λ (m : Machine). Some m) (sym c.index_mut.ensures.value) in
     let made = g.S.Store.made self.store in
     let own_is : g.S.Store.own self.store c.args.node ≡ Some session = sym (stands.at.parts.own c.args.node up) ∙ own in
-    let logging = of_there (IsLogging made (g.S.Store.own self.store c.args.node)) (slice_get items c.args.node) before was c.requires.logging in
+    let areas = e.areas engine in
+    let asked = g.S.Store.asked self.store c.args.node in
+    let ready = of_there (IsReady made areas asked) (slice_get items c.args.node) before was c.requires.ready in
     let idle = of_there (λ (m : Machine). m.stage ≡ Idle) (slice_get items c.args.node) before was c.requires.idle in
-    let fair = of_there (IsFairBegun (e.stands engine) (e.step engine) (e.free engine) (e.areas engine) (e.path engine) c.args.moment begun) (slice_get items c.args.node) before was c.requires.begun in
+    let fair = of_there (λ (machine : Machine). IsToBegin e engine (held_in machine.cache.kept) (hint_in machine.cache.hinted) c.args.moment begun) (slice_get items c.args.node) before was c.requires.begun in
     let wrote = c.in_ok-write.ensures in
     begun_there g.G.Register g.O.Owners g.S.Store (e.stands engine) (e.step engine) self.register self.owners self.store c.write.new.self x letters c.args.out.now c.write.new.out clocks items course tree
     c.args.node session c.args.until before c.begin.new.self stands up own ends lives was (of_there (λ (m : Machine). m.session ≡ Some session) (slice_get items c.args.node) before was mine) c.requires.none_out
@@ -73,9 +68,9 @@ returns-clause-stands g c = λ x letters clocks course tree session up stands ow
       loses = λ past all. g.met.O.Owners.loses self.owners past all;
     })
     (record { nothing_out = λ y past n s. g.met.S.Store.nothing_out self.store y past n s })
-    (e.free engine) (e.areas engine) c.args.moment (e.path engine) begun c.asked_by-recording.result c.in_ok-runs.runs idle fair c.asked_by-recording.ensures c.in_ok-runs.ensures
+    (e.free engine) (e.areas engine) c.args.moment (e.path engine) begun c.asked_by-recording.result c.in_ok-runs.runs idle fair.tried.fair fair.tried.gives c.asked_by-recording.ensures c.in_ok-runs.ensures
     (record {
-      fits = begin_fits made (g.S.Store.own self.store c.args.node) before c.begin.new.self logging c.asked_by-recording.result c.in_ok-runs.runs c.in_ok-runs.ensures idle;
+      fits = begin_fits made areas asked before c.begin.new.self ready c.asked_by-recording.result c.in_ok-runs.runs c.in_ok-runs.ensures idle;
       keeps = λ y past kept is_up may. wrote.keeps y past session kept is_up own_is may;
       goes_on = λ y past kept is_up may. wrote.goes_on y past session kept is_up own_is may;
       is_out = wrote.is_out session own_is;
@@ -85,7 +80,7 @@ returns-clause-stands g c = λ x letters clocks course tree session up stands ow
       sent = wrote.sent;
       made = wrote.made;
     })
-    logging.devices logging.areas
+    ready.devices ready.areas
 
 pub returns-clause-begins : goal.returns-clause-begins
 returns-clause-begins g c =
@@ -100,38 +95,21 @@ returns-clause-begins g c =
       sent = λ session own_is. c.in_ok-write.ensures.is_out session own_is;
     }))
 
-pub returns-clause-logging : goal.returns-clause-logging
-returns-clause-logging g c =
+pub returns-clause-ready : goal.returns-clause-ready
+returns-clause-ready g c =
     let self = c.args.self.now in
     let items = self.machines.items in
     let before = c.index_mut.result.now in
     let was : slice_get items c.args.node ≡ Some before = slice_get-get_or items c.args.node before c.requires.there ∙ ap (λ (m : Machine). Some m) (sym c.index_mut.ensures.value) in
     let made = g.S.Store.made self.store in
-    let own = g.S.Store.own self.store c.args.node in
+    let areas = g.E.Engine.areas c.args.self.now.engine in
+    let asked = g.S.Store.asked c.args.self.now.store c.args.node in
     let wrote = c.in_ok-write.ensures in
-    put_there (IsLogging (g.S.Store.made c.write.new.self) (g.S.Store.own c.write.new.self c.args.node)) items c.args.node c.begin.new.self before was
-    (subst (λ m. IsLogging m (g.S.Store.own c.write.new.self c.args.node) c.begin.new.self) (sym wrote.made)
-    (subst (λ o. IsLogging made o c.begin.new.self) (sym (wrote.stays c.args.node).0)
-    (begun_logging made own before c.begin.new.self (of_there (IsLogging made own) (slice_get items c.args.node) before was c.requires.logging) c.asked_by-recording.result c.in_ok-runs.runs c.in_ok-runs.ensures
+    put_there (IsReady (g.S.Store.made c.write.new.self) areas (g.S.Store.asked c.write.new.self c.args.node)) items c.args.node c.begin.new.self before was
+    (ready_at made (g.S.Store.made c.write.new.self) areas asked (g.S.Store.asked c.write.new.self c.args.node) c.begin.new.self wrote.made (wrote.stays c.args.node).1
+    (begun_ready made areas asked before c.begin.new.self (of_there (IsReady made areas asked) (slice_get items c.args.node) before was c.requires.ready) c.asked_by-recording.result c.in_ok-runs.runs c.in_ok-runs.ensures
     (of_there (λ (m : Machine). m.stage ≡ Idle) (slice_get items c.args.node) before was c.requires.idle)
-    (numbered c.args.moment c.args.begun.call c.args.begun.attempt c.asked_by-recording.result c.asked_by-recording.ensures))))
+    (numbered c.args.moment c.args.begun.call c.args.begun.attempt c.asked_by-recording.result c.asked_by-recording.ensures)))
 
 pub returns-clause-others : goal.returns-clause-others
 returns-clause-others g c = record { others = λ other ne. set_there c.args.self.now.machines.items c.args.node other c.begin.new.self ne }
-
-pub returns-clause-joined : goal.returns-clause-joined
-returns-clause-joined g c = λ is.
-    let self = c.args.self.now in
-    let items = self.machines.items in
-    let before = c.index_mut.result.now in
-    let was : slice_get items c.args.node ≡ Some before = slice_get-get_or items c.args.node before c.requires.there ∙ ap (λ (m : Machine). Some m) (sym c.index_mut.ensures.value) in
-    let made = g.S.Store.made self.store in
-    let areas = g.E.Engine.areas self.engine in
-    let own = g.O.Owners.own self.owners c.args.node in
-    let own_store = g.S.Store.own self.store c.args.node in
-    let asked = g.S.Store.asked self.store c.args.node in
-    let later = c.write.new.self in
-    let wrote = c.in_ok-write.ensures in
-    put_there (IsJoined (g.S.Store.made later) areas own (g.S.Store.own later c.args.node) (g.S.Store.asked later c.args.node)) items c.args.node c.begin.new.self before was
-    (joined_at made (g.S.Store.made later) areas own own_store (g.S.Store.own later c.args.node) asked (g.S.Store.asked later c.args.node) c.begin.new.self wrote.made (wrote.stays c.args.node).0 (wrote.stays c.args.node).1
-    (joined_begun made areas own own_store asked before c.begin.new.self (of_there (IsJoined made areas own own_store asked) (slice_get items c.args.node) before was is) c.asked_by-recording.result c.in_ok-runs.runs c.in_ok-runs.ensures))

@@ -1,4 +1,4 @@
-use Rattle.std.proofs.Common.{◌≡◌, ◌∙◌, ℕ, ◌+◌, ◌≤◌, ◌++◌, Contains, Option, Some, IfSome, refl, sym, ap, subst, arith}
+use Rattle.std.proofs.Common.{◌≡◌, ◌∙◌, ℕ, ◌+◌, ◌≤◌, ◌++◌, Contains, Option, Some, IfSome, sym, ap, subst, arith}
 use Rattle.std.specs.Prelude.{slice_get, slice_set}
 use Rattle.std.proofs.lemmas.Option.{slice_get-get_or}
 use Rattle.std.proofs.lemmas.Result.{on_ok_weaker}
@@ -7,15 +7,16 @@ use Rattle.bx_facts.specs.Chains.{Chain, HasRow, IsPlace, LivesIn, last, oldest}
 use Rattle.bx_facts.specs.Holds.{Hold, OwnersPast, given_floor, hold_of, owners_with}
 use Rattle.bx_global.specs.declared.state.GlobalState.{GlobalState}
 use Rattle.bx_node_events.proofs.Quieted.{none_sent, quiet_course, quieted}
-use Rattle.bx_nodes.specs.Changing.{LetsGo}
-use Rattle.bx_nodes.specs.Joined.{IsJoined}
-use Rattle.bx_nodes.specs.Seen.{seen}
-use Rattle.bx_nodes.specs.declared.machine.Machine.{Machine}
-use Rattle.bx_nodes.specs.declared.machine.Stage.TheVariants.{Idle}
+use Rattle.bx_node_steps.specs.Changing.{LetsGo}
+use Rattle.bx_node_steps.specs.Ready.{IsReady}
+use Rattle.bx_node_steps.proofs.Fitting.{ready_let_go}
+use Rattle.bx_node_steps.specs.Seen.{seen}
+use Rattle.bx_node_steps.specs.declared.machine.Machine.{Machine}
+use Rattle.bx_node_steps.specs.declared.machine.Stage.TheVariants.{Idle}
 use Rattle.bx_nodes.proofs.GivingUp.{given_at}
-use Rattle.bx_nodes.proofs.Joining.{block_there, fits_let_go, joined_then}
+use Rattle.bx_nodes.proofs.Wanting.{block_there}
 use Rattle.bx_nodes.proofs.LettingGo.{lets_go}
-use Rattle.bx_nodes.proofs.Machines.{both_ok, is_some_there, rests_if, seen_others, seen_there, set_here, set_there}
+use Rattle.bx_nodes.proofs.Machines.{both_ok, of_there, ok_so, put_there, seen_others, seen_there, set_here, set_there}
 use Rattle.bx_world_chains.specs.Entitled.{AreAllowed}
 use Rattle.bx_world_chains.proofs.Rows.{lives_of, lives_row}
 use Rattle.bx_world_chains.proofs.Sessions.{own_row}
@@ -40,7 +41,7 @@ returns-clause-stands g c = λ x letters clocks course tree session up stands ow
     let was : slice_get items node ≡ Some before = slice_get-get_or items node before c.requires.there.0 ∙ ap (λ (m : Machine). Some m) (sym c.index_mut.ensures.value) in
     let is_mine : before.session ≡ Some session = subst (λ (m : Option Machine). IfSome m (λ machine. machine.session ≡ Some session)) was mine in
     let rests : before.stage ≡ Idle = subst (λ (m : Option Machine). IfSome m (λ machine. machine.stage ≡ Idle)) was c.requires.rests in
-    let joined = subst (λ (m : Option Machine). IfSome m (IsJoined made (e.areas engine) (g.O.Owners.own owners node) (g.S.Store.own store node) (g.S.Store.asked store node))) was c.requires.joined in
+    let ready = of_there (IsReady made (e.areas engine) (g.S.Store.asked store node)) (slice_get items node) before was c.requires.ready in
     let later = slice_set items node after in
     let allowed : AreAllowed course.register.chain = record { each = λ s place. g.met.G.Register.allowed register x course.register s stands.at.parts.register_keeps place } in
     let own_st = sym (stands.at.parts.own node up) ∙ own in
@@ -77,7 +78,7 @@ returns-clause-stands g c = λ x letters clocks course tree session up stands ow
     (λ some_past some keeps among. g.met.S.Store.loses store x some_past some keeps among)
     (λ some_past one other place hold other_hold keeps has has_other ne is is_other. g.met.O.Owners.apart c.give_up.new.self some_past one other place hold other_hold keeps has has_other ne is is_other)
     (λ truth hints t place stood is. g.met.E.Engine.hints_at engine truth hints t place stood is)
-    (block_there _ before.cache.areas made.areas (e.areas engine) block joined.areas joined.engine c.let_go.ensures.is_block)
+    (block_there _ before.cache.areas made.areas (e.areas engine) block ready.areas ready.engine c.let_go.ensures.is_block)
     (λ other. (c.give_up.ensures.own other).0) both.0.stands both.0.may (λ write has is. absurd (none write has is))
     (given_at made.devices made.areas course.register.chain (IsOfNode g.O.Owners.by_boot clocks) (λ n. course.store.told.knew (Node n)) node session row.0 row.1 row.2 is_of course.owners.holding both.0.holding course.owners.floor block index
     (g.O.Owners.hold owners node block) both.0.may holds same_index) in
@@ -100,25 +101,18 @@ returns-clause-goes g c =
 pub returns-clause-gives : goal.returns-clause-gives
 returns-clause-gives g c = on_ok_weaker c.give_up.result (λ all. (all.0, all.1.0, all.1.1)) (both_ok _ _ c.give_up.result c.give_up.ensures.passes_on (both_ok _ _ c.give_up.result c.give_up.ensures.gone c.give_up.ensures.asks))
 
-pub returns-clause-joined : goal.returns-clause-joined
-returns-clause-joined g c =
+pub returns-clause-ready : goal.returns-clause-ready
+returns-clause-ready g c =
     let items = c.args.self.now.machines.items in
     let node = c.args.node in
-    let store = c.args.self.now.store in
-    let made = g.S.Store.made store in
+    let made = g.S.Store.made c.args.self.now.store in
     let areas = g.E.Engine.areas c.args.self.now.engine in
-    let own = g.O.Owners.own c.args.self.now.owners node in
+    let asked = g.S.Store.asked c.args.self.now.store node in
     let before = c.index_mut.result.now in
     let after = c.let_go.new.self in
     let was : slice_get items node ≡ Some before = slice_get-get_or items node before c.requires.there.0 ∙ ap (λ (m : Machine). Some m) (sym c.index_mut.ensures.value) in
-    let joined = subst (λ (m : Option Machine). IfSome m (IsJoined made areas own (g.S.Store.own store node) (g.S.Store.asked store node))) was c.requires.joined in
-    let goes = c.let_go.ensures in
-    on_ok_weaker c.give_up.result
-    (λ sent. subst (λ (m : Option Machine). IfSome m (IsJoined made areas (g.O.Owners.own c.give_up.new.self node) (g.S.Store.own store node) (g.S.Store.asked store node))) (sym (set_here items node after before was))
-    (joined_then made made areas own (g.O.Owners.own c.give_up.new.self node) (g.S.Store.own store node) (g.S.Store.own store node) (g.S.Store.asked store node) (g.S.Store.asked store node) before after joined
-    refl (c.give_up.ensures.own node).0 refl goes.same.devices goes.same.areas
-    (fits_let_go made areas c.args.block own (g.S.Store.own store node) (g.S.Store.asked store node) before after joined (ap (λ (m : Machine). m.fetch) goes.only))))
-    c.give_up.ensures.sent
+    ok_so _ c.give_up.result (put_there (IsReady made areas asked) items node after before was
+    (ready_let_go made areas asked before after (of_there (IsReady made areas asked) (slice_get items node) before was c.requires.ready) c.args.block c.let_go.ensures))
 
 pub returns-clause-rests : goal.returns-clause-rests
 returns-clause-rests g c =
@@ -127,12 +121,8 @@ returns-clause-rests g c =
     let before = c.index_mut.result.now in
     let after = c.let_go.new.self in
     let was : slice_get items node ≡ Some before = slice_get-get_or items node before c.requires.there.0 ∙ ap (λ (m : Machine). Some m) (sym c.index_mut.ensures.value) in
-    let goes = subst (λ (m : Option Machine). IfSome m (λ old. IfSome (slice_get (slice_set items node after) node) (LetsGo c.args.block old))) (sym was)
-    (subst (λ (m : Option Machine). IfSome m (LetsGo c.args.block before)) (sym (set_here items node after before was)) c.let_go.ensures) in
-    on_ok_weaker c.give_up.result
-    (λ sent. rests_if (slice_get items node) (slice_get (slice_set items node after) node) (λ (a b : Machine). LetsGo c.args.block a b) (is_some_there items node c.requires.there.0)
-    (λ a b lets. (ap (λ (m : Machine). m.stage) lets.only, ap (λ (m : Machine). m.session) lets.only)) c.requires.rests goes)
-    c.give_up.ensures.sent
+    ok_so _ c.give_up.result (put_there (λ (m : Machine). m.stage ≡ Idle) items node after before was
+    (ap (λ (m : Machine). m.stage) c.let_go.ensures.only ∙ of_there (λ (m : Machine). m.stage ≡ Idle) (slice_get items node) before was c.requires.rests))
 
 pub returns-clause-others : goal.returns-clause-others
 returns-clause-others g c = record { others = λ other ne. set_there c.args.self.now.machines.items c.args.node other c.let_go.new.self ne }

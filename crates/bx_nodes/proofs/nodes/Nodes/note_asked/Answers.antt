@@ -2,9 +2,9 @@ use Rattle.std.proofs.Common.{◌≡◌, ◌∙◌, ℕ, Option, Some, IfSome, s
 use Rattle.std.specs.Prelude.{slice_get, slice_set}
 use Rattle.std.proofs.lemmas.Option.{slice_get-get_or}
 use Rattle.bx_facts.specs.Holds.{first_of}
-use Rattle.bx_nodes.specs.Gives.{marked}
-use Rattle.bx_nodes.specs.Seen.{view_of}
-use Rattle.bx_nodes.specs.declared.machine.Machine.{Machine}
+use Rattle.bx_node_steps.specs.Gives.{marked}
+use Rattle.bx_node_steps.specs.Seen.{view_of}
+use Rattle.bx_node_steps.specs.declared.machine.Machine.{Machine}
 use Rattle.bx_nodes.proofs.Machines.{seen_same, set_here, set_there}
 use Rattle.bx_nodes.proofs.nodes.Nodes.note_asked.Goals as goal
 

@@ -2,12 +2,12 @@ use Rattle.std.proofs.Common.{◌≡◌, ◌∙◌, Option, Some, None, refl, ru
 use Rattle.std.specs.Prelude.{slice_get}
 use Rattle.std.proofs.lemmas.Option.{slice_get-get_or}
 use Rattle.bx_facts.specs.Writes.{Sent}
-use Rattle.bx_nodes.specs.Joined.{IsJoined}
-use Rattle.bx_nodes.specs.Logging.{IsLogging, LogGoes, StepsLog}
-use Rattle.bx_nodes.specs.declared.machine.Machine.{Machine}
-use Rattle.bx_nodes.proofs.Fitting.{step_fits, still_logging}
+use Rattle.bx_node_steps.specs.Logging.{LogGoes}
+use Rattle.bx_node_steps.specs.Ready.{IsReady}
+use Rattle.bx_nodes.specs.Sending.{StepsLog}
+use Rattle.bx_node_steps.specs.declared.machine.Machine.{Machine}
+use Rattle.bx_node_steps.proofs.Fitting.{ready_at, step_fits, still_ready}
 use Rattle.bx_nodes.proofs.Machines.{of_there, put_there, set_there, was_there}
-use Rattle.bx_nodes.proofs.Staying.{joined_at, joined_on}
 use Rattle.bx_nodes.proofs.Stepping.{rested, went}
 use Rattle.bx_nodes.proofs.nodes.Nodes.step_log.Goals as goal
 
@@ -42,26 +42,20 @@ returns-in_default-clause-steps g c =
     (subst (λ (out : Option Sent). StepsLog own c.args.until out (g.S.Store.out_of self.store c.args.node) before c.log_on.new.self c.in_ok-runs.field-0.said) (sym none_out)
     (None, subst (λ r. LogGoes before c.log_on.new.self r c.in_ok-runs.field-0.said) c.in_default.is c.in_ok-runs.ensures, none_out)))
 
-pub returns-in_default-clause-logging : goal.returns-in_default-clause-logging
-returns-in_default-clause-logging g c =
+pub returns-in_default-clause-ready : goal.returns-in_default-clause-ready
+returns-in_default-clause-ready g c =
     let self = c.args.self.now in
     let items = self.machines.items in
     let before = c.index_mut.result.now in
     let was : slice_get items c.args.node ≡ Some before = slice_get-get_or items c.args.node before c.requires.there ∙ ap (λ (m : Machine). Some m) (sym c.index_mut.ensures.value) in
     let made = g.S.Store.made self.store in
-    let own = g.S.Store.own self.store c.args.node in
-    put_there (IsLogging made own) items c.args.node c.log_on.new.self before was
-    (still_logging made own before c.log_on.new.self (of_there (IsLogging made own) (slice_get items c.args.node) before was c.requires.logging) c.in_ok-runs.field-0.runs c.in_ok-runs.field-0.said c.in_ok-runs.ensures)
+    let areas = g.E.Engine.areas c.args.self.now.engine in
+    let asked = g.S.Store.asked c.args.self.now.store c.args.node in
+    put_there (IsReady made areas asked) items c.args.node c.log_on.new.self before was
+    (still_ready made areas asked before c.log_on.new.self (of_there (IsReady made areas asked) (slice_get items c.args.node) before was c.requires.ready) c.in_ok-runs.field-0.runs c.in_ok-runs.field-0.said c.in_ok-runs.ensures)
 
 pub returns-in_default-clause-others : goal.returns-in_default-clause-others
 returns-in_default-clause-others g c = record { others = λ other ne. set_there c.args.self.now.machines.items c.args.node other c.log_on.new.self ne }
-
-pub write-requires-clause-session : goal.write-requires-clause-session
-write-requires-clause-session g c =
-    let items = c.args.self.now.machines.items in
-    let before = c.index_mut.result.now in
-    let was : slice_get items c.args.node ≡ Some before = slice_get-get_or items c.args.node before c.requires.there ∙ ap (λ (m : Machine). Some m) (sym c.index_mut.ensures.value) in
-    (of_there (IsLogging (g.S.Store.made c.args.self.now.store) (g.S.Store.own c.args.self.now.store c.args.node)) (slice_get items c.args.node) before was c.requires.logging).session
 
 pub write-requires-clause-runs : goal.write-requires-clause-runs
 write-requires-clause-runs g c =
@@ -69,8 +63,9 @@ write-requires-clause-runs g c =
     let before = c.index_mut.result.now in
     let was : slice_get items c.args.node ≡ Some before = slice_get-get_or items c.args.node before c.requires.there ∙ ap (λ (m : Machine). Some m) (sym c.index_mut.ensures.value) in
     let made = g.S.Store.made c.args.self.now.store in
-    let own = g.S.Store.own c.args.self.now.store c.args.node in
-    step_fits made own before c.log_on.new.self (of_there (IsLogging made own) (slice_get items c.args.node) before was c.requires.logging) c.in-Some.runs c.in_ok-runs.field-0.said
+    let areas = g.E.Engine.areas c.args.self.now.engine in
+    let asked = g.S.Store.asked c.args.self.now.store c.args.node in
+    step_fits made areas asked before c.log_on.new.self (of_there (IsReady made areas asked) (slice_get items c.args.node) before was c.requires.ready) c.in-Some.runs c.in_ok-runs.field-0.said
     (subst (λ r. LogGoes before c.log_on.new.self r c.in_ok-runs.field-0.said) c.in-Some.is c.in_ok-runs.ensures)
 
 pub returns-in_err-write-clause-others : goal.returns-in_err-write-clause-others
@@ -84,7 +79,9 @@ returns-clause-stands g c = λ x letters clocks course tree session up stands ow
     let was : slice_get items c.args.node ≡ Some before = slice_get-get_or items c.args.node before c.requires.there ∙ ap (λ (m : Machine). Some m) (sym c.index_mut.ensures.value) in
     let made = g.S.Store.made self.store in
     let own_is : g.S.Store.own self.store c.args.node ≡ Some session = sym (stands.at.parts.own c.args.node up) ∙ own in
-    let logging = of_there (IsLogging made (g.S.Store.own self.store c.args.node)) (slice_get items c.args.node) before was c.requires.logging in
+    let areas = g.E.Engine.areas c.args.self.now.engine in
+    let asked = g.S.Store.asked c.args.self.now.store c.args.node in
+    let ready = of_there (IsReady made areas asked) (slice_get items c.args.node) before was c.requires.ready in
     let goes = subst (λ r. LogGoes before c.log_on.new.self r c.in_ok-runs.field-0.said) c.in-Some.is c.in_ok-runs.ensures in
     let wrote = c.in_ok-write.ensures in
     went g.G.Register g.O.Owners g.S.Store (g.E.Engine.stands self.engine) (g.E.Engine.step self.engine) self.register self.owners self.store c.write.new.self x letters c.args.out.now c.write.new.out clocks items course tree
@@ -100,7 +97,7 @@ returns-clause-stands g c = λ x letters clocks course tree session up stands ow
     (record { nothing_out = λ y past n s. g.met.S.Store.nothing_out self.store y past n s })
     c.in-Some.runs
     (record {
-      fits = step_fits made (g.S.Store.own self.store c.args.node) before c.log_on.new.self logging c.in-Some.runs c.in_ok-runs.field-0.said goes;
+      fits = step_fits made areas asked before c.log_on.new.self ready c.in-Some.runs c.in_ok-runs.field-0.said goes;
       keeps = λ y past kept is_up may. wrote.keeps y past session kept is_up own_is may;
       goes_on = λ y past kept is_up may. wrote.goes_on y past session kept is_up own_is may;
       is_out = wrote.is_out session own_is;
@@ -110,7 +107,7 @@ returns-clause-stands g c = λ x letters clocks course tree session up stands ow
       sent = wrote.sent;
       made = wrote.made;
     })
-    logging.devices logging.areas (Some c.in-Some.runs) c.in_ok-runs.field-0.said refl goes
+    ready.devices ready.areas (Some c.in-Some.runs) c.in_ok-runs.field-0.said refl goes
 
 pub returns-clause-steps : goal.returns-clause-steps
 returns-clause-steps g c =
@@ -124,50 +121,19 @@ returns-clause-steps g c =
     (subst (λ (out : Option Sent). StepsLog own c.args.until out (g.S.Store.out_of c.write.new.self c.args.node) before c.log_on.new.self c.in_ok-runs.field-0.said) (sym none_out)
     (Some c.in-Some.runs, subst (λ r. LogGoes before c.log_on.new.self r c.in_ok-runs.field-0.said) c.in-Some.is c.in_ok-runs.ensures, λ session own_is. c.in_ok-write.ensures.is_out session own_is)))
 
-pub returns-clause-logging : goal.returns-clause-logging
-returns-clause-logging g c =
+pub returns-clause-ready : goal.returns-clause-ready
+returns-clause-ready g c =
     let self = c.args.self.now in
     let items = self.machines.items in
     let before = c.index_mut.result.now in
     let was : slice_get items c.args.node ≡ Some before = slice_get-get_or items c.args.node before c.requires.there ∙ ap (λ (m : Machine). Some m) (sym c.index_mut.ensures.value) in
     let made = g.S.Store.made self.store in
-    let own = g.S.Store.own self.store c.args.node in
+    let areas = g.E.Engine.areas c.args.self.now.engine in
+    let asked = g.S.Store.asked c.args.self.now.store c.args.node in
     let wrote = c.in_ok-write.ensures in
-    put_there (IsLogging (g.S.Store.made c.write.new.self) (g.S.Store.own c.write.new.self c.args.node)) items c.args.node c.log_on.new.self before was
-    (subst (λ m. IsLogging m (g.S.Store.own c.write.new.self c.args.node) c.log_on.new.self) (sym wrote.made)
-    (subst (λ o. IsLogging made o c.log_on.new.self) (sym (wrote.stays c.args.node).0)
-    (still_logging made own before c.log_on.new.self (of_there (IsLogging made own) (slice_get items c.args.node) before was c.requires.logging) c.in_ok-runs.field-0.runs c.in_ok-runs.field-0.said c.in_ok-runs.ensures)))
+    put_there (IsReady (g.S.Store.made c.write.new.self) areas (g.S.Store.asked c.write.new.self c.args.node)) items c.args.node c.log_on.new.self before was
+    (ready_at made (g.S.Store.made c.write.new.self) areas asked (g.S.Store.asked c.write.new.self c.args.node) c.log_on.new.self wrote.made (wrote.stays c.args.node).1
+    (still_ready made areas asked before c.log_on.new.self (of_there (IsReady made areas asked) (slice_get items c.args.node) before was c.requires.ready) c.in_ok-runs.field-0.runs c.in_ok-runs.field-0.said c.in_ok-runs.ensures))
 
 pub returns-clause-others : goal.returns-clause-others
 returns-clause-others g c = record { others = λ other ne. set_there c.args.self.now.machines.items c.args.node other c.log_on.new.self ne }
-
-pub returns-in_default-clause-joined : goal.returns-in_default-clause-joined
-returns-in_default-clause-joined g c = λ is.
-    let self = c.args.self.now in
-    let items = self.machines.items in
-    let before = c.index_mut.result.now in
-    let was : slice_get items c.args.node ≡ Some before = slice_get-get_or items c.args.node before c.requires.there ∙ ap (λ (m : Machine). Some m) (sym c.index_mut.ensures.value) in
-    let made = g.S.Store.made self.store in
-    let areas = g.E.Engine.areas self.engine in
-    let own = g.O.Owners.own self.owners c.args.node in
-    let own_store = g.S.Store.own self.store c.args.node in
-    let asked = g.S.Store.asked self.store c.args.node in
-    put_there (IsJoined made areas own own_store asked) items c.args.node c.log_on.new.self before was
-    (joined_on made areas own own_store asked before c.log_on.new.self (of_there (IsJoined made areas own own_store asked) (slice_get items c.args.node) before was is) c.in_ok-runs.field-0.runs c.in_ok-runs.field-0.said c.in_ok-runs.ensures)
-
-pub returns-clause-joined : goal.returns-clause-joined
-returns-clause-joined g c = λ is.
-    let self = c.args.self.now in
-    let items = self.machines.items in
-    let before = c.index_mut.result.now in
-    let was : slice_get items c.args.node ≡ Some before = slice_get-get_or items c.args.node before c.requires.there ∙ ap (λ (m : Machine). Some m) (sym c.index_mut.ensures.value) in
-    let made = g.S.Store.made self.store in
-    let areas = g.E.Engine.areas self.engine in
-    let own = g.O.Owners.own self.owners c.args.node in
-    let own_store = g.S.Store.own self.store c.args.node in
-    let asked = g.S.Store.asked self.store c.args.node in
-    let later = c.write.new.self in
-    let wrote = c.in_ok-write.ensures in
-    put_there (IsJoined (g.S.Store.made later) areas own (g.S.Store.own later c.args.node) (g.S.Store.asked later c.args.node)) items c.args.node c.log_on.new.self before was
-    (joined_at made (g.S.Store.made later) areas own own_store (g.S.Store.own later c.args.node) asked (g.S.Store.asked later c.args.node) c.log_on.new.self wrote.made (wrote.stays c.args.node).0 (wrote.stays c.args.node).1
-    (joined_on made areas own own_store asked before c.log_on.new.self (of_there (IsJoined made areas own own_store asked) (slice_get items c.args.node) before was is) c.in_ok-runs.field-0.runs c.in_ok-runs.field-0.said c.in_ok-runs.ensures))

@@ -1,4 +1,4 @@
-use Rattle.std.proofs.Common.{◌≡◌, ◌∙◌, ⊎_elim, inl, inr, ℕ, false, Option, Some, IfSome, refl, sym, ap, subst}
+use Rattle.std.proofs.Common.{◌≡◌, ◌≢◌, ◌∙◌, ⊎_elim, inl, inr, ℕ, false, Option, Some, IfSome, sym, ap, subst}
 use Rattle.std.specs.Prelude.{slice_get, slice_set}
 use Rattle.std.proofs.lemmas.Option.{slice_get-get_or}
 use Rattle.std.proofs.lemmas.Result.{on_ok_weaker}
@@ -6,28 +6,23 @@ use Rattle.bx_base.specs.declared.names.Actor.TheVariants.{Node}
 use Rattle.bx_facts.specs.Chains.{last}
 use Rattle.bx_facts.specs.Holds.{Hold, OwnersPast, hold_of, is_exclusive, owners_with}
 use Rattle.bx_node_views.proofs.Knowing as knowing
-use Rattle.bx_nodes.specs.Changing.{LetsGo}
-use Rattle.bx_nodes.specs.Joined.{IsJoined}
-use Rattle.bx_nodes.specs.Seen.{seen}
-use Rattle.bx_nodes.specs.declared.machine.Machine.{Machine}
-use Rattle.bx_nodes.specs.declared.machine.Stage.TheVariants.{Idle}
-use Rattle.bx_nodes.proofs.Joining.{block_there, fits_let_go, joined_then, weak}
+use Rattle.bx_node_steps.specs.Changing.{LetsGo}
+use Rattle.bx_node_steps.specs.Ready.{IsReady}
+use Rattle.bx_node_steps.specs.declared.machine.Fetch.{Fetch}
+use Rattle.bx_node_steps.specs.declared.machine.Fetch.TheVariants as fetches
+use Rattle.bx_node_steps.proofs.Fitting.{ready_let_go}
+use Rattle.bx_nodes.specs.Asks.{IsAsking, IsWanted}
+use Rattle.bx_node_steps.specs.Seen.{seen}
+use Rattle.bx_node_steps.specs.declared.machine.Machine.{Machine}
+use Rattle.bx_node_steps.specs.declared.machine.Stage.TheVariants.{Idle}
+use Rattle.bx_nodes.proofs.Wanting.{asking_ok, block_there, ok_then, reads_left, weak}
 use Rattle.bx_nodes.proofs.LettingGo.{lets_go}
-use Rattle.bx_nodes.proofs.Machines.{both_ok, seen_others, seen_there, set_here, set_there}
+use Rattle.bx_nodes.proofs.Machines.{both_ok, of_there, ok_so, put_there, seen_others, seen_there, set_here, set_there}
 use Rattle.bx_world_chains.proofs.Rows.{lives_row}
 use Rattle.bx_world_standing.specs.Sessions.{IsOfNode}
 use Rattle.bx_world_standing.proofs.Owns.{own_is}
 use Rattle.bx_world_standing.proofs.Told.{own_of_node}
 use Rattle.bx_nodes.proofs.nodes.Nodes.want.Goals as goal
-
-pub want-requires-clause-session : goal.want-requires-clause-session
-want-requires-clause-session g c =
-    let items = c.args.self.now.machines.items in
-    let node = c.args.node in
-    let before = c.index_mut.result.now in
-    let was : slice_get items node ≡ Some before = slice_get-get_or items node before c.requires.there ∙ ap (λ (m : Machine). Some m) (sym c.index_mut.ensures.value) in
-    (subst (λ (m : Option Machine). IfSome m (IsJoined (g.S.Store.made c.args.self.now.store) (g.E.Engine.areas c.args.self.now.engine) (g.O.Owners.own c.args.self.now.owners node) (g.S.Store.own c.args.self.now.store node)
-    (g.S.Store.asked c.args.self.now.store node))) was c.requires.joined).session
 
 pub returns-clause-stands : goal.returns-clause-stands
 returns-clause-stands g c = λ x letters clocks course tree session up stands own live mine.
@@ -45,7 +40,7 @@ returns-clause-stands g c = λ x letters clocks course tree session up stands ow
     let was : slice_get items node ≡ Some before = slice_get-get_or items node before c.requires.there ∙ ap (λ (m : Machine). Some m) (sym c.index_mut.ensures.value) in
     let is_mine : before.session ≡ Some session = subst (λ (m : Option Machine). IfSome m (λ machine. machine.session ≡ Some session)) was mine in
     let rests : before.stage ≡ Idle = subst (λ (m : Option Machine). IfSome m (λ machine. machine.stage ≡ Idle)) was c.requires.rests in
-    let joined = subst (λ (m : Option Machine). IfSome m (IsJoined made (e.areas engine) (g.O.Owners.own owners node) (g.S.Store.own store node) (g.S.Store.asked store node))) was c.requires.joined in
+    let ready = of_there (IsReady made (e.areas engine) (g.S.Store.asked store node)) (slice_get items node) before was c.requires.ready in
     let later = slice_set items node after in
     let past : OwnersPast = record course.owners { told = record course.owners.told { letters = letters } } in
     let same_past : owners_with past c.args.out.now ≡ course.owners = λ i. record course.owners { told = record course.owners.told { letters = sym stands.at.pasts.owners_letters i } } in
@@ -63,7 +58,7 @@ returns-clause-stands g c = λ x letters clocks course tree session up stands ow
     (λ some_past some keeps among. g.met.S.Store.loses store x some_past some keeps among)
     (λ some_past one other place hold other_hold keeps has has_other ne is is_other. g.met.O.Owners.apart c.want.new.self some_past one other place hold other_hold keeps has has_other ne is is_other)
     (λ truth hints t place stood is. g.met.E.Engine.hints_at engine truth hints t place stood is)
-    (block_there _ before.cache.areas made.areas (e.areas engine) at joined.areas joined.engine c.let_go.ensures.is_block)
+    (block_there _ before.cache.areas made.areas (e.areas engine) at ready.areas ready.engine c.let_go.ensures.is_block)
     (λ other. (c.want.ensures.own other).0) both.0.stands both.0.may (λ write has is. shared)
     (knowing.wanted made.devices made.areas course.register.chain (IsOfNode g.O.Owners.by_boot clocks) (λ n. course.store.told.knew (Node n)) node session row.0 row.1 row.2 is_of course.owners.holding both.0.holding course.owners.floor at both.0.may shared))
     (both_ok _ _ c.want.result (c.want.ensures.keeps past session kept (stands.at.pasts.owners_down (Node node) ∙ up) own) c.want.ensures.sent)
@@ -81,27 +76,52 @@ returns-clause-goes g c =
     c.want.ensures.sent
 
 pub returns-clause-wants : goal.returns-clause-wants
-returns-clause-wants g c = on_ok_weaker c.want.result (λ both. (both.0, ⊎_elim (λ one. inl one) (λ spent. inr (spent.0, spent.3)) both.1)) (both_ok _ _ c.want.result c.want.ensures.grants c.want.ensures.wants)
+returns-clause-wants g c =
+    let request = g.O.Owners.request c.want.new.self c.args.node c.args.at in
+    let hold = g.O.Owners.hold c.want.new.self c.args.node c.args.at in
+    both_ok _ _ c.want.result c.want.ensures.grants (ok_then _ (IsWanted request hold c.args.mode (g.O.Owners.is_spent c.want.new.self c.args.node)) c.want.result c.want.ensures.wants
+    (⊎_elim (λ one. ok_so _ c.want.result (inl one)) (λ spent. on_ok_weaker c.want.result (λ is. inr is) (c.want.ensures.spent spent.0))))
 
-pub returns-clause-joined : goal.returns-clause-joined
-returns-clause-joined g c =
+pub returns-clause-asks_on : goal.returns-clause-asks_on
+returns-clause-asks_on g c = λ other ne asking.
     let items = c.args.self.now.machines.items in
     let node = c.args.node in
-    let store = c.args.self.now.store in
-    let made = g.S.Store.made store in
-    let areas = g.E.Engine.areas c.args.self.now.engine in
-    let own = g.O.Owners.own c.args.self.now.owners node in
+    let owners = c.args.self.now.owners in
+    let then = c.want.new.self in
+    let knows = (g.G.Register.knows c.args.self.now.register (Node node)).index in
     let before = c.index_mut.result.now in
     let after = c.let_go.new.self in
     let was : slice_get items node ≡ Some before = slice_get-get_or items node before c.requires.there ∙ ap (λ (m : Machine). Some m) (sym c.index_mut.ensures.value) in
-    let joined = subst (λ (m : Option Machine). IfSome m (IsJoined made areas own (g.S.Store.own store node) (g.S.Store.asked store node))) was c.requires.joined in
-    let goes = c.let_go.ensures in
-    on_ok_weaker c.want.result
-    (λ sent. subst (λ (m : Option Machine). IfSome m (IsJoined made areas (g.O.Owners.own c.want.new.self node) (g.S.Store.own store node) (g.S.Store.asked store node))) (sym (set_here items node after before was))
-    (joined_then made made areas own (g.O.Owners.own c.want.new.self node) (g.S.Store.own store node) (g.S.Store.own store node) (g.S.Store.asked store node) (g.S.Store.asked store node) before after joined
-    refl (c.want.ensures.own node).0 refl goes.same.devices goes.same.areas
-    (fits_let_go made areas c.args.at own (g.S.Store.own store node) (g.S.Store.asked store node) before after joined (ap (λ (m : Machine). m.fetch) goes.only))))
-    c.want.ensures.sent
+    let Stood = λ (m : Machine). IsAsking (g.O.Owners.request owners node other) (g.O.Owners.hold owners node other) knows m.fetch (g.O.Owners.is_spent owners node) in
+    let Stands = λ (m : Machine). IsAsking (g.O.Owners.request then node other) (g.O.Owners.hold then node other) knows m.fetch (g.O.Owners.is_spent then node) in
+    let stood = of_there Stood (slice_get items node) before was asking in
+    let reads = λ (some : before.fetch ≢ fetches.Nothing). subst (λ (f : Fetch). f ≢ fetches.Nothing) (sym (ap (λ (m : Machine). m.fetch) c.let_go.ensures.only)) (reads_left c.args.at before.fetch some) in
+    on_ok_weaker c.want.result (λ is. put_there Stands items node after before was is)
+    (asking_ok (g.O.Owners.request owners node other) (g.O.Owners.request then node other) (g.O.Owners.hold owners node other) (g.O.Owners.hold then node other) knows before.fetch after.fetch (g.O.Owners.is_spent owners node) (g.O.Owners.is_spent then node)
+    c.want.result (c.want.ensures.other_blocks node other ne) reads c.want.ensures.spent stood)
+
+pub returns-clause-ready : goal.returns-clause-ready
+returns-clause-ready g c =
+    let items = c.args.self.now.machines.items in
+    let node = c.args.node in
+    let made = g.S.Store.made c.args.self.now.store in
+    let areas = g.E.Engine.areas c.args.self.now.engine in
+    let asked = g.S.Store.asked c.args.self.now.store node in
+    let before = c.index_mut.result.now in
+    let after = c.let_go.new.self in
+    let was : slice_get items node ≡ Some before = slice_get-get_or items node before c.requires.there ∙ ap (λ (m : Machine). Some m) (sym c.index_mut.ensures.value) in
+    ok_so _ c.want.result (put_there (IsReady made areas asked) items node after before was
+    (ready_let_go made areas asked before after (of_there (IsReady made areas asked) (slice_get items node) before was c.requires.ready) c.args.at c.let_go.ensures))
+
+pub returns-clause-rests : goal.returns-clause-rests
+returns-clause-rests g c =
+    let items = c.args.self.now.machines.items in
+    let node = c.args.node in
+    let before = c.index_mut.result.now in
+    let after = c.let_go.new.self in
+    let was : slice_get items node ≡ Some before = slice_get-get_or items node before c.requires.there ∙ ap (λ (m : Machine). Some m) (sym c.index_mut.ensures.value) in
+    ok_so _ c.want.result (put_there (λ (m : Machine). m.stage ≡ Idle) items node after before was
+    (ap (λ (m : Machine). m.stage) c.let_go.ensures.only ∙ of_there (λ (m : Machine). m.stage ≡ Idle) (slice_get items node) before was c.requires.rests))
 
 pub returns-clause-others : goal.returns-clause-others
 returns-clause-others g c = record { others = λ other ne. set_there c.args.self.now.machines.items c.args.node other c.let_go.new.self ne }

@@ -1,13 +1,13 @@
 use Rattle.std.proofs.Common.{◌≡◌, ◌≢◌, ◌⊎◌, inl, inr, ⊎_elim, ◌+◌, ◌∙◌, ℕ, Option, Some, IsSome, sym, subst, arith}
 use Rattle.std.specs.Prelude.{IsSomeAnd}
-use Rattle.bx_facts.specs.Holds.{Hold, Holding, KeepsOthers, owners_with, without_block}
+use Rattle.bx_facts.specs.Holds.{Hold, Holding, KeepsOthers, hold_of, owners_with, without_block}
 use Rattle.bx_plain.specs.Asks.{asks_of}
 use Rattle.bx_plain.specs.Fits.{Fits, own_in}
 use Rattle.bx_plain.specs.Grants.{Grants, IsAnswered}
 use Rattle.bx_plain.specs.Laws.{own_is}
 use Rattle.bx_plain.specs.Rows.{hold_in, want_in}
 use Rattle.bx_plain.proofs.Asking.{alike_then}
-use Rattle.bx_plain.proofs.Granting.{answered_then, grants, held_by_own, wants_then}
+use Rattle.bx_plain.proofs.Granting.{answered_then, grants, held_by_own, same_of, wants_then}
 use Rattle.bx_plain.proofs.Keeping.{asks_wanted, fits_wanted}
 use Rattle.bx_plain.proofs.Stands.{others_then}
 use Rattle.bx_plain.proofs.owners.PlainOwnersOwners.want.Goals as goal
@@ -34,10 +34,19 @@ returns-clause-asks c =
     subst P (sym (c.grant_waiting.ensures.nodes ∙ c.ask.ensures.nodes)) (asks_wanted (own_in c.args.self.now.nodes c.args.node) rows new c.args.block c.args.self.now.nodes alike)
 
 pub returns-clause-requests : goal.returns-clause-requests
-returns-clause-requests c = λ other at apart.
-    let unlike = ⊎_elim (λ (one : other ≢ c.args.node). inl (λ (same : other + 1 ≡ c.from.result + 1). one (omega (arith, same, c.from.ensures)))) inr apart in
-    let was = c.in_ok-ask.ensures.wants (other + 1) at unlike in
-    ⊎_elim (λ none. inl none) (λ same. inr (same ∙ was)) (c.in_ok-grant_waiting.ensures.wants (other + 1) at)
+returns-clause-requests c = λ other apart.
+    let was = c.in_ok-ask.ensures.wants (other + 1) c.args.block (inl (λ (same : other + 1 ≡ c.from.result + 1). apart (omega (arith, same, c.from.ensures)))) in
+    ⊎_elim (λ none. inl none) (λ same. inr (same ∙ was)) (c.in_ok-grant_waiting.ensures.wants (other + 1) c.args.block)
+
+pub returns-clause-other_blocks : goal.returns-clause-other_blocks
+returns-clause-other_blocks c = λ other at apart.
+    let rows = c.args.self.now.rows in
+    let new = c.grant_waiting.new.self.rows in
+    let all = grants (c.from.result + 1) c.args.block rows c.ask.new.self.rows new c.in_ok-ask.ensures.others c.in_ok-grant_waiting.ensures.passes c.in_ok-grant_waiting.ensures.none_left in
+    let alike = λ (session : ℕ). all.elsewhere session at apart in
+    let H : ℕ → Type 0 = λ n. hold_of (own_in n other) (hold_in new) at ≡ hold_of (own_in c.args.self.now.nodes other) (hold_in rows) at in
+    let holds = λ (session : ℕ). (alike session).hold in
+    ((alike (other + 1)).want, subst H (sym (c.grant_waiting.ensures.nodes ∙ c.ask.ensures.nodes)) (same_of (own_in c.args.self.now.nodes other) (hold_in new) (hold_in rows) at holds))
 
 pub returns-clause-wants : goal.returns-clause-wants
 returns-clause-wants c =

@@ -21,10 +21,7 @@ returns-in-Call g c =
       cause = done.cause;
       first = done.first;
       calls = done.calls;
-      later = done.later;
-      keeps_telling = done.keeps_telling;
-      bench_later = same_least _ _ refl;
-      bench_tells = λ tells. tells;
+      goes_on = record { later = done.later; keeps_telling = done.keeps_telling; bench_later = same_least _ _ refl; bench_tells = λ tells. tells };
     }
 
 pub returns-in-Run : goal.returns-in-Run
@@ -48,10 +45,7 @@ returns-in-Run g c =
       cause = IfErr-weaker c.run.result _ _ (λ stop cause. step_printed stop c.args.number _ _ cause) done.cause;
       first = done.first;
       calls = same_most _ _ done.calls;
-      later = done.later;
-      keeps_telling = done.keeps_telling;
-      bench_later = done.bench_later;
-      bench_tells = done.bench_tells;
+      goes_on = done.goes_on;
     }
 
 pub returns-in-Crash : goal.returns-in-Crash
@@ -69,10 +63,7 @@ returns-in-Crash g c =
       cause = IfErr-weaker c.crash.result _ _ (λ stop cause. step_printed stop c.args.number _ _ cause) (done.cause _ _);
       first = unless_write c.crash.result refl;
       calls = same_most _ _ done.calls;
-      later = same_least _ _ refl;
-      keeps_telling = λ tells. tells;
-      bench_later = done.bench_later;
-      bench_tells = done.bench_tells;
+      goes_on = record { later = same_least _ _ refl; keeps_telling = λ tells. tells; bench_later = done.bench_later; bench_tells = done.bench_tells };
     }
 
 pub returns-in-Restart : goal.returns-in-Restart
@@ -92,10 +83,7 @@ returns-in-Restart g c =
       cause = IfErr-weaker c.restart.result _ _ (λ stop cause. step_printed stop c.args.number _ _ cause) done.cause;
       first = done.first;
       calls = same_most _ _ done.calls;
-      later = done.later;
-      keeps_telling = done.keeps_telling;
-      bench_later = done.bench_later;
-      bench_tells = done.bench_tells;
+      goes_on = done.goes_on;
     }
 
 pub returns-in-Tick : goal.returns-in-Tick
@@ -113,10 +101,7 @@ returns-in-Tick g c =
       cause = done.cause _ _;
       first = unless_write c.tick.result refl;
       calls = same_most _ _ done.calls;
-      later = same_least _ _ refl;
-      keeps_telling = λ tells. tells;
-      bench_later = same_least _ _ refl;
-      bench_tells = λ tells. tells;
+      goes_on = record { later = same_least _ _ refl; keeps_telling = λ tells. tells; bench_later = same_least _ _ refl; bench_tells = λ tells. tells };
     }
 
 pub returns-in-Heading : goal.returns-in-Heading

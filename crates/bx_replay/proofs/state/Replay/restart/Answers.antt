@@ -32,10 +32,7 @@ returns-then-is_up g c = record {
   first = refl;
   calls = refl;
   clock = refl;
-  later = same_least _ _ refl;
-  keeps_telling = λ tells. tells;
-  bench_later = same_least _ _ refl;
-  bench_tells = λ tells. tells;
+  goes_on = record { later = same_least _ _ refl; keeps_telling = λ tells. tells; bench_later = same_least _ _ refl; bench_tells = λ tells. tells };
 }
 
 pub returns-in_err-point : goal.returns-in_err-point
@@ -53,10 +50,7 @@ returns-in_err-point g c =
       first = rw (p.1, p.2) refl;
       calls = refl;
       clock = refl;
-      later = same_least _ _ refl;
-      keeps_telling = λ tells. tells;
-      bench_later = c.restart.ensures.later;
-      bench_tells = c.restart.ensures.keeps_telling;
+      goes_on = record { later = same_least _ _ refl; keeps_telling = λ tells. tells; bench_later = c.restart.ensures.later; bench_tells = c.restart.ensures.keeps_telling };
     }
 
 pub returns-in_err-print_lines : goal.returns-in_err-print_lines
@@ -82,10 +76,7 @@ returns-in_err-print_lines g c =
       first = rw (p.1, p.2) why.first;
       calls = refl;
       clock = refl;
-      later = why.later;
-      keeps_telling = why.keeps_telling;
-      bench_later = c.restart.ensures.later;
-      bench_tells = c.restart.ensures.keeps_telling;
+      goes_on = record { later = why.later; keeps_telling = why.keeps_telling; bench_later = c.restart.ensures.later; bench_tells = c.restart.ensures.keeps_telling };
     }
 
 pub returns-in_ok-print_lines-clause-restarts : goal.returns-in_ok-print_lines-clause-restarts

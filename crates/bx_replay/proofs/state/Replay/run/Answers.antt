@@ -42,10 +42,7 @@ returns-then-is_quiet g c =
       first = was.first;
       calls = was.calls;
       clock = was.clock;
-      later = same_least _ _ was.first;
-      keeps_telling = was.sink_tells;
-      bench_later = was.bench_later;
-      bench_tells = was.bench_tells;
+      goes_on = record { later = same_least _ _ was.first; keeps_telling = was.sink_tells; bench_later = was.bench_later; bench_tells = was.bench_tells };
     }
 
 pub loop-preserved : goal.loop-preserved
@@ -119,10 +116,7 @@ returns-in_err-event g c =
       first = rw (p.1, p.2) was.first;
       calls = was.calls;
       clock = was.clock;
-      later = same_least _ _ was.first;
-      keeps_telling = was.sink_tells;
-      bench_later = rises _ _ _ was.bench_later c.round.ensures.later;
-      bench_tells = λ tells. c.round.ensures.keeps_telling (was.bench_tells tells);
+      goes_on = record { later = same_least _ _ was.first; keeps_telling = was.sink_tells; bench_later = rises _ _ _ was.bench_later c.round.ensures.later; bench_tells = λ tells. c.round.ensures.keeps_telling (was.bench_tells tells) };
     }
 
 pub returns-in_err-keep : goal.returns-in_err-keep
@@ -145,10 +139,7 @@ returns-in_err-keep g c =
       first = rw (p.1, p.2) was.first;
       calls = was.calls;
       clock = was.clock;
-      later = same_least _ _ was.first;
-      keeps_telling = was.sink_tells;
-      bench_later = rises _ _ _ was.bench_later c.round.ensures.later;
-      bench_tells = λ tells. c.round.ensures.keeps_telling (was.bench_tells tells);
+      goes_on = record { later = same_least _ _ was.first; keeps_telling = was.sink_tells; bench_later = rises _ _ _ was.bench_later c.round.ensures.later; bench_tells = λ tells. c.round.ensures.keeps_telling (was.bench_tells tells) };
     }
 
 pub returns-in_err-tell : goal.returns-in_err-tell
@@ -176,10 +167,7 @@ returns-in_err-tell g c =
       first = rw (p.1, p.2) (rw was.first at why.first);
       calls = was.calls;
       clock = was.clock;
-      later = rises _ _ _ (same_least _ _ was.first) why.later;
-      keeps_telling = λ tells. why.keeps_telling (was.sink_tells tells);
-      bench_later = rises _ _ _ was.bench_later c.round.ensures.later;
-      bench_tells = λ tells. c.round.ensures.keeps_telling (was.bench_tells tells);
+      goes_on = record { later = rises _ _ _ (same_least _ _ was.first) why.later; keeps_telling = λ tells. why.keeps_telling (was.sink_tells tells); bench_later = rises _ _ _ was.bench_later c.round.ensures.later; bench_tells = λ tells. c.round.ensures.keeps_telling (was.bench_tells tells) };
     }
 
 pub returns : goal.returns
@@ -198,8 +186,5 @@ returns g c =
       first = was.first;
       calls = was.calls;
       clock = was.clock;
-      later = same_least _ _ was.first;
-      keeps_telling = was.sink_tells;
-      bench_later = was.bench_later;
-      bench_tells = was.bench_tells;
+      goes_on = record { later = same_least _ _ was.first; keeps_telling = was.sink_tells; bench_later = was.bench_later; bench_tells = was.bench_tells };
     }

@@ -19,10 +19,7 @@ returns-in_err-clock g c =
       cause = rw (p.1, p.2) (step_turned_away c.in_err-clock.field-0.0 c.args.number _ _ _ _ kept);
       first = unless_write c.from_residual.result refl;
       calls = same_most _ _ refl;
-      later = same_least _ _ refl;
-      keeps_telling = λ tells. tells;
-      bench_later = same_least _ _ refl;
-      bench_tells = λ tells. tells;
+      goes_on = record { later = same_least _ _ refl; keeps_telling = λ tells. tells; bench_later = same_least _ _ refl; bench_tells = λ tells. tells };
     }
 
 pub returns-in_err-act : goal.returns-in_err-act
@@ -42,10 +39,7 @@ returns-in_err-act g c =
       cause = rw (p.1, p.2) why.cause;
       first = rw (p.1, p.2) why.first;
       calls = why.calls;
-      later = why.later;
-      keeps_telling = why.keeps_telling;
-      bench_later = why.bench_later;
-      bench_tells = why.bench_tells;
+      goes_on = why.goes_on;
     }
 
 pub returns : goal.returns
@@ -63,8 +57,5 @@ returns g c =
       cause = tt;
       first = now.first;
       calls = now.calls;
-      later = now.later;
-      keeps_telling = now.keeps_telling;
-      bench_later = now.bench_later;
-      bench_tells = now.bench_tells;
+      goes_on = now.goes_on;
     }

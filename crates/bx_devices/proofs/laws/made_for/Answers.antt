@@ -1,0 +1,11 @@
+use Rattle.bx_devices.proofs.Beginning.{are_new, formatted_for, opening_for}
+use Rattle.bx_devices.proofs.laws.made_for.Goals as goal
+
+pub returns-clause-are_new : goal.returns-clause-are_new
+returns-clause-are_new c = are_new
+
+pub returns-clause-opening : goal.returns-clause-opening
+returns-clause-opening c = opening_for
+
+pub returns-clause-formatted : goal.returns-clause-formatted
+returns-clause-formatted c = formatted_for

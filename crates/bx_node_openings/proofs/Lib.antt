@@ -1,0 +1,4 @@
+pub mod Closed
+pub mod Finds
+pub mod Kept
+pub mod Opens

@@ -1,0 +1,3 @@
+pub mod Drafted
+pub mod Fitting
+pub mod LogSteps

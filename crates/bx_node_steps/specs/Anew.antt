@@ -1,0 +1,51 @@
+-- What becomes of a node whose session is another one than that under which it has what it has.
+use Rattle.std.specs.Prelude.{◌≡◌, ℕ, ◌||◌, Bool, false, true, List, [], Option, Some, None, option_map}
+use Rattle.bx_facts.specs.Chains.{number_in}
+use Rattle.bx_node_steps.specs.Logging.{WaitsOn}
+use Rattle.bx_node_steps.specs.declared.machine.Fetch.TheVariants as fetches
+use Rattle.bx_node_steps.specs.declared.machine.Machine.{Machine}
+use Rattle.bx_node_steps.specs.declared.machine.Stage.{Stage}
+use Rattle.bx_node_steps.specs.declared.machine.Stage.TheVariants as stages
+use Rattle.bx_node_tries.specs.declared.round.Waiting.{Waiting}
+use Rattle.bx_places.specs.Places.{log_device}
+use Rattle.bx_redo.specs.Steps.{closed_log}
+use Rattle.bx_redo.specs.View.{LogView}
+use Rattle.bx_redo.specs.declared.work.Work.{Work}
+use Rattle.bx_redo.specs.declared.work.Work.TheVariants as works
+use Rattle.bx_rows.specs.declared.session.SessionRow.{SessionRow}
+
+-- the log with which a session begins, by its row; without one, that of slot 0
+abbrev pub first_log : ℕ → Option SessionRow → LogView
+first_log devices None = closed_log 0 (log_device 0 devices)
+first_log devices (Some row) = closed_log row.slot (log_device row.slot devices)
+
+-- whether the gate of a record may have been sent
+abbrev pub is_opening : Work → Bool
+is_opening works.Idle = false
+is_opening (works.Body text point) = false
+is_opening (works.Opens point) = true
+is_opening works.Closes = false
+is_opening works.Shuts = false
+
+-- The call of a record that isn't written on: it waits again; where the gate may have been sent nobody may say whether it acted, and it is over.
+abbrev pub left_over : Bool → Waiting × List ℕ → Waiting
+left_over opening call = record call.0 { is_over = call.0.is_over || opening }
+
+abbrev pub waits_again : Work → Stage → Option Waiting
+waits_again work stages.Idle = None
+waits_again work (stages.Records pending) = option_map (left_over (is_opening work)) pending.call
+waits_again work stages.Homes = None
+waits_again work stages.Closes = None
+
+-- A node begins anew under the session of a row, or under none: it has nothing but its calls and hints.
+pub record BeginsAnew (row : Option SessionRow) (old new : Machine) : Type 0 where
+  pub only : new ≡ record {
+    session = number_in row;
+    cache = record old.cache { kept = [] };
+    log = first_log old.cache.devices row;
+    stage = stages.Idle;
+    fetch = fetches.Nothing;
+    calls = new.calls;
+    mark = None;
+  }
+  pub calls : WaitsOn (waits_again old.log.work old.stage) old.calls.items new.calls.items

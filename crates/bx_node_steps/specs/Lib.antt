@@ -1,0 +1,6 @@
+pub mod Anew
+pub mod Changing
+pub mod Gives
+pub mod Logging
+pub mod Ready
+pub mod Seen

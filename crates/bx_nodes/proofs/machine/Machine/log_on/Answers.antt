@@ -1,6 +1,0 @@
-use Rattle.std.proofs.Common.{refl}
-use Rattle.bx_nodes.specs.Logging.{Rests}
-use Rattle.bx_nodes.proofs.machine.Machine.log_on.Goals as goal
-
-pub returns-in-Idle : goal.returns-in-Idle
-returns-in-Idle c = Rests c.in-Idle.is refl

@@ -1,0 +1,192 @@
+use Rattle.std.proofs.Common.{◌≡◌, ◌∙◌, ℕ, ◌<◌, ◌++◌, [], true, false, List, length, Some, IfSome, IsSome, sym, ap, subst, arith, rules, All}
+use Rattle.std.specs.Prelude.{◌==◌, slice_get}
+use Rattle.std.specs.Vec.{vec_len}
+use Rattle.std.proofs.lemmas.Bool.Decides.{nat_tests}
+use Rattle.std.specs.List.{AllByRecursion}
+use Rattle.bx_base.specs.declared.names.Mode.{Mode}
+use Rattle.bx_facts.specs.Chains.{Chain, LivesIn, last}
+use Rattle.bx_node_cache.specs.Kept.{held_in, hint_in}
+use Rattle.bx_node_steps.specs.Ready.{IsReady}
+use Rattle.bx_node_steps.specs.declared.machine.Machine.{Machine}
+use Rattle.bx_node_tries.specs.Tries.{AreNeeded, MayWait}
+use Rattle.bx_node_tries.specs.declared.round.Said.{Said}
+use Rattle.bx_places.specs.Places.{IsBlock}
+use Rattle.bx_nodes.specs.Asks.{KeepsUnneeded}
+use Rattle.bx_nodes.specs.Sending.{BeginsBy}
+use Rattle.bx_nodes.specs.Standing.{Asking, Stand}
+use Rattle.bx_nodes.specs.Turns.{Turned, Waits}
+use Rattle.bx_nodes.proofs.Leading.{later_turned, turned_later, turned_on, turned_still}
+use Rattle.bx_nodes.proofs.Machines.{count_waiting, if_new, if_then, is_some_there, of_there, there_is, under_then}
+use Rattle.bx_nodes.proofs.Turning.{all_need, busy, fewer_wait, rested_there, some_sent, waiting_same}
+use Rattle.bx_nodes.proofs.nodes.Nodes.+rounds.Goals as goal
+
+pub returns-in-Some-clause-stands : goal.returns-in-Some-clause-stands
+returns-in-Some-clause-stands g t c = λ x letters clocks course tree session up stands own ends live mine.
+    let e = g.E.Engine in
+    let node = c.args.node in
+    let items = c.args.self.now.machines.items in
+    let given = c.give_back.new.self in
+    let tried = c.attempt.new.self in
+    let some = is_some_there items node c.requires.there.0 in
+    let less = subst (λ (n : ℕ). node < n) (sym c.in_ok-give_back.ensures.count) c.requires.there.0 in
+    let some_given = is_some_there given.machines.items node less in
+    let some_tried = is_some_there tried.machines.items node (subst (λ (n : ℕ). node < n) (sym c.in_ok-said.ensures.count) less) in
+    let one = c.in_ok-give_back.ensures.stands x letters clocks course tree session up stands own live mine in
+    let mine_then = under_then (slice_get items node) (slice_get given.machines.items node) session some c.in_ok-give_back.ensures.only mine in
+    let own_then = (c.in_ok-give_back.ensures.own node).0 ∙ own in
+    let ends_then = (c.in_ok-give_back.ensures.own node).1 ∙ ends in
+    let live_then = subst (λ (chain : Chain). LivesIn (last chain) session) (sym one.chain) live in
+    let two : Turned (e.step given.engine) (Stand g.G.Register g.O.Owners g.S.Store e tried x (letters ++ c.give_back.new.out) clocks) one.later tree c.in_ok-said.field-0.said.items =
+    c.in_ok-said.ensures.stands x (letters ++ c.give_back.new.out) clocks one.later tree session up one.stands own_then live_then mine_then in
+    let own_two = ap (λ o. g.O.Owners.own o node) c.in_ok-said.ensures.parts.1 ∙ own_then in
+    let ends_two = ap (λ o. g.O.Owners.end_of o node) c.in_ok-said.ensures.parts.1 ∙ ends_then in
+    let live_two = subst (λ (chain : Chain). LivesIn (last chain) session) (sym two.chain) live_then in
+    let mine_two = if_then (slice_get given.machines.items node) (slice_get tried.machines.items node) (λ (a : Machine). a.session ≡ Some session) (λ (a b : Machine). b ≡ record a { calls = b.calls }) (λ (b : Machine). b.session ≡ Some session)
+    some_given (λ a b is only. ap (λ (m : Machine). m.session) only ∙ is) mine_then c.in_ok-said.ensures.only in
+    let three = c.in_ok-begin.ensures.stands x letters clocks two.later two.next session up two.stands own_two ends_two live_two mine_two in
+    let Final = Stand g.G.Register g.O.Owners g.S.Store e c.begin.new.self x (letters ++ c.begin.new.out) clocks in
+    later_turned (e.step c.args.self.now.engine) (λ later. Stand g.G.Register g.O.Owners g.S.Store e given x (letters ++ c.give_back.new.out) clocks later tree) Final course tree c.in_ok-said.field-0.said.items one
+    (subst (λ en. Turned (e.step en) Final one.later tree c.in_ok-said.field-0.said.items) c.in_ok-give_back.ensures.parts.1
+    (turned_still (e.step given.engine) (Stand g.G.Register g.O.Owners g.S.Store e tried x (letters ++ c.give_back.new.out) clocks) Final one.later tree c.in_ok-said.field-0.said.items two (subst (λ en. Turned (e.step en) Final two.later two.next []) c.in_ok-said.ensures.parts.3 three)))
+
+pub returns-in-Some-clause-waits : goal.returns-in-Some-clause-waits
+returns-in-Some-clause-waits g t c =
+    let e = g.E.Engine in
+    let node = c.args.node in
+    let items = c.args.self.now.machines.items in
+    let given = c.give_back.new.self in
+    let tried = c.attempt.new.self in
+    let some = is_some_there items node c.requires.there.0 in
+    let less = subst (λ (n : ℕ). node < n) (sym c.in_ok-give_back.ensures.count) c.requires.there.0 in
+    let some_given = is_some_there given.machines.items node less in
+    let some_tried = is_some_there tried.machines.items node (subst (λ (n : ℕ). node < n) (sym c.in_ok-said.ensures.count) less) in
+    let new = c.begin.new.self in
+    let own = g.S.Store.own tried.store node in
+    let out = g.S.Store.out_of new.store node in
+    let is_own : IsSome own = subst (λ s. IsSome (g.S.Store.own s node)) (sym c.in_ok-said.ensures.parts.2) (subst (λ s. IsSome (g.S.Store.own s node)) (sym c.in_ok-give_back.ensures.parts.2) c.requires.sessions.1) in
+    if_new (slice_get tried.machines.items node) (slice_get new.machines.items node) (BeginsBy c.args.reading c.in-Some.begun own c.args.lease.until out)
+    (Waits g.O.Owners e new.engine node c.args.reading c.args.lease.session out (Asking g.G.Register g.O.Owners new node)) some_tried
+    (λ a b begins. busy g.O.Owners e new.engine given.owners node c.args.reading c.args.lease.session out (Asking g.G.Register g.O.Owners new node) b (some_sent own c.args.lease.until begins.runs out is_own begins.sent))
+    c.in_ok-begin.ensures.begins
+
+pub ask_all-requires-clause-blocks : goal.ask_all-requires-clause-blocks
+ask_all-requires-clause-blocks g t c =
+    let e = g.E.Engine in
+    let node = c.args.node in
+    let items = c.args.self.now.machines.items in
+    let given = c.give_back.new.self in
+    let tried = c.attempt.new.self in
+    let some = is_some_there items node c.requires.there.0 in
+    let less = subst (λ (n : ℕ). node < n) (sym c.in_ok-give_back.ensures.count) c.requires.there.0 in
+    let some_given = is_some_there given.machines.items node less in
+    let some_tried = is_some_there tried.machines.items node (subst (λ (n : ℕ). node < n) (sym c.in_ok-said.ensures.count) less) in
+    let found = there_is given.machines.items node less in
+    let its = there_is tried.machines.items node (subst (λ (n : ℕ). node < n) (sym c.in_ok-said.ensures.count) less) in
+    let ready = of_there (IsReady (g.S.Store.made given.store) (e.areas given.engine) (g.S.Store.asked given.store node)) (slice_get given.machines.items node) found.0 found.1 c.in_ok-give_back.ensures.ready in
+    let same = ap (λ en. e.areas en) c.in_ok-said.ensures.parts.3 ∙ ready.engine ∙ sym (ap (λ s. (g.S.Store.made s).areas) c.in_ok-said.ensures.parts.2) in
+    let needed = of_there (λ (m : Machine). All (AreNeeded e tried.engine (held_in m.cache.kept) (hint_in m.cache.hinted) c.args.reading m.calls.items) c.in_ok-said.field-0.needs.items) (slice_get tried.machines.items node) its.0 its.1
+    c.in_ok-said.ensures.needs in
+    subst (λ (l : List (List (ℕ × Mode))). AllByRecursion (AllByRecursion (λ wanted. IsBlock (g.S.Store.made tried.store).areas wanted.0)) l) (sym c.as_slice.ensures.value)
+    (all_need e tried.engine (held_in its.0.cache.kept) (hint_in its.0.cache.hinted) c.args.reading (g.S.Store.made tried.store).areas its.0.calls.items c.in_ok-said.field-0.needs.items same needed)
+
+pub returns-then-is_empty-clause-stands : goal.returns-then-is_empty-clause-stands
+returns-then-is_empty-clause-stands g t c = λ x letters clocks course tree session up stands own ends live mine.
+    let e = g.E.Engine in
+    let node = c.args.node in
+    let items = c.args.self.now.machines.items in
+    let given = c.give_back.new.self in
+    let tried = c.attempt.new.self in
+    let some = is_some_there items node c.requires.there.0 in
+    let less = subst (λ (n : ℕ). node < n) (sym c.in_ok-give_back.ensures.count) c.requires.there.0 in
+    let some_given = is_some_there given.machines.items node less in
+    let some_tried = is_some_there tried.machines.items node (subst (λ (n : ℕ). node < n) (sym c.in_ok-said.ensures.count) less) in
+    let one = c.in_ok-give_back.ensures.stands x letters clocks course tree session up stands own live mine in
+    let mine_then = under_then (slice_get items node) (slice_get given.machines.items node) session some c.in_ok-give_back.ensures.only mine in
+    let own_then = (c.in_ok-give_back.ensures.own node).0 ∙ own in
+    let ends_then = (c.in_ok-give_back.ensures.own node).1 ∙ ends in
+    let live_then = subst (λ (chain : Chain). LivesIn (last chain) session) (sym one.chain) live in
+    let two : Turned (e.step given.engine) (Stand g.G.Register g.O.Owners g.S.Store e tried x (letters ++ c.give_back.new.out) clocks) one.later tree c.in_ok-said.field-0.said.items =
+    c.in_ok-said.ensures.stands x (letters ++ c.give_back.new.out) clocks one.later tree session up one.stands own_then live_then mine_then in
+    let own_two = ap (λ o. g.O.Owners.own o node) c.in_ok-said.ensures.parts.1 ∙ own_then in
+    let ends_two = ap (λ o. g.O.Owners.end_of o node) c.in_ok-said.ensures.parts.1 ∙ ends_then in
+    let live_two = subst (λ (chain : Chain). LivesIn (last chain) session) (sym two.chain) live_then in
+    let mine_two = if_then (slice_get given.machines.items node) (slice_get tried.machines.items node) (λ (a : Machine). a.session ≡ Some session) (λ (a b : Machine). b ≡ record a { calls = b.calls }) (λ (b : Machine). b.session ≡ Some session)
+    some_given (λ a b is only. ap (λ (m : Machine). m.session) only ∙ is) mine_then c.in_ok-said.ensures.only in
+    let four = c.in_ok-ask_all.ensures.stands x letters clocks two.later two.next session up two.stands own_two live_two mine_two in
+    let Final = Stand g.G.Register g.O.Owners g.S.Store e c.ask_all.new.self x (letters ++ c.ask_all.new.out) clocks in
+    later_turned (e.step c.args.self.now.engine) (λ later. Stand g.G.Register g.O.Owners g.S.Store e given x (letters ++ c.give_back.new.out) clocks later tree) Final course tree c.in_ok-said.field-0.said.items one
+    (subst (λ en. Turned (e.step en) Final one.later tree c.in_ok-said.field-0.said.items) c.in_ok-give_back.ensures.parts.1
+    (turned_later (e.step given.engine) (Stand g.G.Register g.O.Owners g.S.Store e tried x (letters ++ c.give_back.new.out) clocks) Final one.later tree c.in_ok-said.field-0.said.items two four))
+
+pub returns-then-is_empty-clause-waits : goal.returns-then-is_empty-clause-waits
+returns-then-is_empty-clause-waits g t c =
+    let e = g.E.Engine in
+    let node = c.args.node in
+    let items = c.args.self.now.machines.items in
+    let given = c.give_back.new.self in
+    let tried = c.attempt.new.self in
+    let some = is_some_there items node c.requires.there.0 in
+    let less = subst (λ (n : ℕ). node < n) (sym c.in_ok-give_back.ensures.count) c.requires.there.0 in
+    let some_given = is_some_there given.machines.items node less in
+    let some_tried = is_some_there tried.machines.items node (subst (λ (n : ℕ). node < n) (sym c.in_ok-said.ensures.count) less) in
+    let new = c.ask_all.new.self in
+    let out = g.S.Store.out_of new.store node in
+    let needs = c.in_ok-said.field-0.needs.items in
+    let newest = c.newest_asked-newest.result in
+    let waits = subst (λ en. IfSome (slice_get tried.machines.items node) (λ (m : Machine). All (MayWait e en (held_in m.cache.kept) (hint_in m.cache.hinted) c.args.reading newest true needs) m.calls.items)) (sym c.in_ok-ask_all.ensures.parts.1)
+    (c.in_ok-said.ensures.waits c.in_default.is) in
+    rested_there g.O.Owners e new.engine given.owners node c.args.reading c.args.lease.session out (Asking g.G.Register g.O.Owners new node)
+    (slice_get given.machines.items node) (slice_get tried.machines.items node) (slice_get new.machines.items node) newest needs some_given some_tried
+    c.in_ok-give_back.ensures.left c.newest_asked-newest.ensures c.in_ok-said.ensures.only c.in_ok-ask_all.ensures.only
+    (subst (λ (l : List (List (ℕ × Mode))). IfSome (slice_get tried.machines.items node) (λ a. IfSome (slice_get new.machines.items node) (KeepsUnneeded l a))) c.as_slice.ensures.value c.in_ok-ask_all.ensures.keeps)
+    waits
+    (subst (λ (l : List (List (ℕ × Mode))). AllByRecursion (AllByRecursion (λ wanted. Asking g.G.Register g.O.Owners new node wanted.0)) l) c.as_slice.ensures.value c.in_ok-ask_all.ensures.asking)
+
+pub rounds-requires : goal.rounds-requires
+rounds-requires g t c κs within =
+    let e = g.E.Engine in
+    let node = c.args.node in
+    let items = c.args.self.now.machines.items in
+    let given = c.give_back.new.self in
+    let tried = c.attempt.new.self in
+    let some = is_some_there items node c.requires.there.0 in
+    let less = subst (λ (n : ℕ). node < n) (sym c.in_ok-give_back.ensures.count) c.requires.there.0 in
+    let some_given = is_some_there given.machines.items node less in
+    let some_tried = is_some_there tried.machines.items node (subst (λ (n : ℕ). node < n) (sym c.in_ok-said.ensures.count) less) in
+    let same = waiting_same (slice_get items node) (slice_get given.machines.items node) some some_given c.in_ok-give_back.ensures.only in
+    let none : (vec_len c.in_ok-said.field-0.said == 0) ≡ false = sym c.is_empty.ensures ∙ c.if-is_empty.false in
+    let few = c.in_ok-said.field-0.said.ok in
+    let one_said : 0 < length c.in_ok-said.field-0.said.items = grind (arith, nat_tests, none, few) in
+    let fewer = fewer_wait c.args.reading (slice_get given.machines.items node) (slice_get tried.machines.items node) c.in_ok-said.field-0 c.in_ok-said.ensures.goes one_said in
+    let fall : count_waiting (slice_get tried.machines.items node) < count_waiting (slice_get items node) = omega (arith, same, fewer) in
+    search (rules, fall)
+
+pub returns-clause-stands : goal.returns-clause-stands
+returns-clause-stands g t c = λ x letters clocks course tree session up stands own ends live mine.
+    let e = g.E.Engine in
+    let node = c.args.node in
+    let items = c.args.self.now.machines.items in
+    let given = c.give_back.new.self in
+    let tried = c.attempt.new.self in
+    let some = is_some_there items node c.requires.there.0 in
+    let less = subst (λ (n : ℕ). node < n) (sym c.in_ok-give_back.ensures.count) c.requires.there.0 in
+    let some_given = is_some_there given.machines.items node less in
+    let some_tried = is_some_there tried.machines.items node (subst (λ (n : ℕ). node < n) (sym c.in_ok-said.ensures.count) less) in
+    let one = c.in_ok-give_back.ensures.stands x letters clocks course tree session up stands own live mine in
+    let mine_then = under_then (slice_get items node) (slice_get given.machines.items node) session some c.in_ok-give_back.ensures.only mine in
+    let own_then = (c.in_ok-give_back.ensures.own node).0 ∙ own in
+    let ends_then = (c.in_ok-give_back.ensures.own node).1 ∙ ends in
+    let live_then = subst (λ (chain : Chain). LivesIn (last chain) session) (sym one.chain) live in
+    let two : Turned (e.step given.engine) (Stand g.G.Register g.O.Owners g.S.Store e tried x (letters ++ c.give_back.new.out) clocks) one.later tree c.in_ok-said.field-0.said.items =
+    c.in_ok-said.ensures.stands x (letters ++ c.give_back.new.out) clocks one.later tree session up one.stands own_then live_then mine_then in
+    let own_two = ap (λ o. g.O.Owners.own o node) c.in_ok-said.ensures.parts.1 ∙ own_then in
+    let ends_two = ap (λ o. g.O.Owners.end_of o node) c.in_ok-said.ensures.parts.1 ∙ ends_then in
+    let live_two = subst (λ (chain : Chain). LivesIn (last chain) session) (sym two.chain) live_then in
+    let mine_two = if_then (slice_get given.machines.items node) (slice_get tried.machines.items node) (λ (a : Machine). a.session ≡ Some session) (λ (a b : Machine). b ≡ record a { calls = b.calls }) (λ (b : Machine). b.session ≡ Some session)
+    some_given (λ a b is only. ap (λ (m : Machine). m.session) only ∙ is) mine_then c.in_ok-said.ensures.only in
+    let five = c.in_ok-more.ensures.stands x letters clocks two.later two.next session up two.stands own_two ends_two live_two mine_two in
+    let said : List Said = c.in_ok-said.field-0.said.items ++ c.in_ok-more.more.items in
+    let Final = Stand g.G.Register g.O.Owners g.S.Store e c.rounds.new.self x (letters ++ c.rounds.new.out) clocks in
+    later_turned (e.step c.args.self.now.engine) (λ later. Stand g.G.Register g.O.Owners g.S.Store e given x (letters ++ c.give_back.new.out) clocks later tree) Final course tree c.append.new.self.items one
+    (subst (λ en. Turned (e.step en) Final one.later tree c.append.new.self.items) c.in_ok-give_back.ensures.parts.1
+    (subst (λ (l : List Said). Turned (e.step given.engine) Final one.later tree l) (sym c.in_ok-append.ensures.items) (turned_on (e.step given.engine) (Stand g.G.Register g.O.Owners g.S.Store e tried x (letters ++ c.give_back.new.out) clocks) Final one.later tree c.in_ok-said.field-0.said.items c.in_ok-more.more.items two (subst (λ en. Turned (e.step en) Final two.later two.next c.in_ok-more.more.items) c.in_ok-said.ensures.parts.3 five))))

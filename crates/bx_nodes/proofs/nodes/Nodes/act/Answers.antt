@@ -1,0 +1,57 @@
+use Rattle.std.proofs.Common.{◌∙◌, ℕ, ◌<◌, ◌++◌, List, Option, IsSome, refl, sym, ap, subst, arith}
+use Rattle.std.specs.Prelude.{option_to_list, slice_get}
+use Rattle.bx_facts.specs.Chains.{Chain, LivesIn, last}
+use Rattle.bx_node_tries.specs.declared.round.Said.{Said}
+use Rattle.bx_node_views.proofs.Knowing.{lease_lives}
+use Rattle.bx_nodes.specs.Standing.{Stand}
+use Rattle.bx_nodes.specs.Turns.{Turned}
+use Rattle.bx_nodes.proofs.Leading.{turned_on}
+use Rattle.bx_nodes.proofs.Machines.{if_ok_so, is_some_there}
+use Rattle.bx_nodes.proofs.Turning.{rest_there, taken_under, under_there}
+use Rattle.bx_nodes.proofs.nodes.Nodes.act.Goals as goal
+
+pub attempt_turn-requires-clause-busy : goal.attempt_turn-requires-clause-busy
+attempt_turn-requires-clause-busy g c = λ none.
+    let node = c.args.node in
+    let middle = c.receive.new.self in
+    let new = c.step_log.new.self in
+    let less = subst (λ (n : ℕ). node < n) (sym c.in_ok-receive.ensures.count) c.requires.there.0 in
+    let own : IsSome (g.S.Store.own middle.store node) = subst (λ (o : Option ℕ). IsSome o) (sym ((c.in_ok-receive.ensures.store node).0 ∙ c.in-Some.ensures.some.is_stores)) refl in
+    rest_there (g.S.Store.own middle.store node) c.in-Some.lease.until (g.S.Store.out_of middle.store node) (g.S.Store.out_of new.store node) (slice_get middle.machines.items node) (slice_get new.machines.items node) c.in_ok-acked.acked own
+    (is_some_there middle.machines.items node less) c.in_ok-acked.ensures.steps none
+
+pub returns-clause-stands : goal.returns-clause-stands
+returns-clause-stands g c = λ x letters clocks course tree up steady stands.
+    let e = g.E.Engine in
+    let node = c.args.node in
+    let old = c.args.self.now in
+    let middle = c.receive.new.self in
+    let stepped = c.step_log.new.self in
+    let lease = c.in-Some.lease in
+    let has = c.in-Some.ensures.some in
+    let session = lease.session in
+    let some = is_some_there old.machines.items node c.requires.there.0 in
+    let less = subst (λ (n : ℕ). node < n) (sym c.in_ok-receive.ensures.count) c.requires.there.0 in
+    let low = stands.at.pasts.owners_greatest in
+    let high = stands.at.pasts.greatest in
+    let alive = lease_lives g.O.Owners old.owners course.owners node session lease.until c.args.reading
+    (λ past n s end keeps own is. g.met.O.Owners.leases old.owners past n s end keeps own is)
+    (λ past s end keeps has_it late. g.met.O.Owners.lives old.owners past s end keeps has_it late)
+    stands.at.parts.owners_keep has.is_own has.ends (omega (arith, low, high, steady)) has.valid in
+    let live = subst (λ (chain : Chain). LivesIn (last chain) session) stands.at.pasts.owners_chain alive in
+    let one = c.in_ok-receive.ensures.stands x (letters ++ c.args.out.now) clocks course tree session up stands has.is_own live has.is_under in
+    let mine = taken_under (g.S.Store.answer old.store node) (g.S.Store.asked old.store node) (slice_get old.machines.items node) (slice_get middle.machines.items node) session some c.in_ok-receive.ensures.takes has.is_under in
+    let own = ap (λ o. g.O.Owners.own o node) c.in_ok-receive.ensures.parts.1 ∙ has.is_own in
+    let ends = ap (λ o. g.O.Owners.end_of o node) c.in_ok-receive.ensures.parts.1 ∙ has.ends in
+    let two = c.in_ok-acked.ensures.stands x letters clocks course tree session up one own ends live mine in
+    let mine_then = under_there (g.S.Store.own middle.store node) lease.until (g.S.Store.out_of middle.store node) (g.S.Store.out_of stepped.store node) (slice_get middle.machines.items node) (slice_get stepped.machines.items node) c.in_ok-acked.acked session
+    (is_some_there middle.machines.items node less) c.in_ok-acked.ensures.steps mine in
+    let own_then = ap (λ o. g.O.Owners.own o node) c.in_ok-acked.ensures.parts.1 ∙ own in
+    let ends_then = ap (λ o. g.O.Owners.end_of o node) c.in_ok-acked.ensures.parts.1 ∙ ends in
+    let live_then = subst (λ (chain : Chain). LivesIn (last chain) session) (sym two.chain) live in
+    let three = c.in_ok-answers.ensures.stands x letters clocks two.later two.next session up two.stands own_then ends_then live_then mine_then in
+    let Final = Stand g.G.Register g.O.Owners g.S.Store e c.attempt_turn.new.self x (letters ++ c.attempt_turn.new.out) clocks in
+    let both = turned_on (e.step middle.engine) (Stand g.G.Register g.O.Owners g.S.Store e stepped x (letters ++ c.step_log.new.out) clocks) Final course tree (option_to_list c.in_ok-acked.acked) c.in_ok-answers.answers.items two
+    (subst (λ en. Turned (e.step en) Final two.later two.next c.in_ok-answers.answers.items) c.in_ok-acked.ensures.parts.2 three) in
+    let all = subst (λ en. Turned (e.step en) Final course tree (option_to_list c.in_ok-acked.acked ++ c.in_ok-answers.answers.items)) c.in_ok-receive.ensures.parts.2 both in
+    if_ok_so _ _ c.together.result (λ said is. subst (λ (l : List Said). Turned (e.step old.engine) Final course tree l) (sym is) all) c.together.ensures

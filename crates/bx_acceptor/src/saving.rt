@@ -1,6 +1,7 @@
 //! Writing what an acceptor holds into its cell.
 
 ghost use Rattle.std.specs.Prelude.{◌≡◌, ℕ, ◌+◌, ◌^◌, ◌<◌, ◌≤◌, ◌⊎◌, false, true, slice_index, OnOk, IsErrOf};
+ghost use Rattle.bx_disk.specs.Counts.{NoneRose};
 ghost use Rattle.bx_disk.specs.Kept.{CountedOn};
 ghost use Rattle.bx_calls.specs.Calls.{LeavesOnly};
 ghost use Rattle.bx_cell.specs.Images.{EachSure};
@@ -39,6 +40,7 @@ pub(crate) fn save<R: Rack>(
     ensures either { R.tells rack.old → EachSure (R.state rack.old) (Holds cell.old)
         → EachSure (R.state rack.new) (HasEither (R.state rack.old) cell.old.disk 1 cell.old.found (next cell.old.found (held_text held.now))) }
     ensures disks { R.tells rack.old → Writes (R.state rack.old) (R.state rack.new) (R.moment rack.old) (R.moment rack.new) (R.left_since rack.old) (R.left_since rack.new) cell.old.disk }
+    ensures memory_counts { IsErrOf result WantsMemory → NoneRose (R.faults rack.old) (R.faults rack.new) (R.faults_of rack.old) (R.faults_of rack.new) }
     ensures rack { CountedOn R.Rack rack.old rack.new cell.old.disk result DiskFails }
 {
     if !changed {

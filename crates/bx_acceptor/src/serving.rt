@@ -2,11 +2,12 @@
 
 ghost use Rattle.std.specs.Prelude.{◌≡◌, ℕ, ◌+◌, ◌^◌, ◌<◌, ◌≤◌, ◌⊎◌, true, length, slice_index, OnErr, OnOk, IsErrOf};
 ghost use Rattle.bx_base.specs.declared.names.Actor.{Actor};
+ghost use Rattle.bx_disk.specs.Counts.{NoneRose};
 ghost use Rattle.bx_disk.specs.Kept.{CountedOn};
 ghost use Rattle.bx_calls.specs.Calls.{LeavesOnly};
 ghost use Rattle.bx_cell.specs.Images.{EachSure};
 ghost use Rattle.bx_cell.specs.Cells.{HasEither, Holds, next, with_value};
-ghost use Rattle.bx_facts.specs.declared.input.FactError.TheVariants.{Disk as DiskFails};
+ghost use Rattle.bx_facts.specs.declared.input.FactError.TheVariants.{Disk as DiskFails, OutOfMemory as MemoryFails};
 ghost use Rattle.bx_global.specs.Bytes.{IsHeld, held_text};
 ghost use Rattle.bx_packets.specs.Messages.{IsMessage};
 ghost use Rattle.bx_acceptor.specs.Disks.{Writes};
@@ -51,6 +52,7 @@ pub(crate) fn serve<R: Rack>(
     ensures either { R.tells rack.old → EachSure (R.state rack.old) (Holds cell.old)
         → EachSure (R.state rack.new) (HasEither (R.state rack.old) replica 1 cell.old.found (next cell.old.found (held_text held.new))) }
     ensures disks { R.tells rack.old → Writes (R.state rack.old) (R.state rack.new) (R.moment rack.old) (R.moment rack.new) (R.left_since rack.old) (R.left_since rack.new) replica }
+    ensures memory { IsErrOf result MemoryFails → NoneRose (R.faults rack.old) (R.faults rack.new) (R.faults_of rack.old) (R.faults_of rack.new) }
     ensures rack { CountedOn R.Rack rack.old rack.new replica result DiskFails }
 {
     let step = handle(alloc, held, message)?;

@@ -15,8 +15,8 @@ use Rattle.bx_changes.specs.Changes.{IsChange}
 use Rattle.bx_changes.specs.Growing.{HoldsFirst, IfFull, IsChangeBy, IsMaking, NeedsBy}
 use Rattle.bx_changes.specs.declared.error.ChangeError.{ChangeError}
 use Rattle.bx_changes.specs.declared.error.ChangeError.TheVariants.{Stopped, Full}
-use Rattle.bx_create.specs.Lacking.{IfFirst}
-use Rattle.bx_hints.specs.Fitting.{HintsFitAll}
+use Rattle.bx_creating.specs.Lacking.{IfFirst}
+use Rattle.bx_inodes.specs.Fitting.{HintsFitAll}
 use Rattle.bx_inodes.specs.declared.stop.Stop.{Stop}
 use Rattle.bx_inodes.specs.declared.stop.Stop.TheVariants as stops
 use Rattle.bx_inodes.specs.Stops.{NeedsOn, NeverInner}

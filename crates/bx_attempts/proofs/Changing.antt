@@ -8,7 +8,7 @@ use Rattle.bx_changes.specs.Growing.{IsChangeBy, IsMaking, IsNearlyFull, LeavesT
 use Rattle.bx_changes.specs.declared.error.ChangeError.{ChangeError}
 use Rattle.bx_changes.specs.declared.error.ChangeError.TheVariants.{Stopped, Full}
 use Rattle.bx_chunks.specs.Counting.{free_slots}
-use Rattle.bx_hints.specs.Fitting.{HintsFitAll}
+use Rattle.bx_inodes.specs.Fitting.{HintsFitAll}
 use Rattle.bx_inodes.specs.declared.stop.Stop.{Stop}
 use Rattle.bx_inodes.specs.declared.stop.Stop.TheVariants as stops
 use Rattle.bx_inodes.specs.Stands.{Stands}

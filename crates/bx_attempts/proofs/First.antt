@@ -1,11 +1,10 @@
 -- Blocks are to be written first only where the call comes to no error and they prepare it, and a change comes only where nothing is wanted.
 use Rattle.std.proofs.Common.{◌≡◌, ℕ, arith, Bool, true, false, List, [], ◌∷◌, Some, None, refl, sym, ap, ◌∙◌, subst, inl, inr}
 use Rattle.std.specs.Prelude.{◌==◌, if◌then◌else◌, Ok, Err}
-use Rattle.bx_create.specs.Lacking.{IfFirst, MakesPlace, ReadyToEnter}
+use Rattle.bx_creating.specs.Lacking.{IfFirst, MakesPlace, ReadyToEnter, PreparesCreate, ReadyToCreate}
 use Rattle.bx_changes.specs.First.{ComesFirst}
 use Rattle.bx_changes.specs.declared.error.ChangeError.{ChangeError}
 use Rattle.bx_changes.specs.declared.error.ChangeError.TheVariants.{Stopped, Full}
-use Rattle.bx_create.specs.Lacking.{PreparesCreate, ReadyToCreate}
 use Rattle.bx_inodes.specs.declared.stop.Stop.{Stop}
 use Rattle.bx_inodes.specs.declared.stop.Stop.TheVariants as stops
 use Rattle.bx_inodes.specs.Stops.{NeverInner}

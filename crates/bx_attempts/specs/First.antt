@@ -1,7 +1,6 @@
 -- Where an attempt answers blocks to be written first, and where a change.
 use Rattle.std.specs.Prelude.{◌≡◌, ℕ, ◌⊎◌, List, Some}
-use Rattle.bx_create.specs.Lacking.{MakesPlace, ReadyToEnter}
-use Rattle.bx_create.specs.Lacking.{PreparesCreate, ReadyToCreate}
+use Rattle.bx_creating.specs.Lacking.{MakesPlace, ReadyToEnter, PreparesCreate, ReadyToCreate}
 use Rattle.bx_model.specs.declared.call.Args.{Args}
 use Rattle.bx_model.specs.declared.call.Args.TheVariants.{Link, Make, Rename, Set, Symlink, Write}
 use Rattle.bx_model.specs.declared.call.Call.{Call}

@@ -1,6 +1,6 @@
 -- Where an attempt tells of fewer than 8 blocks.
 use Rattle.std.specs.Prelude.{◌≢◌, ℕ}
-use Rattle.bx_create.specs.Lacking.{NoSlotsNear}
+use Rattle.bx_creating.specs.Lacking.{NoSlotsNear}
 use Rattle.bx_model.specs.declared.call.Args.{Args}
 use Rattle.bx_model.specs.declared.call.Args.TheVariants.{Link, Make, Rename, Symlink, Write}
 use Rattle.bx_views.specs.Attempts.{IfActed}

@@ -1,8 +1,8 @@
 -- The path of a call that changes a file tree, over what is held and hinted.
 use Rattle.std.specs.Prelude.{◌≡◌, ◌⊎◌, ℕ}
 use Rattle.bx_base.specs.declared.names.Mode.{Mode}
-use Rattle.bx_create.specs.Creating.{OnCreate}
-use Rattle.bx_create.specs.Making.{OnMaking}
+use Rattle.bx_creating.specs.Paths.{OnCreate}
+use Rattle.bx_creating.specs.Making.{OnMaking}
 use Rattle.bx_entries.specs.Finding.{OnRemoval}
 use Rattle.bx_entries.specs.declared.finding.Removable.TheVariants as removable
 use Rattle.bx_renaming.specs.Linking.{OnLink}

@@ -11,7 +11,7 @@ use crate::replies::{attempted, stopping, with_no_file};
 use crate::times::time_of;
 use bx_base::OutOfMemory;
 use bx_changes::ChangeError;
-use bx_create::{create, mkdir, symlink};
+use bx_creating::{create, mkdir, symlink};
 use bx_entries::{Removable, remove};
 use bx_model::{Args, Call, Reply};
 use bx_records::Draft;

@@ -9,10 +9,9 @@ ghost use Rattle.bx_homes.specs.Reading.{CanRead, ReadsBlocks};
 ghost use Rattle.bx_logs.specs.Members.{AreThere};
 
 use bx_disk::{Rack, RackError};
-use bx_handles::ChunkHandle;
 use bx_homes::Blocks;
 use bx_overlay::{Overlaid, VolumeDisks};
-use bx_places::SLOTS;
+use bx_places::{ChunkHandle, SLOTS};
 use std::alloc::Global;
 
 /// The number of the block of a handle's slot, and the handle in its header, 0 where no block is there. A handle of no slot of the volume

@@ -13,7 +13,7 @@ use Rattle.bx_audit_owners.specs.Words.{HasWord, IsMetChunk}
 use Rattle.bx_audit_slots.proofs.InUse.{area_is, slot_is, small}
 use Rattle.bx_audit_owners.proofs.Owners.{found_stored}
 use Rattle.bx_audit_owners.proofs.Wholes.{mark_of, of_slot}
-use Rattle.bx_handles.specs.Handles.{parts_of}
+use Rattle.bx_places.specs.Handles.{parts_of}
 use Rattle.bx_homes.specs.Slots.{AreBlocks}
 use Rattle.bx_layout.specs.declared.block.Block.{Block}
 use Rattle.bx_layout.specs.Areas.{generation_in, in_use}

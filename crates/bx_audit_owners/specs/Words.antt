@@ -7,8 +7,8 @@ use Rattle.bx_audit_slots.specs.declared.own_blocks.OwnBlock.TheVariants.{Slots,
 use Rattle.bx_audit_owners.specs.Holding.{Holdings}
 use Rattle.bx_audit_owners.specs.Walks.{IsMet}
 use Rattle.bx_audit_trees.specs.Shown.{IsOfSlot}
-use Rattle.bx_handles.specs.declared.chunk_handle.ChunkHandle.{ChunkHandle}
-use Rattle.bx_handles.specs.Handles.{number_of, own_handle, parts_of}
+use Rattle.bx_places.specs.declared.chunk_handle.ChunkHandle.{ChunkHandle}
+use Rattle.bx_places.specs.Handles.{number_of, own_handle, parts_of}
 use Rattle.bx_homes.specs.Slots.{HasHandle}
 use Rattle.bx_layout.specs.declared.area.AreaBlock.{AreaBlock}
 use Rattle.bx_layout.specs.declared.block.Block.{Block}

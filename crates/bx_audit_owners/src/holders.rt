@@ -11,7 +11,7 @@ ghost use Rattle.bx_truth.specs.Chunks.{block_at};
 use bx_audit_bodies::Claim;
 use bx_audit_slots::UsedSlot;
 use bx_audit_trees::{AuditError, torn_at};
-use bx_handles::ChunkHandle;
+use bx_places::ChunkHandle;
 use std::collections::BTreeMap;
 
 /// What has a chunk.

@@ -5,7 +5,7 @@ ghost use Rattle.bx_audit_owners.specs.Holding.{holdings_of};
 ghost use Rattle.bx_audit_owners.specs.Words.{AreWorded, IsFirstTornIn, IsFirstWrongAt, IsIn, IsInOwn, IsRightOwn, IsTornIn, IsTornOwn};
 ghost use Rattle.bx_audit_slots.specs.OwnBlocks.{HasArea};
 ghost use Rattle.bx_audit_trees.specs.Reading.{ReadsChunks};
-ghost use Rattle.bx_handles.specs.Handles.{parts_of};
+ghost use Rattle.bx_places.specs.Handles.{parts_of};
 ghost use Rattle.bx_audit_trees.specs.declared.error.AuditError.TheVariants.{Fault as DiskFailed};
 ghost use Rattle.bx_audit_trees.specs.Errors.{IfTorn};
 ghost use Rattle.bx_homes.specs.Reading.{CanRead};
@@ -15,10 +15,9 @@ use crate::holders::Holders;
 use crate::walks::Walked;
 use bx_audit_slots::{OwnBlock, read_own_blocks};
 use bx_audit_trees::{AuditError, torn_at};
-use bx_handles::ChunkHandle;
 use bx_homes::Blocks;
 use bx_layout::AreaBlock;
-use bx_places::SLOTS;
+use bx_places::{ChunkHandle, SLOTS};
 use std::alloc::Global;
 
 /// Whether the slot of each chunk that the walk from the root met is in use under the chunk's handle, and isn't marked as a dead inode's.

@@ -5,7 +5,7 @@ use Rattle.std.proofs.lemmas.List.Elements.{Contains-push, Contains-push_cases, 
 use Rattle.std.proofs.lemmas.List.Quantifiers.{all_pairs_push}
 use Rattle.bx_audit_slots.specs.declared.slots.UsedSlot.{UsedSlot}
 use Rattle.bx_audit_slots.specs.UsedSlots.{IsUsedSlot, AreUsedBelow, AreUsed, IsFreeMarked, IsHandleOf}
-use Rattle.bx_handles.specs.Handles.{number_of}
+use Rattle.bx_places.specs.Handles.{number_of}
 use Rattle.bx_layout.specs.declared.area.AreaBlock.{AreaBlock}
 use Rattle.bx_layout.specs.Areas.{SpellsArea, in_use, generation_in, is_dead}
 use Rattle.bx_places.specs.Places.{block_area, block_slot}

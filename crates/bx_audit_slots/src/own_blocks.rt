@@ -11,9 +11,9 @@ ghost use Rattle.bx_homes.specs.Reading.{CanRead};
 
 use bx_audit_trees::AuditError;
 use bx_base::OutOfMemory;
-use bx_handles::ChunkHandle;
 use bx_homes::Blocks;
 use bx_layout::{AreaBlock, Block};
+use bx_places::ChunkHandle;
 use std::alloc::Global;
 
 /// The kind of an area's own block.

@@ -13,10 +13,9 @@ ghost use Rattle.bx_homes.specs.Reading.{CanRead};
 
 use crate::own_blocks::{OwnBlock, own_block};
 use bx_audit_trees::AuditError;
-use bx_handles::ChunkHandle;
 use bx_homes::Blocks;
 use bx_layout::AreaBlock;
-use bx_places::SLOTS;
+use bx_places::{ChunkHandle, SLOTS};
 use std::alloc::Global;
 
 /// A slot that is in use.

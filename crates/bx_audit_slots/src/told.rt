@@ -7,8 +7,7 @@ ghost use Rattle.bx_truth.specs.Chunks.{IsChunked};
 ghost use Rattle.bx_views.specs.Truths.{Truth};
 
 use crate::slots::UsedSlot;
-use bx_handles::ChunkHandle;
-use bx_places::SLOTS;
+use bx_places::{ChunkHandle, SLOTS};
 
 /// The number of the block where a reader of a handle looks, and the handle in its header, which is that of the block's slot where slots
 /// are right. A handle of no slot of the volume is told as found in block 0.

@@ -1,6 +1,6 @@
 -- The chunks that blocks are by their headers, as something that gives blocks shows them.
 use Rattle.std.specs.Prelude.{◌≡◌, ◌≢◌, ◌<◌, ℕ, Some, None}
-use Rattle.bx_handles.specs.Handles.{parts_of}
+use Rattle.bx_places.specs.Handles.{parts_of}
 use Rattle.bx_layout.specs.declared.block.Block.{Block}
 use Rattle.bx_truth.specs.Chunks.{block_at}
 use Rattle.bx_truth.specs.PageTrees.{Chunks}

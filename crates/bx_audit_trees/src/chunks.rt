@@ -8,10 +8,9 @@ ghost use Rattle.bx_audit_trees.specs.Reading.{ReadsChunks, StillShows};
 ghost use Rattle.bx_homes.specs.Reading.{CanRead};
 
 use crate::error::AuditError;
-use bx_handles::ChunkHandle;
 use bx_homes::Blocks;
 use bx_layout::Block;
-use bx_places::SLOTS;
+use bx_places::{ChunkHandle, SLOTS};
 
 /// The block that a handle names; torn exactly where it names none.
 pub fn chunk_at<B: Blocks>(blocks: &mut B, areas: u16, handle: u64) -> Result<Block, AuditError>

@@ -17,10 +17,10 @@ ghost use Rattle.bx_homes.specs.Reading.{CanRead};
 use crate::chunks::chunk_at;
 use crate::error::AuditError;
 use bx_base::{OutOfMemory, Raw};
-use bx_handles::ChunkHandle;
 use bx_homes::Blocks;
 use bx_layout::Block;
 use bx_page::Page;
+use bx_places::ChunkHandle;
 use std::alloc::Global;
 use std::marker::Model;
 

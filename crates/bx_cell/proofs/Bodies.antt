@@ -3,8 +3,8 @@ use Rattle.std.proofs.Common.{◌≡◌, ℕ, ◌+◌, ◌*◌, ◌<◌, ◌≤�
 use Rattle.std.proofs.lemmas.List.{take_at, length-append}
 use Rattle.std.proofs.lemmas.Nat.{from_be_bytes-to_be_bytes_4, from_be_bytes-to_be_bytes_8}
 use Rattle.std.proofs.Math.Seq.{take-length, drop-append_seam, take-append_seam}
-use Rattle.bx_fields.specs.Writing.{padded}
-use Rattle.bx_fields.proofs.Whole.{length-padded}
+use Rattle.bx_base.specs.Writing.{padded}
+use Rattle.bx_base.proofs.Whole.{length-padded}
 use Rattle.bx_disk.specs.Disks.{sector_of}
 use Rattle.bx_cell.specs.Halves.{is_open, number_in, length_in, half_at}
 use Rattle.bx_cell.specs.Bytes.{header_text, body_text}

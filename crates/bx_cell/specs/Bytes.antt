@@ -1,7 +1,7 @@
 -- The bytes of a cell: what is written of a half, and what is found in bytes that were read.
 use Rattle.std.specs.Prelude.{ℕ, ◌+◌, ◌*◌, List, ◌++◌, length, take, drop}
 use Rattle.std.specs.Int.{w32, w64, to_be_bytes}
-use Rattle.bx_fields.specs.Writing.{padded}
+use Rattle.bx_base.specs.Writing.{padded}
 use Rattle.bx_cell.specs.Halves.{Found}
 
 -- the header of a half, and the eight sectors of its value

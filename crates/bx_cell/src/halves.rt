@@ -6,7 +6,7 @@ ghost use Rattle.bx_cell.specs.Halves.{is_open, number_in, length_in, half_at, c
 ghost use Rattle.bx_cell.specs.Bytes.{body_text, found_at};
 ghost use Rattle.bx_cell.specs.Formats.{format_text};
 
-use bx_fields::{clear_from, put, put_u32, put_u64};
+use bx_base::{clear_from, put, put_u32, put_u64};
 use bx_layout::Gate;
 use bx_places::SECTOR;
 use byteorder::{BigEndian, ByteOrder};

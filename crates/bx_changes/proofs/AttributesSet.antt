@@ -4,7 +4,7 @@ use Rattle.std.specs.Prelude.{◌==◌, ◌&&◌, ◌||◌, not, nat_lt, if◌th
 use Rattle.bx_changes.specs.Changes.{Changes, IsChange}
 use Rattle.bx_changes.specs.Given.{with_given}
 use Rattle.bx_changes.proofs.FileChanged.{changed_is_put}
-use Rattle.bx_handles.specs.Handles.{named}
+use Rattle.bx_places.specs.Handles.{named}
 use Rattle.bx_inodes.specs.declared.stop.Stop.{Stop}
 use Rattle.bx_inodes.specs.declared.stop.Stop.TheVariants.{Need, Inner, Status, OutOfMemory}
 use Rattle.bx_inodes.specs.Heads.{head_of}

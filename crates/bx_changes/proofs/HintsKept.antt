@@ -2,8 +2,8 @@
 use Rattle.std.proofs.Common.{◌≡◌, ℕ, ◌*◌, ◌+◌, ◌%◌, ◌<◌, arith, Bool, List, [], ◌∷◌, Option, Some, None, refl, sym, ap, ◌∙◌, subst, inl, inr}
 use Rattle.std.specs.Prelude.{◌≢◌, ◌⊎◌, if◌then◌else◌, unwrap_or}
 use Rattle.bx_blink.specs.Hints.{HintsFit}
-use Rattle.bx_hints.specs.Fitting.{Continues, HintsFitAll}
-use Rattle.bx_hints.proofs.Later.{fit_later}
+use Rattle.bx_inodes.specs.Fitting.{Continues, HintsFitAll}
+use Rattle.bx_inodes.proofs.Later.{fit_later}
 use Rattle.bx_inodes.specs.Inodes.{HoldsInode}
 use Rattle.bx_inodes.specs.Writing.{PutsInode}
 use Rattle.bx_layout.specs.Areas.{generation_in}

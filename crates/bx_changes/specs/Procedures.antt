@@ -7,8 +7,8 @@ pub use Rattle.bx_changes.specs.First.{ComesFirst, StopsFirst}
 pub use Rattle.bx_changes.specs.Growing.{HoldsFirst, IfFull, IsChangeBy, IsMaking, NeedsBy}
 pub use Rattle.bx_changes.specs.Stopping.{NeverFirst, StopsByChunks, StopsChange}
 pub use Rattle.bx_chunks.specs.Taking.{NoSlots, OnSlots, TakesSlots}
-pub use Rattle.bx_handles.specs.Handles.{named, parts_of}
-pub use Rattle.bx_hints.specs.Fitting.{HintsFitAll}
+pub use Rattle.bx_places.specs.Handles.{named, parts_of}
+pub use Rattle.bx_inodes.specs.Fitting.{HintsFitAll}
 pub use Rattle.bx_inodes.specs.Inodes.{HoldsInode, IsInodeOf, LiveAt}
 pub use Rattle.bx_inodes.specs.Stands.{Stands}
 pub use Rattle.bx_inodes.specs.Stops.{NeedsOn, NeverInner, OnInode}

@@ -10,10 +10,10 @@ ghost use Rattle.bx_changes.specs.Procedures.{Exclusive, Held, Hints, HintsFitAl
 use crate::given::{is_forbidden, with_given};
 use crate::rewriting::rewritten;
 use bx_base::Mode;
-use bx_handles::named_handle;
 use bx_inodes::{Stop, inode_at};
 use bx_layout::Inode;
 use bx_model::{Call, PERM, Reply, STALE, Sattr};
+use bx_places::named_handle;
 use bx_records::Draft;
 use bx_views::View;
 use std::alloc::Global;

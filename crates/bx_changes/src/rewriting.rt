@@ -2,7 +2,7 @@
 
 ghost use Rattle.std.specs.Prelude.{◌≡◌, ◌<◌, ◌^◌, ℕ, IfOk, IsSome, Some};
 ghost use Rattle.bx_base.specs.declared.names.Mode.TheVariants.{Exclusive};
-ghost use Rattle.bx_hints.specs.Fitting.{HintsFitAll};
+ghost use Rattle.bx_inodes.specs.Fitting.{HintsFitAll};
 ghost use Rattle.bx_inodes.specs.Inodes.{HoldsInode, shown_size};
 ghost use Rattle.bx_layout.specs.Inodes.{IsInode};
 ghost use Rattle.bx_layout.specs.declared.inode.Inode.{Inode as Kept};

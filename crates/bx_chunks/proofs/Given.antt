@@ -1,7 +1,7 @@
 -- The handle of a chunk is given.
 use Rattle.std.proofs.Common.{◌≡◌, ℕ, ◌%◌, ◌^◌, ◌<◌, arith, List, get_or, sym, ap, subst, ◌∙◌}
 use Rattle.bx_base.specs.declared.names.Mode.TheVariants.{Exclusive}
-use Rattle.bx_handles.specs.Handles.{parts_of}
+use Rattle.bx_places.specs.Handles.{parts_of}
 use Rattle.bx_layout.specs.declared.block.Block.{Block}
 use Rattle.bx_layout.specs.Areas.{generation_in, in_use}
 use Rattle.bx_places.specs.Places.{block_area}

@@ -6,8 +6,8 @@ use Rattle.std.proofs.lemmas.List.{length-append, length-replicate, length-set}
 use Rattle.bx_base.specs.Bytes.{words}
 use Rattle.bx_base.specs.declared.names.Mode.{Mode}
 use Rattle.bx_base.specs.declared.names.Mode.TheVariants.{Exclusive, Shared}
-use Rattle.bx_fields.proofs.Whole.{length-padded}
-use Rattle.bx_handles.specs.Handles.{number_of, own_handle, parts_of}
+use Rattle.bx_base.proofs.Whole.{length-padded}
+use Rattle.bx_places.specs.Handles.{number_of, own_handle, parts_of}
 use Rattle.bx_layout.specs.declared.area.AreaBlock.{AreaBlock}
 use Rattle.bx_layout.specs.Areas.{IsArea, area_text, generation_in, with_word}
 use Rattle.bx_layout.specs.Blocks.{HasParts, IsOwn}

@@ -2,7 +2,7 @@
 use Rattle.std.proofs.Common.{◌≡◌, ℕ, ◌+◌, ◌<◌, inl, false, Bool, true, List, [], ◌∷◌, length, get_or, refl, sym, subst, ◌∙◌, arith, suc, cond}
 use Rattle.std.specs.Prelude.{count_by, slice_index}
 use Rattle.std.proofs.lemmas.List.Sums.{sum_by-cons}
-use Rattle.bx_fields.proofs.Whole.{padded_again}
+use Rattle.bx_base.proofs.Whole.{padded_again}
 use Rattle.bx_layout.specs.declared.area.AreaBlock.{AreaBlock}
 use Rattle.bx_layout.specs.declared.block.Block.{Block}
 use Rattle.bx_layout.specs.Areas.{SpellsArea, is_free}

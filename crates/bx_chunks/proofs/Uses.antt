@@ -1,8 +1,8 @@
 -- What is found of a handle.
 use Rattle.std.proofs.Common.{◌≡◌, ℕ, ◌<◌, List, Some, None, Result, Ok, Err, sym, ap, subst, ◌∙◌}
 use Rattle.bx_base.specs.declared.names.Mode.TheVariants.{Exclusive}
-use Rattle.bx_handles.specs.declared.chunk_handle.ChunkHandle.{ChunkHandle}
-use Rattle.bx_handles.specs.Handles.{block_of, parts_of}
+use Rattle.bx_places.specs.declared.chunk_handle.ChunkHandle.{ChunkHandle}
+use Rattle.bx_places.specs.Handles.{block_of, parts_of}
 use Rattle.bx_layout.specs.declared.area.AreaBlock.{AreaBlock}
 use Rattle.bx_layout.specs.declared.block.Block.{Block}
 use Rattle.bx_records.specs.Drafts.{Changed, block_in}

@@ -1,7 +1,7 @@
 -- What allocating answers.
 use Rattle.std.specs.Prelude.{◌≡◌, ℕ, ◌+◌, ◌*◌, ◌%◌, ◌^◌, ◌<◌, ◌≤◌, ◌==◌, if◌then◌else◌, ◌⊎◌, true, false, List, length, slice_index, None, Some, IsSome, Result, Ok, Err}
 use Rattle.bx_base.specs.declared.names.Mode.TheVariants.{Shared, Exclusive}
-use Rattle.bx_handles.specs.Handles.{number_of}
+use Rattle.bx_places.specs.Handles.{number_of}
 use Rattle.bx_layout.specs.declared.area.AreaBlock.{AreaBlock}
 use Rattle.bx_layout.specs.Areas.{generation_in, taken_word, with_word}
 use Rattle.bx_places.specs.Places.{is_block}

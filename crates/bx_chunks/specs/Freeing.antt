@@ -1,8 +1,8 @@
 -- What freeing answers.
 use Rattle.std.specs.Prelude.{◌≡◌, ℕ, ◌<◌, ◌≤◌, ◌==◌, if◌then◌else◌, true, List, length, slice_index, None, Some, Result, Ok, Err}
 use Rattle.bx_base.specs.declared.names.Mode.TheVariants.{Exclusive}
-use Rattle.bx_handles.specs.declared.chunk_handle.ChunkHandle.{ChunkHandle}
-use Rattle.bx_handles.specs.Handles.{parts_of}
+use Rattle.bx_places.specs.declared.chunk_handle.ChunkHandle.{ChunkHandle}
+use Rattle.bx_places.specs.Handles.{parts_of}
 use Rattle.bx_layout.specs.declared.area.AreaBlock.{AreaBlock}
 use Rattle.bx_layout.specs.declared.block.Block.{Block}
 use Rattle.bx_layout.specs.Areas.{in_use, generation_in, freed_word, with_word}

@@ -1,7 +1,7 @@
 -- Marks of dead inodes in the own blocks of areas.
 use Rattle.std.specs.Prelude.{◌≡◌, ℕ, ◌+◌, ◌*◌, ◌<◌, ◌≤◌, ◌⊎◌, Bool, true, false, List, length, None, Some, Option, Result, Ok, Err, slice_index}
 use Rattle.bx_base.specs.declared.names.Mode.TheVariants.{Shared, Exclusive}
-use Rattle.bx_handles.specs.Handles.{number_of, parts_of}
+use Rattle.bx_places.specs.Handles.{number_of, parts_of}
 use Rattle.bx_layout.specs.declared.area.AreaBlock.{AreaBlock}
 use Rattle.bx_layout.specs.declared.block.Block.{Block}
 use Rattle.bx_layout.specs.Areas.{MarksDead, generation_in, is_dead}

@@ -1,7 +1,7 @@
 -- A slot's word and its block put into a draft.
 use Rattle.std.specs.Prelude.{◌≡◌, ℕ, ◌<◌, List, length, replicate, Option, None, Some, Result, Ok, Err}
-use Rattle.bx_fields.specs.Writing.{padded}
-use Rattle.bx_handles.specs.Handles.{number_of, own_handle}
+use Rattle.bx_base.specs.Writing.{padded}
+use Rattle.bx_places.specs.Handles.{number_of, own_handle}
 use Rattle.bx_layout.specs.declared.area.AreaBlock.{AreaBlock}
 use Rattle.bx_layout.specs.declared.block.Block.{Block}
 use Rattle.bx_layout.specs.Areas.{area_text}

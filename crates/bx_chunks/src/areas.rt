@@ -9,8 +9,8 @@ ghost use Rattle.bx_chunks.specs.Areas.{HasNoFree, HasSlots, seen_in};
 ghost use Rattle.bx_chunks.specs.Counting.{HasFreeCount};
 
 use bx_base::{Mode, OutOfMemory};
-use bx_handles::ChunkHandle;
 use bx_layout::{AreaBlock, Block};
+use bx_places::ChunkHandle;
 use bx_records::Draft;
 use bx_views::View;
 use std::alloc::Global;

@@ -1,7 +1,7 @@
 //! Chunks that are freed.
 
 ghost use Rattle.std.specs.Prelude.{◌≡◌, ◌≤◌, ◌<◌, ◌↔◌, ℕ, IsTrue, OnErr};
-ghost use Rattle.bx_handles.specs.Handles.{parts_of};
+ghost use Rattle.bx_places.specs.Handles.{parts_of};
 ghost use Rattle.bx_layout.specs.Areas.{IsArea};
 ghost use Rattle.bx_truth.specs.Chunks.{IsChunked};
 ghost use Rattle.bx_views.specs.Attempts.{IsHeldDraft};
@@ -13,9 +13,8 @@ use crate::areas::{own_block, seen, slots_of};
 use crate::error::ChunkError;
 use crate::putting::put_slot;
 use bx_base::Mode;
-use bx_handles::ChunkHandle;
 use bx_layout::AreaBlock;
-use bx_places::SLOTS;
+use bx_places::{ChunkHandle, SLOTS};
 use bx_records::Draft;
 use bx_views::View;
 use std::alloc::Global;

@@ -10,9 +10,8 @@ ghost use Rattle.bx_chunks.specs.Putting.{PutsAs, empty_of, missing, own_of, slo
 use crate::areas::{AREA, own_block};
 use crate::error::ChunkError;
 use bx_base::{OutOfMemory, Raw};
-use bx_handles::ChunkHandle;
 use bx_layout::{AreaBlock, Block};
-use bx_places::{MOST_BLOCKS, PAYLOAD};
+use bx_places::{ChunkHandle, MOST_BLOCKS, PAYLOAD};
 use bx_records::{Draft, DraftError};
 use std::alloc::Global;
 

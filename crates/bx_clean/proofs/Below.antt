@@ -18,10 +18,10 @@ use Rattle.bx_truth.specs.PageTrees.{HasPage, IsIn, IsInterior, IsLevel, IsNode,
 use Rattle.bx_truth.proofs.Cases.{eq_true}
 use Rattle.bx_views.specs.Truths.{Truth, Held, Hints, with_draft}
 use Rattle.bx_blink.specs.Hints.{Under}
-use Rattle.bx_dead_laws.specs.Shrinking.{HasOneChild, MayReplace}
-use Rattle.bx_dead_laws.proofs.Absorbed.{absorbed, kept_of}
-use Rattle.bx_dead_laws.proofs.Levels.{first_of, levels_apart, none_below}
-use Rattle.bx_dead_laws.proofs.Lowered.{lowered, tree_lowered}
+use Rattle.bx_clean.specs.Shrinking.{HasOneChild, MayReplace}
+use Rattle.bx_clean.proofs.Absorbed.{absorbed, kept_of}
+use Rattle.bx_clean.proofs.Levels.{first_of, levels_apart, none_below}
+use Rattle.bx_clean.proofs.Lowered.{lowered, tree_lowered}
 use Rattle.bx_leaves.proofs.Exchanged.{apart_behind}
 use Rattle.bx_leaves.proofs.Replaced.{with_level}
 use Rattle.bx_clean.specs.Held.{HoldsPage, PageAt}

@@ -17,7 +17,7 @@ use Rattle.bx_views.specs.Truths.{Truth, Held, Hints, with_draft}
 use Rattle.bx_blink.specs.Hints.{Under}
 use Rattle.bx_blink.specs.Places.{IsPlaceOf}
 use Rattle.bx_blink.proofs.Places.{value_here}
-use Rattle.bx_dead_laws.specs.Shrinking.{ShrinksTree}
+use Rattle.bx_clean.specs.Shrinking.{ShrinksTree}
 use Rattle.bx_clean.specs.Pages.{CutsFirst, cuts, cut_empty, cut_memory}
 use Rattle.bx_clean.specs.Falling.{Falls}
 use Rattle.bx_clean.proofs.Fallen.{gone_falls}

@@ -8,7 +8,7 @@ use Rattle.bx_truth.specs.Edits.{ChunkAnew}
 use Rattle.bx_truth.proofs.Cases.{eq_false, eq_true, same_or}
 use Rattle.bx_truth.proofs.Put.{some_not}
 use Rattle.bx_views.specs.Truths.{Truth}
-use Rattle.bx_dead_laws.specs.Shrinking.{ChunkGone}
+use Rattle.bx_clean.specs.Shrinking.{ChunkGone}
 use Rattle.bx_clean.specs.Falling.{Falls}
 
 none_some : (block : Block) → ◌≡◌ {A = Option Block} None (Some block) → ⊥

@@ -6,7 +6,7 @@ use Rattle.bx_chunks.specs.Putting.{empty_of, own_of}
 use Rattle.bx_chunks.specs.declared.error.ChunkError.{ChunkError}
 use Rattle.bx_chunks.specs.declared.error.ChunkError.TheVariants.{Need, Stale, Full, OutOfMemory, Crowded}
 use Rattle.bx_chunks.proofs.Removed.{frees_in}
-use Rattle.bx_handles.specs.Handles.{parts_of}
+use Rattle.bx_places.specs.Handles.{parts_of}
 use Rattle.bx_layout.specs.Areas.{freed_word, with_word}
 use Rattle.bx_layout.specs.declared.block.Block.{Block}
 use Rattle.bx_leaves.specs.Leaves.{PutsPage}
@@ -21,8 +21,8 @@ use Rattle.bx_truth.proofs.Dirs.{keeps_slots}
 use Rattle.bx_truth.proofs.Same.{chunk_is}
 use Rattle.bx_views.specs.Truths.{Truth, Held, IsTruth, with_draft}
 use Rattle.bx_blink.proofs.Sees.{Holds}
-use Rattle.bx_dead_laws.specs.Shrinking.{ChunkGone}
-use Rattle.bx_dead_laws.proofs.Slots.{removes_keeps, slots_steps}
+use Rattle.bx_clean.specs.Shrinking.{ChunkGone}
+use Rattle.bx_clean.proofs.Slots.{removes_keeps, slots_steps}
 use Rattle.bx_clean.specs.Puts.{FreesSlotOf, FreesTo, PutsAndFrees, frees, memory, outside, puts}
 use Rattle.bx_clean.proofs.Found.{IsWant}
 

@@ -6,7 +6,7 @@ use Rattle.bx_chunks.specs.declared.error.ChunkError.{ChunkError}
 use Rattle.bx_chunks.proofs.HeldDrafts.{frees_held, marks_held}
 use Rattle.bx_chunks.specs.Freeing.{own_at}
 use Rattle.bx_chunks.specs.Putting.{empty_of, own_of}
-use Rattle.bx_handles.specs.Handles.{parts_of}
+use Rattle.bx_places.specs.Handles.{parts_of}
 use Rattle.bx_layout.specs.Areas.{freed_word, with_word}
 use Rattle.bx_layout.specs.declared.block.Block.{Block}
 use Rattle.bx_layout.specs.declared.inode.Inode.{Inode}

@@ -1,3 +1,13 @@
+pub mod Given
+pub mod Levels
+pub mod Absorbed
+pub mod Lowered
+pub mod DeadFile
+pub mod DeadTree
+pub mod Slots
+pub mod DeadPiece
+pub mod Bare
+pub mod Gone
 mod Firsts
 mod Takes
 mod Found
@@ -12,3 +22,4 @@ mod WholeFile
 mod Needed
 mod HeldOnes
 mod Told
+mod Fewer

@@ -8,14 +8,14 @@ use Rattle.bx_chunks.specs.Freeing.{LacksBlock as LacksOf, its_area, its_block, 
 use Rattle.bx_chunks.specs.Marking.{MarksAt}
 use Rattle.bx_chunks.specs.declared.error.ChunkError.{ChunkError}
 use Rattle.bx_chunks.specs.declared.error.ChunkError.TheVariants.{Need, Stale, Full, OutOfMemory, Crowded}
-use Rattle.bx_handles.specs.Handles.{parts_of}
+use Rattle.bx_places.specs.Handles.{parts_of}
 use Rattle.bx_layout.specs.declared.inode.Inode.{Inode}
 use Rattle.bx_page.specs.Contents.{Contents}
 use Rattle.bx_places.specs.Places.{block_area, block_slot, is_block}
 use Rattle.bx_records.specs.Drafts.{Changed}
 use Rattle.bx_truth.specs.Chunks.{IsSlot, block_at, own_block}
 use Rattle.bx_views.specs.Truths.{Held}
-use Rattle.bx_clean.specs.Held.{DeadAt, HoldsDead, HoldsPage, LacksBlock, PageAt}
+use Rattle.bx_clean.specs.Held.{DeadAt, HoldsDead, HoldsPage, WantsBlock, PageAt}
 use Rattle.bx_clean.specs.Pages.{AbsorbsNext, CutsFirst, LedBy, StripsPage, cut_empty, cut_memory, cuts, fails, inner, leaf, lead_empty, lead_high, lead_long, lead_memory, lead_none, leads, stops, strip_empty, strip_memory, strips}
 use Rattle.bx_clean.specs.Puts.{FreesSlotOf, FreesTo, PutsAndFrees, frees, memory, outside, puts}
 use Rattle.bx_clean.specs.Tidying.{IsOf, itself, named, next, root}
@@ -52,7 +52,7 @@ module _ (areas : ℕ) (held : Held) (handle : ℕ) where
   abbrev Drafted : Type 0
   Drafted = Result (List Changed) ChunkError
 
-  lacks : (of at : ℕ) (mode : Mode) → IsOf held areas handle of → LacksBlock held areas of at mode → IsNeed areas held handle at mode
+  lacks : (of at : ℕ) (mode : Mode) → IsOf held areas handle of → WantsBlock held areas of at mode → IsNeed areas held handle at mode
   lacks of at mode o l = record {
     is = subst (λ (n : ℕ). is_block areas n ≡ true) (sym l.at_is) (slot_there areas (block_at of) l.slot);
     missing = subst (λ (m : Mode). held at m ≡ None) (sym l.mode_is) (subst (λ (n : ℕ). held n Exclusive ≡ None) (sym l.at_is) l.missing);

@@ -20,8 +20,8 @@ use Rattle.bx_truth.proofs.Cases.{same_or}
 use Rattle.bx_truth.proofs.Dirs.{keeps_slots}
 use Rattle.bx_views.specs.Truths.{Truth, Held, Hints, with_draft}
 use Rattle.bx_blink.specs.Hints.{Under}
-use Rattle.bx_dead_laws.specs.Shrinking.{ShrinksTree}
-use Rattle.bx_dead_laws.proofs.Levels.{level_there, none_below}
+use Rattle.bx_clean.specs.Shrinking.{ShrinksTree}
+use Rattle.bx_clean.proofs.Levels.{level_there, none_below}
 use Rattle.bx_clean.specs.Pages.{StripsPage, strip_empty, strip_memory, strips}
 use Rattle.bx_clean.proofs.Cuts.{StepIn, no_first, shrinks}
 use Rattle.bx_clean.proofs.Firsts.{first_has}

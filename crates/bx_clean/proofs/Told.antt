@@ -19,8 +19,8 @@ use Rattle.bx_truth.specs.Stands.{StandsFor}
 use Rattle.bx_truth.proofs.Put.{some_there}
 use Rattle.bx_truth.proofs.Same.{chunk_is}
 use Rattle.bx_views.specs.Truths.{Truth, Held, Hints, IsTruth, with_draft}
-use Rattle.bx_hints.specs.Fitting.{HintsFitAll}
-use Rattle.bx_dead_laws.specs.Cleaning.{Cleans}
+use Rattle.bx_inodes.specs.Fitting.{HintsFitAll}
+use Rattle.bx_clean.specs.Cleaning.{Cleans}
 use Rattle.bx_clean.specs.declared.tidying.Tidied.{Tidied}
 use Rattle.bx_clean.specs.Falling.{Falls}
 use Rattle.bx_clean.specs.Tidying.{HoldsDraft, IsClean, WritesThree, NeedsFor, OnTidyPath, Stops, TidiesAt, TidiesIn, clean, cleans, stopped, unread}

@@ -7,7 +7,7 @@ use Rattle.bx_chunks.specs.Putting.{own_of}
 use Rattle.bx_chunks.specs.declared.error.ChunkError.{ChunkError}
 use Rattle.bx_chunks.specs.declared.error.ChunkError.TheVariants.{Need, Stale, Full, OutOfMemory, Crowded}
 use Rattle.bx_chunks.proofs.Marks.{marks_in}
-use Rattle.bx_handles.specs.Handles.{parts_of}
+use Rattle.bx_places.specs.Handles.{parts_of}
 use Rattle.bx_layout.specs.declared.block.Block.{Block}
 use Rattle.bx_layout.specs.declared.inode.Inode.{Inode}
 use Rattle.bx_leaves.proofs.Members.{in_cases, in_none}
@@ -27,15 +27,15 @@ use Rattle.bx_truth.proofs.Frames.{handle_back}
 use Rattle.bx_truth.proofs.Same.{chunk_is}
 use Rattle.bx_views.specs.Truths.{Truth, Held, Hints, IsTruth, with_draft}
 use Rattle.bx_blink.specs.Hints.{Under}
-use Rattle.bx_hints.specs.Fitting.{HintsFitAll}
-use Rattle.bx_hints.proofs.Pages.{inode_is}
+use Rattle.bx_inodes.specs.Fitting.{HintsFitAll}
+use Rattle.bx_inodes.proofs.Pages.{inode_is}
 use Rattle.bx_inodes.specs.Inodes.{HoldsInode}
-use Rattle.bx_dead_laws.specs.Cleaning.{Cleans}
-use Rattle.bx_dead_laws.proofs.Bare.{tree_freed}
-use Rattle.bx_dead_laws.proofs.DeadFile.{contents, itself, mine, not_inodes}
-use Rattle.bx_dead_laws.proofs.DeadPiece.{piece_freed}
-use Rattle.bx_dead_laws.proofs.DeadTree.{dead_shrinks}
-use Rattle.bx_dead_laws.proofs.Gone.{file_freed}
+use Rattle.bx_clean.specs.Cleaning.{Cleans}
+use Rattle.bx_clean.proofs.Bare.{tree_freed}
+use Rattle.bx_clean.proofs.DeadFile.{contents, itself, mine, not_inodes}
+use Rattle.bx_clean.proofs.DeadPiece.{piece_freed}
+use Rattle.bx_clean.proofs.DeadTree.{dead_shrinks}
+use Rattle.bx_clean.proofs.Gone.{file_freed}
 use Rattle.bx_clean.specs.Held.{HoldsDead, HoldsPage}
 use Rattle.bx_clean.specs.Pages.{CutsFirst}
 use Rattle.bx_clean.specs.Trees.{CleansFile, CleansTree, FreesFile, FreesTree, ShrinksAbove, bare_inode, cuts_root, ends, frees_file, frees_tree, no_inode, no_page, no_room, shrinks, unmarked, with_tree, without_tree}

@@ -21,7 +21,7 @@ pub record HoldsBlock (held : Held) (areas handle : ℕ) (block : Block) : Type 
   pub header : block.handle ≡ handle
 
 -- the block of such a handle isn't held so
-pub record LacksBlock (held : Held) (areas handle at : ℕ) (mode : Mode) : Type 0 where
+pub record WantsBlock (held : Held) (areas handle at : ℕ) (mode : Mode) : Type 0 where
   pub slot : IsSlot areas (block_at handle)
   pub at_is : at ≡ block_at handle
   pub mode_is : mode ≡ Exclusive
@@ -29,7 +29,7 @@ pub record LacksBlock (held : Held) (areas handle at : ℕ) (mode : Mode) : Type
 
 abbrev pub BlockAt : Held → ℕ → ℕ → Result Block ChunkError → Type 0
 BlockAt held areas handle (Ok block) = HoldsBlock held areas handle block
-BlockAt held areas handle (Err (Need at mode)) = LacksBlock held areas handle at mode
+BlockAt held areas handle (Err (Need at mode)) = WantsBlock held areas handle at mode
 BlockAt held areas handle (Err Stale) = IsSlot areas (block_at handle) → NamesAnother (held (block_at handle) Exclusive) handle
 BlockAt held areas handle (Err OutOfMemory) = ⊥
 BlockAt held areas handle (Err (Full spare)) = ⊥
@@ -49,7 +49,7 @@ pub record HoldsNoPage (held : Held) (handle : ℕ) : Type 0 where
 
 abbrev pub PageAt : Held → ℕ → ℕ → Result Contents ChunkError → Type 0
 PageAt held areas handle (Ok page) = HoldsPage held areas handle page
-PageAt held areas handle (Err (Need at mode)) = LacksBlock held areas handle at mode
+PageAt held areas handle (Err (Need at mode)) = WantsBlock held areas handle at mode
 PageAt held areas handle (Err Stale) = IsSlot areas (block_at handle) → HoldsNoPage held handle
 PageAt held areas handle (Err OutOfMemory) = Unit {0}
 PageAt held areas handle (Err (Full spare)) = ⊥
@@ -70,7 +70,7 @@ pub record HoldsNoDead (held : Held) (handle : ℕ) : Type 0 where
 
 abbrev pub DeadAt : Held → ℕ → ℕ → Result Inode ChunkError → Type 0
 DeadAt held areas handle (Ok inode) = HoldsDead held areas handle inode
-DeadAt held areas handle (Err (Need at mode)) = LacksBlock held areas handle at mode
+DeadAt held areas handle (Err (Need at mode)) = WantsBlock held areas handle at mode
 DeadAt held areas handle (Err Stale) = IsSlot areas (block_at handle) → HoldsNoDead held handle
 DeadAt held areas handle (Err OutOfMemory) = Unit {0}
 DeadAt held areas handle (Err (Full spare)) = ⊥

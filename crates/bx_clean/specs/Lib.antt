@@ -1,6 +1,9 @@
+pub mod Cleaning
+pub mod Shrinking
 pub mod Falling
 pub mod Held
 pub mod Pages
 pub mod Puts
 pub mod Tidying
 pub mod Trees
+pub mod Used

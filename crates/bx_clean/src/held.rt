@@ -11,10 +11,9 @@ ghost use Rattle.bx_clean.specs.Held.{BlockAt, DeadAt, PageAt};
 use bx_base::{Mode, OutOfMemory};
 use bx_blink::{block_at, page_in};
 use bx_chunks::ChunkError;
-use bx_handles::AREA_NUMBERS;
 use bx_layout::{Block, Inode};
 use bx_page::Page;
-use bx_places::SLOTS;
+use bx_places::{AREA_NUMBERS, SLOTS};
 use bx_views::View;
 use std::alloc::Global;
 

@@ -6,9 +6,9 @@ use Rattle.bx_entries.specs.Finding.{DirectoryFor, IsDirectoryOf, MayUse, usable
 use Rattle.bx_entries.specs.declared.finding.Removable.TheVariants as of
 use Rattle.bx_entries.proofs.Found.{is_a_directory, uses}
 use Rattle.bx_entries.proofs.RemovedFrom.{IsListed, listed}
-use Rattle.bx_hints.specs.Fitting.{HintsFitAll}
-use Rattle.bx_hints.proofs.Pages.{inode_is}
-use Rattle.bx_handles.specs.Handles.{named}
+use Rattle.bx_inodes.specs.Fitting.{HintsFitAll}
+use Rattle.bx_inodes.proofs.Pages.{inode_is}
+use Rattle.bx_places.specs.Handles.{named}
 use Rattle.bx_inodes.specs.Stands.{Stands}
 use Rattle.bx_inodes.specs.declared.stop.Stop.{Stop}
 use Rattle.bx_inodes.specs.declared.stop.Stop.TheVariants.{Need, Inner, Status, OutOfMemory}

@@ -4,4 +4,8 @@ pub mod Found
 pub mod Created
 pub mod NewFiles
 pub mod First
-pub use Rattle.bx_adding.proofs.Lacks
+pub mod NamesThere
+pub mod SizeSet
+pub mod CreateWhole
+pub mod Needed
+pub use Rattle.bx_entries.proofs.Lacks

@@ -1,7 +1,7 @@
 -- Files that are made over a view with no draft: they are never crowded, and where no slot is left they tell fewer than 8.
 use Rattle.std.proofs.Common.{◌≡◌, ℕ, ◌≤◌, arith, List, [], length, sym, subst, inl, inr, refl}
 use Rattle.std.specs.Prelude.{Err, Ok}
-use Rattle.bx_adding.proofs.Stopped.{inode_more}
+use Rattle.bx_entries.proofs.Stopped.{inode_more}
 use Rattle.bx_base.specs.declared.names.Mode.{Mode}
 use Rattle.bx_changes.specs.Growing.{IfFull, NeedsBy}
 use Rattle.bx_changes.specs.declared.error.ChangeError.{ChangeError}

@@ -1,9 +1,9 @@
 -- A new file placed in a directory, by the steps: room, the file, the entry.
 use Rattle.std.proofs.Common.{◌≡◌, ℕ, List, [], Option, Some, None, sym, ap, ◌∙◌, arith}
 use Rattle.std.specs.Prelude.{◌≢◌, ◌==◌, Err}
-use Rattle.bx_adding.specs.Entering.{Enters, EntersIn, MayEnter}
-use Rattle.bx_adding.specs.Finding.{IsReadyFor, RoomIn}
-use Rattle.bx_adding.proofs.Kept.{rooms_kept}
+use Rattle.bx_entries.specs.Entering.{Enters, EntersIn, MayEnter}
+use Rattle.bx_entries.specs.RoomFinding.{IsReadyFor, RoomIn}
+use Rattle.bx_entries.proofs.Kept.{rooms_kept}
 use Rattle.bx_changes.specs.declared.error.ChangeError.{ChangeError}
 use Rattle.bx_changes.specs.declared.error.ChangeError.TheVariants.{Stopped, Full}
 use Rattle.bx_entries.specs.Finding.{IsDirectoryOf}

@@ -6,7 +6,7 @@ use Rattle.bx_blink.specs.Walks.{reads_with}
 use Rattle.bx_entries.specs.Finding.{IsDirectoryOf}
 use Rattle.bx_entries.specs.declared.taking.Known.{Known}
 use Rattle.bx_files.specs.Paths.{OnSearch}
-use Rattle.bx_handles.specs.Handles.{named}
+use Rattle.bx_places.specs.Handles.{named}
 use Rattle.bx_inodes.specs.Inodes.{LiveAt}
 use Rattle.bx_inodes.specs.Stops.{OnInode}
 use Rattle.bx_inodes.specs.declared.stop.Stop.{Stop}
@@ -54,7 +54,7 @@ pub record IsHeldAt (held : Held) (hints : Hints) (volume areas : ℕ) (bytes : 
   pub live : LiveAt (reads_with held hints []) areas handle Exclusive inode
 
 -- the search for a name in it
-pub record OnLooking (held : Held) (hints : Hints) (volume areas : ℕ) (bytes name : List ℕ) (at : ℕ) (mode : Mode) : Type 0 where
+pub record OnNameSearch (held : Held) (hints : Hints) (volume areas : ℕ) (bytes name : List ℕ) (at : ℕ) (mode : Mode) : Type 0 where
   pub handle : ℕ
   pub inode : Inode
   pub is : IsHeldAt held hints volume areas bytes handle inode
@@ -62,4 +62,4 @@ pub record OnLooking (held : Held) (hints : Hints) (volume areas : ℕ) (bytes n
 
 -- the path: the block of the directory's inode, exclusively, and that of the search for the name
 abbrev pub OnFinding : Held → Hints → ℕ → ℕ → List ℕ → List ℕ → ℕ → Mode → Type 0
-OnFinding held hints volume areas bytes name at mode = OnInode volume bytes Exclusive at mode ⊎ OnLooking held hints volume areas bytes name at mode
+OnFinding held hints volume areas bytes name at mode = OnInode volume bytes Exclusive at mode ⊎ OnNameSearch held hints volume areas bytes name at mode

@@ -3,4 +3,7 @@ pub mod Finding
 pub mod Placing
 pub mod Making
 pub mod Creating
-pub use Rattle.bx_adding.specs.Lacking
+pub mod Searching
+pub mod Existing
+pub mod Paths
+pub mod Lacking

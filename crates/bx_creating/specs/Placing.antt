@@ -1,6 +1,6 @@
 -- A new file, and the entry of a directory that names it.
 use Rattle.std.specs.Prelude.{◌≡◌, ℕ, ◌⊎◌, true, List, [], Some, Result, Ok, Err}
-use Rattle.bx_adding.specs.Finding.{OnRoomPath}
+use Rattle.bx_entries.specs.RoomFinding.{OnRoomPath}
 use Rattle.bx_base.specs.declared.names.Mode.{Mode}
 use Rattle.bx_changes.specs.Growing.{IsNearlyFull, LeavesTrees}
 use Rattle.bx_changes.specs.declared.error.ChangeError.{ChangeError}
@@ -9,8 +9,8 @@ use Rattle.bx_chunks.specs.Allocating.{AllocatesAt}
 use Rattle.bx_chunks.specs.Taking.{OnSlots}
 use Rattle.bx_chunks.specs.declared.error.ChunkError.{ChunkError}
 use Rattle.bx_dirs.specs.Changes.{OnAddPath, entry_of}
-use Rattle.bx_handles.specs.Handles.{named, parts_of}
-use Rattle.bx_hints.specs.Fitting.{HintsFitAll}
+use Rattle.bx_places.specs.Handles.{named, parts_of}
+use Rattle.bx_inodes.specs.Fitting.{HintsFitAll}
 use Rattle.bx_inodes.specs.declared.stop.Stop.TheVariants.{Need, Inner, Status, OutOfMemory}
 use Rattle.bx_layout.specs.declared.inode.Inode.{Inode}
 use Rattle.bx_making.specs.Links.{LinksAt}

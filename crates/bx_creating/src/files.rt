@@ -1,7 +1,7 @@
 //! CREATE of a name that isn't there.
 
 ghost use Rattle.std.specs.Prelude.{◌≡◌, ◌≤◌, [], length, Err, IfErr, IfOk};
-ghost use Rattle.bx_adding.specs.Lacking.{FindsBoth, MakesEither};
+ghost use Rattle.bx_entries.specs.Lacking.{FindsBoth, MakesEither};
 ghost use Rattle.bx_changes.specs.Procedures.{ComesFirst, Exclusive, Hints, HintsFitAll, HoldsFirst, IfFull, IsHeldDraft, IsMaking, LiveAt, NeedsBy, NoSlots, Tree, Truth, parts_of, reads_with, with_draft};
 ghost use Rattle.bx_inodes.specs.Heads.{head_of as head_by};
 ghost use Rattle.bx_model.specs.Making.{create_new as create_new_of};
@@ -32,7 +32,7 @@ const MOST_BYTES: u32 = 2147483647;
 /// directory has no number left. `Inner` are blocks that make room for the entry: they come exactly where none of these errors does and room is lacking
 /// in the directory's tree. `Full` comes behind these, where no slot is left near the directory for one that is wanted; then fewer than 8 are free.
 /// `now` is in seconds and microseconds.
-pub fn create_new<V: View>(
+pub(crate) fn create_new<V: View>(
     alloc: Global,
     volume: u64,
     areas: u16,

@@ -8,10 +8,10 @@ ghost use Rattle.bx_truth.specs.Keys.{name_key};
 ghost use Rattle.bx_creating.specs.Finding.{AbsentIn, IsHeldAt, OnFinding, PlaceIn};
 
 use bx_entries::{Known, directory_for, entry_for};
-use bx_handles::named_handle;
 use bx_inodes::Stop;
 use bx_layout::Inode;
 use bx_model::{Call, DQUOT, EXIST, NOENT, STALE, Want};
+use bx_places::named_handle;
 use bx_views::View;
 use std::alloc::Global;
 

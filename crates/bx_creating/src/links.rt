@@ -1,7 +1,7 @@
 //! SYMLINK.
 
 ghost use Rattle.std.specs.Prelude.{◌≡◌, ◌≤◌, length, Err, IfErr, IfOk};
-ghost use Rattle.bx_adding.specs.Lacking.{MakesPlace, NoSlotsNear, ReadyToEnter};
+ghost use Rattle.bx_entries.specs.Lacking.{MakesPlace, NoSlotsNear, ReadyToEnter};
 ghost use Rattle.bx_changes.specs.Procedures.{ComesFirst, Hints, HintsFitAll, HoldsFirst, IfFull, IsHeldDraft, IsMaking, NeedsBy, OnVolume, with_draft};
 ghost use Rattle.bx_model.specs.Making.{symlink as symlink_of};
 ghost use Rattle.bx_creating.specs.Making.{OnMaking};

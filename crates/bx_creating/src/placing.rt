@@ -1,7 +1,7 @@
 //! New files in directories.
 
 ghost use Rattle.std.specs.Prelude.{◌≡◌, ◌≤◌, ℕ, [], length, IfErr, IfOk, IsSome, OnOk};
-ghost use Rattle.bx_adding.specs.Lacking.{FindsBoth, IfFirst, MakesEither};
+ghost use Rattle.bx_entries.specs.Lacking.{FindsBoth, IfFirst, MakesEither};
 ghost use Rattle.bx_changes.specs.Procedures.{Exclusive, HoldsFirst, IfFull, IsHeldDraft, IsInode, IsTruth, NeedsBy, NeverFirst, NoSlots, OnSlots, StandsFor, Tree, Truth, block_at, parts_of};
 ghost use Rattle.bx_chunks.specs.Allocating.{NeedsFairly};
 ghost use Rattle.bx_entries.specs.Finding.{IsDirectoryOf};
@@ -12,13 +12,12 @@ ghost use Rattle.bx_creating.specs.Finding.{IsPlaceFor};
 ghost use Rattle.bx_creating.specs.Inodes.{IsNewBody};
 ghost use Rattle.bx_creating.specs.Placing.{IsFirstNear, IsMade, MadeAt, MakesNew, OnPlacing, PlacesIn};
 
-use bx_adding::{enter, room_for};
 use bx_changes::ChangeError;
 use bx_chunks::ChunkError;
-use bx_entries::Known;
-use bx_handles::ChunkHandle;
+use bx_entries::{Known, enter, room_for};
 use bx_layout::Inode;
 use bx_making::{make, make_link};
+use bx_places::ChunkHandle;
 use bx_records::Draft;
 use bx_tree_files::{DIRECTORY, LINK};
 use bx_views::View;

@@ -9,14 +9,19 @@ ghost use Rattle.bx_tree_files.specs.declared.file.Body.{Body};
 ghost use Rattle.bx_tree_files.specs.Files.{size_of};
 
 use bx_base::{OutOfMemory, Raw};
-use bx_handles::file_handle;
 use bx_layout::Inode;
 use bx_model::Reply;
+use bx_places::file_handle;
 use bx_reads::attributes_by;
 use std::alloc::Global;
 
 /// The file handle and the attributes of the file with a handle, by its inode.
-pub fn told_of(alloc: Global, volume: u64, handle: u64, inode: &Inode) -> Result<Reply, OutOfMemory>
+pub(crate) fn told_of(
+    alloc: Global,
+    volume: u64,
+    handle: u64,
+    inode: &Inode,
+) -> Result<Reply, OutOfMemory>
     ensures { (tree : Tree) (body : Body) → tree.volume ≡ volume → size_of body ≡ shown_size inode.now → size_of body < 2 ^ 31
         → IfOk result (λ reply. reply ≡ handle_reply tree (file_of inode.now handle body)) }
 {

@@ -1,9 +1,10 @@
 -- Lists that are turned round and cut, and tests over them.
-use Rattle.std.proofs.Common.{◌≡◌, ℕ, zero, suc, ◌-◌, ◌≤◌, Bool, true, false, cond, List, [], ◌∷◌, ◌++◌, length, take, drop, Some, inl, inr, refl, sym, ap, ◌∙◌, arith}
+use Rattle.std.proofs.Common.{◌≡◌, ℕ, zero, suc, ◌-◌, ◌≤◌, Bool, true, false, cond, List, [], ◌∷◌, ◌++◌, length, take, drop, Some, inl, inr, refl, sym, ap, subst, ◌∙◌, arith}
 use Rattle.std.specs.Prelude.{◌||◌, ◌⊎◌, map, reverse}
 use Rattle.std.specs.List.{AllByRecursion, find, list_any}
 use Rattle.std.proofs.lemmas.List.{drop_all, length-reverse, reverse-append, take_all, take-append-le}
 use Rattle.std.proofs.lemmas.List.Folds.{list_any-append}
+use Rattle.bx_history.specs.Trace.{IsIn}
 
 turned : {X : Type 0} (x : X) (xs : List X) → reverse (x ∷ xs) ≡ reverse xs ++ x ∷ []
 turned x xs = reverse-append (x ∷ []) xs
@@ -96,3 +97,43 @@ none_any p (x ∷ xs) is = by (p x) refl is (none_any p xs)
     by : (b : Bool) → p x ≡ b → (b || list_any p xs) ≡ false → (list_any p xs ≡ false → AllByRecursion (λ x. p x ≡ false) xs) → (p x ≡ false) × AllByRecursion (λ x. p x ≡ false) xs
     by true test is later = absurd cc
     by false test is later = (test, later is)
+
+-- ---- one of a list
+
+in_either : {X : Type 0} (xs ys : List X) (x : X) → IsIn x (xs ++ ys) → IsIn x xs ⊎ IsIn x ys
+in_either [] ys x is = inr is
+in_either (y ∷ xs) ys x (inl here) = inl (inl here)
+in_either (y ∷ xs) ys x (inr there) = elim (in_either xs ys x there) [ inl first ↦ inl (inr first) | inr second ↦ inr second ]
+
+in_first : {X : Type 0} (xs ys : List X) (x : X) → IsIn x xs → IsIn x (xs ++ ys)
+in_first [] ys x is = absurd is
+in_first (y ∷ xs) ys x (inl here) = inl here
+in_first (y ∷ xs) ys x (inr there) = inr (in_first xs ys x there)
+
+in_second : {X : Type 0} (xs ys : List X) (x : X) → IsIn x ys → IsIn x (xs ++ ys)
+in_second [] ys x is = is
+in_second (y ∷ xs) ys x is = inr (in_second xs ys x is)
+
+pub in_reversed : {X : Type 0} (xs : List X) (x : X) → IsIn x (reverse xs) → IsIn x xs
+in_reversed [] x is = is
+in_reversed (y ∷ xs) x is = by (in_either (reverse xs) (y ∷ []) x (subst (IsIn x) (turned y xs) is)) (in_reversed xs x)
+  where
+    by : IsIn x (reverse xs) ⊎ IsIn x (y ∷ []) → (IsIn x (reverse xs) → IsIn x xs) → IsIn x (y ∷ xs)
+    by (inl there) later = inr (later there)
+    by (inr (inl here)) later = inl here
+    by (inr (inr none)) later = absurd none
+
+pub reversed_in : {X : Type 0} (xs : List X) (x : X) → IsIn x xs → IsIn x (reverse xs)
+reversed_in [] x is = is
+reversed_in (y ∷ xs) x (inl here) = subst (IsIn x) (sym (turned y xs)) (in_second (reverse xs) (y ∷ []) x (inl here))
+reversed_in (y ∷ xs) x (inr there) = subst (IsIn x) (sym (turned y xs)) (in_first (reverse xs) (y ∷ []) x (reversed_in xs x there))
+
+pub in_mapped : {X Y : Type 0} (f : X → Y) (xs : List X) (y : Y) → IsIn y (map f xs) → (x : X) × IsIn x xs × (f x ≡ y)
+in_mapped f [] y is = absurd is
+in_mapped f (x ∷ xs) y (inl here) = (x, inl refl, here)
+in_mapped f (x ∷ xs) y (inr there) = let rest = in_mapped f xs y there in (rest.0, inr rest.1, rest.2)
+
+pub mapped_in : {X Y : Type 0} (f : X → Y) (xs : List X) (x : X) → IsIn x xs → IsIn (f x) (map f xs)
+mapped_in f [] x is = absurd is
+mapped_in f (y ∷ xs) x (inl here) = inl (ap f here)
+mapped_in f (y ∷ xs) x (inr there) = inr (mapped_in f xs x there)

@@ -1,5 +1,6 @@
 -- The calls that wait at a node and the answers that it keeps for repeats, both with the oldest first.
-use Rattle.std.specs.Prelude.{ℕ, Bool, ◌==◌, ◌&&◌, List, [], ◌∷◌, ◌++◌}
+use Rattle.std.specs.Prelude.{ℕ, Bool, ◌==◌, ◌&&◌, not, List, [], ◌∷◌, ◌++◌, filter, Option, Some, None}
+use Rattle.std.specs.List.{find}
 use Rattle.std.specs.Str.{bytes_eq}
 use Rattle.bx_desk.specs.declared.desk.Asked.{Asked}
 use Rattle.bx_replies.specs.Answers.{Answer, with_answer}
@@ -23,10 +24,20 @@ with_call desk asked = record { waits = desk.waits ++ asked ∷ []; kept = desk.
 abbrev pub with_kept : AtDesk → Answer → AtDesk
 with_kept desk answer = record { waits = desk.waits; kept = with_answer desk.kept answer }
 
--- once the oldest of these is answered
-abbrev pub answer_oldest : List Asked → List Answer → List ℕ → AtDesk
-answer_oldest [] kept reply = record { waits = []; kept = kept }
-answer_oldest (asked ∷ rest) kept reply = record { waits = rest; kept = with_answer kept (record { client = asked.client; call = asked.bytes; reply = reply }) }
+-- the call with this number among these
+abbrev pub asked_as : ℕ → List Asked → Option Asked
+asked_as number waits = find (λ asked. number == asked.call) waits
 
-abbrev pub answered : AtDesk → List ℕ → AtDesk
-answered desk reply = answer_oldest desk.waits desk.kept reply
+-- these but the call with this number
+abbrev pub others : ℕ → List Asked → List Asked
+others number waits = filter (λ asked. not (number == asked.call)) waits
+
+-- once this call is answered, which waits, or none
+abbrev pub answer_one : Option Asked → AtDesk → List ℕ → AtDesk
+answer_one None desk reply = desk
+answer_one (Some asked) desk reply =
+    record { waits = others asked.call desk.waits; kept = with_answer desk.kept (record { client = asked.client; call = asked.bytes; reply = reply }) }
+
+-- once the call with this number is answered, where it waits
+abbrev pub answered : AtDesk → ℕ → List ℕ → AtDesk
+answered desk number reply = answer_one (asked_as number desk.waits) desk reply

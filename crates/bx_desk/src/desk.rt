@@ -3,7 +3,7 @@
 ghost use Rattle.std.specs.Prelude.{◌≡◌, ◌++◌, ◌∷◌, length, nat_le, IfOk, OnErr, OnOk};
 ghost use Rattle.std.specs.List.{list_any};
 ghost use Rattle.std.specs.Option.{option_copied};
-ghost use Rattle.bx_desk.specs.Desks.{answered, empty_desk, is_from, with_call, with_kept};
+ghost use Rattle.bx_desk.specs.Desks.{answered, asked_as, empty_desk, is_from, with_call, with_kept};
 ghost use Rattle.bx_replies.specs.Answers.{IsApart, reply_of};
 
 use bx_base::{CallNo, OutOfMemory, Raw};
@@ -97,15 +97,26 @@ impl Desk {
         Ok(())
     }
 
-    /// The oldest call is answered: it waits no more, and the answer is kept. Where none waits nothing changes. After an error the desk isn't used
-    /// again.
-    pub fn answer(&mut self, reply: Raw) -> Result<(), OutOfMemory>
-        ensures { OnOk result (self.new ≡ answered self.old reply) }
+    /// The call with this number is answered: it waits no more, and the answer is kept. Where it doesn't wait nothing changes. After an error the
+    /// desk isn't used again.
+    pub fn answer(&mut self, alloc: Global, call: CallNo, reply: Raw) -> Result<(), OutOfMemory>
+        ensures { OnOk result (self.new ≡ answered self.old call reply) }
     {
-        let Some(asked) = self.calls.pop_front() else {
+        let Some(asked) = self.asked(call) else {
             return Ok(());
         };
-        self.replies.keep(asked.client, asked.bytes, reply)
+        let number = asked.call;
+        let client = asked.client;
+        let bytes = Raw::of(alloc, asked.bytes.bytes())?;
+        self.calls.retain(|other| number != other.call);
+        self.replies.keep(client, bytes, reply)
+    }
+
+    /// The call with this number, where it waits.
+    fn asked(&self, call: CallNo) -> Option<&Asked>
+        ensures { option_copied result ≡ asked_as call self.now.waits }
+    {
+        self.calls.iter().find(|asked| call == asked.call)
     }
 
     /// A call is answered that never waited: the answer is kept, and what waits waits on. After an error the desk isn't used again.

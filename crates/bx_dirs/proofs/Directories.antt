@@ -14,8 +14,8 @@ use Rattle.bx_truth.specs.Stored.{HasBody, IsDirectory, Stored}
 use Rattle.bx_truth.proofs.Put.{shown}
 use Rattle.bx_views.specs.Truths.{Truth, Held, Hints, IsTruth, with_draft}
 use Rattle.bx_inodes.specs.Inodes.{HoldsInode}
-use Rattle.bx_hints.specs.Fitting.{HintsFitAll}
-use Rattle.bx_hints.proofs.Pages.{stored_is}
+use Rattle.bx_inodes.specs.Fitting.{HintsFitAll}
+use Rattle.bx_inodes.proofs.Pages.{stored_is}
 use Rattle.bx_dirs.specs.Entries.{HasEntries}
 
 pub has_entries : (areas : ℕ) (held : Held) (hints : Hints) (truth : Truth) (draft : List Changed) (tree : Tree) (handle : ℕ) (inode : Inode) (file : File) (parent next : ℕ) (names : List Name)

@@ -23,10 +23,10 @@ use Rattle.bx_truth.proofs.FilesInOrder.{file_with}
 use Rattle.bx_views.specs.Truths.{Truth, Held, Hints, with_draft}
 use Rattle.bx_blink.specs.Hints.{HintsFit, Under}
 use Rattle.bx_inodes.specs.Inodes.{HoldsInode}
-use Rattle.bx_hints.specs.Fitting.{HintsFitAll, IsPageUnder}
-use Rattle.bx_hints.proofs.Later.{fit_still}
-use Rattle.bx_hints.proofs.Pages.{inode_is, one_block}
-use Rattle.bx_hints.proofs.Trees.{fit_other}
+use Rattle.bx_inodes.specs.Fitting.{HintsFitAll, IsPageUnder}
+use Rattle.bx_inodes.proofs.Later.{fit_still}
+use Rattle.bx_inodes.proofs.Pages.{inode_is, one_block}
+use Rattle.bx_inodes.proofs.Trees.{fit_other}
 use Rattle.bx_dirs.specs.Edits.{EditsDirectory, IsDirectoryUnder, with_names}
 use Rattle.bx_dirs.proofs.Edited.{Edited, HasPageAt}
 

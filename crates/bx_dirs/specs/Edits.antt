@@ -12,7 +12,7 @@ use Rattle.bx_truth.specs.Chunks.{chunks_of}
 use Rattle.bx_truth.specs.Stands.{StandsFor}
 use Rattle.bx_views.specs.Truths.{Truth, Held, Hints, IsTruth, with_draft}
 use Rattle.bx_inodes.specs.Inodes.{HoldsInode}
-use Rattle.bx_hints.specs.Fitting.{HintsFitAll}
+use Rattle.bx_inodes.specs.Fitting.{HintsFitAll}
 
 -- What a change of a directory rests on, for a truth that with the draft stands for a tree: the file with a handle is a directory with these
 -- entries, whose inode has this root, and the hints fit all trees.

@@ -2,7 +2,7 @@
 
 ghost use Rattle.std.specs.Prelude.{◌≡◌, ◌≤◌, ℕ, List, Some};
 ghost use Rattle.bx_dirs.specs.Entries.{HasEntries};
-ghost use Rattle.bx_hints.specs.Fitting.{HintsFitAll};
+ghost use Rattle.bx_inodes.specs.Fitting.{HintsFitAll};
 ghost use Rattle.bx_inodes.specs.Inodes.{HoldsInode};
 ghost use Rattle.bx_layout.specs.declared.inode.Inode.{Inode};
 ghost use Rattle.bx_model.specs.declared.tree.Tree.{Tree};

@@ -8,7 +8,7 @@ use Rattle.bx_model.specs.declared.call.Call.{Call}
 use Rattle.bx_model.specs.declared.reply.Reply.{Reply}
 use Rattle.bx_model.specs.declared.reply.Reply.TheVariants.{Status, Space}
 use Rattle.bx_model.specs.declared.reply.Reply.TheVariants as replies
-use Rattle.bx_handles.specs.Handles.{file_text}
+use Rattle.bx_places.specs.Handles.{file_text}
 use Rattle.bx_truth.proofs.Cases.{eq_false, same_or}
 use Rattle.bx_model.specs.declared.tree.Tree.{Tree}
 use Rattle.bx_model.specs.Act.{about_file, about_name, about_new, act, given}

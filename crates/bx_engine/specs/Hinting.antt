@@ -8,7 +8,7 @@ use Rattle.bx_blink.specs.Hints.{HintsAgree, HintsFit, IsOld, LeadsDown, LeadsRi
 use Rattle.bx_blink.proofs.Chains.{leads_in}
 use Rattle.bx_blink.proofs.Handles.{two}
 use Rattle.bx_blink.proofs.LonePage.{lone_fit}
-use Rattle.bx_hints.specs.Fitting.{HintsFitAll}
+use Rattle.bx_inodes.specs.Fitting.{HintsFitAll}
 use Rattle.bx_layout.specs.Areas.{in_use}
 use Rattle.bx_layout.specs.declared.block.Block.{Block}
 use Rattle.bx_model.specs.declared.tree.Tree.{Tree}

@@ -7,8 +7,8 @@ ghost use Rattle.bx_model.specs.declared.tree.Tree.{Tree};
 
 use crate::procedures::UMNT;
 use bx_base::{OutOfMemory, Raw};
-use bx_handles::file_handle;
 use bx_model::{NOENT, Reply};
+use bx_places::file_handle;
 use std::alloc::Global;
 
 /// The number of the root's handle: area 0, slot 0, generation 1.

@@ -2,7 +2,7 @@
 use Rattle.std.proofs.Common.{◌≡◌, ℕ, Bool, List, [], ◌∷◌, Some, None, sym, ap, ◌∙◌, subst, inl, inr}
 use Rattle.std.specs.Prelude.{◌≢◌, ◌⊎◌, if◌then◌else◌, unwrap_or}
 use Rattle.bx_changes.proofs.HintsKept.{still_fit}
-use Rattle.bx_hints.specs.Fitting.{HintsFitAll}
+use Rattle.bx_inodes.specs.Fitting.{HintsFitAll}
 use Rattle.bx_inodes.specs.Inodes.{HoldsInode}
 use Rattle.bx_inodes.specs.Writing.{PutsInode}
 use Rattle.bx_layout.specs.declared.inode.Inode.{Inode}

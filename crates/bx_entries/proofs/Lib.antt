@@ -7,3 +7,11 @@ pub mod Removed
 pub mod Found
 pub mod RemovedFrom
 pub mod Emptied
+pub mod Spaces
+pub mod Room
+pub mod Asked
+pub mod Stopped
+pub mod First
+pub mod Entered
+pub mod Kept
+pub mod Lacks

@@ -6,9 +6,9 @@ use Rattle.bx_changes.specs.Changes.{Changes, IsChange}
 use Rattle.bx_files.proofs.Needs.{needs_along}
 use Rattle.bx_inodes.specs.Stops.{NeedsOn}
 use Rattle.bx_dirs.specs.Entries.{HasEntries}
-use Rattle.bx_handles.specs.Handles.{named, parts_of}
-use Rattle.bx_hints.specs.Fitting.{HintsFitAll}
-use Rattle.bx_hints.proofs.Pages.{has_pages}
+use Rattle.bx_places.specs.Handles.{named, parts_of}
+use Rattle.bx_inodes.specs.Fitting.{HintsFitAll}
+use Rattle.bx_inodes.proofs.Pages.{has_pages}
 use Rattle.bx_inodes.specs.Stands.{Stands}
 use Rattle.bx_inodes.specs.declared.stop.Stop.{Stop}
 use Rattle.bx_inodes.specs.declared.stop.Stop.TheVariants.{Need, Inner, Status, OutOfMemory}

@@ -13,7 +13,7 @@ use Rattle.bx_inodes.specs.Inodes.{HoldsInode}
 use Rattle.bx_inodes.specs.Writing.{PutsInode}
 use Rattle.bx_inodes.specs.Stops.{NeedsOn}
 use Rattle.bx_inodes.specs.declared.stop.Stop.{Stop}
-use Rattle.bx_handles.specs.Handles.{parts_of}
+use Rattle.bx_places.specs.Handles.{parts_of}
 use Rattle.bx_layout.specs.declared.block.Block.{Block}
 use Rattle.bx_layout.specs.declared.inode.Inode.{Inode}
 use Rattle.bx_making.specs.Burying.{BuriesAt, BuriesFile, BuriesIn, IsBare}

@@ -4,8 +4,8 @@ use Rattle.bx_base.specs.declared.names.Mode.{Mode}
 use Rattle.bx_base.specs.declared.names.Mode.TheVariants.{Exclusive}
 use Rattle.bx_blink.specs.Walks.{reads_with}
 use Rattle.bx_files.specs.Paths.{Finds, OnSearch}
-use Rattle.bx_handles.specs.Handles.{named}
-use Rattle.bx_hints.specs.Fitting.{HintsFitAll}
+use Rattle.bx_places.specs.Handles.{named}
+use Rattle.bx_inodes.specs.Fitting.{HintsFitAll}
 use Rattle.bx_inodes.specs.Inodes.{IsInodeOf, LiveAt}
 use Rattle.bx_inodes.specs.Stands.{Stands}
 use Rattle.bx_inodes.specs.Stops.{OnInode}

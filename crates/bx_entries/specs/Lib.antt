@@ -3,3 +3,7 @@ pub mod Taking
 pub mod Unlinking
 pub mod Removing
 pub mod Finding
+pub mod Rooms
+pub mod Entering
+pub mod RoomFinding
+pub mod Lacking

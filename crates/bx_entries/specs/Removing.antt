@@ -3,8 +3,8 @@ use Rattle.std.specs.Prelude.{◌≡◌, ℕ, ◌≤◌, ◌⊎◌, true, false,
 use Rattle.bx_base.specs.declared.names.Mode.{Mode}
 use Rattle.bx_base.specs.declared.names.Mode.TheVariants.{Exclusive}
 use Rattle.bx_dirs.specs.Changes.{OnTakePath}
-use Rattle.bx_handles.specs.Handles.{parts_of}
-use Rattle.bx_hints.specs.Fitting.{HintsFitAll}
+use Rattle.bx_places.specs.Handles.{parts_of}
+use Rattle.bx_inodes.specs.Fitting.{HintsFitAll}
 use Rattle.bx_inodes.specs.Inodes.{IsInodeOf}
 use Rattle.bx_inodes.specs.Stands.{Stands}
 use Rattle.bx_inodes.specs.declared.stop.Stop.{Stop}

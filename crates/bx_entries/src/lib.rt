@@ -1,15 +1,20 @@
-//! Entries that are taken out of directories, and files that lose a name, over views: REMOVE and RMDIR.
+//! Entries of directories, over views: how one is put in, once room is found for it, and how one is taken out with the
+//! file that it names, by REMOVE and RMDIR.
 #![tactic(auto)]
 
+mod entering;
 mod finding;
 mod removals;
 mod removing;
+mod rooms;
 mod stops;
 mod taking;
 mod unlinking;
 
+pub use entering::enter;
 pub use finding::{Removable, directory_for, entry_for};
 pub use removals::remove;
 pub use removing::remove_entry;
+pub use rooms::room_for;
 pub use taking::{Known, take_entry};
 pub use unlinking::unlink;

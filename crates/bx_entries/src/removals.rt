@@ -8,9 +8,9 @@ ghost use Rattle.bx_entries.specs.Finding.{IsDirectoryOf, OnNamed, OnRemoval, Re
 use crate::finding::{Removable, directory_for, entry_for, file_for};
 use crate::removing::remove_entry;
 use crate::taking::Known;
-use bx_handles::named_handle;
 use bx_inodes::Stop;
 use bx_model::{Call, NFS_OK, Reply, STALE, Want};
+use bx_places::named_handle;
 use bx_records::Draft;
 use bx_views::View;
 use std::alloc::Global;

@@ -1,15 +1,8 @@
 -- Machines, and what is said of each.
-use Rattle.std.specs.Prelude.{◌≡◌, ◌≢◌, ℕ, ◌+◌, ◌<◌, ◌==◌, Bool, false, Option, Some, None, if◌then◌else◌}
+use Rattle.std.specs.Prelude.{◌≡◌, ◌≢◌, ℕ, ◌+◌, ◌<◌, Option, Some, None, if◌then◌else◌}
 use Rattle.bx_base.specs.declared.names.Actor.{Actor}
 use Rattle.bx_base.specs.declared.names.Actor.TheVariants.{Node, Replica, Server, Member}
-
--- whether two names are one machine's
-abbrev pub is_same : Actor → Actor → Bool
-is_same (Node n) (Node m) = n == m
-is_same (Replica n) (Replica m) = n == m
-is_same (Server n) (Server m) = n == m
-is_same (Member n) (Member m) = n == m
-is_same who other = false
+pub use Rattle.bx_post.specs.Machines.{is_same}
 
 -- one machine has this, and each other has what it had
 abbrev pub put_at : {A : Type 0} → Actor → A → (Actor → A) → Actor → A

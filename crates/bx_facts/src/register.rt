@@ -4,6 +4,7 @@ ghost use Rattle.std.specs.Prelude.{◌≡◌, ◌≢◌, ℕ, ◌+◌, ◌<◌,
 ghost use Rattle.bx_base.specs.declared.names.Actor.{Actor};
 ghost use Rattle.bx_base.specs.declared.names.Actor.TheVariants.{Replica};
 ghost use Rattle.bx_disk.specs.Disks.{Image, Disks, IsImage};
+ghost use Rattle.bx_disk.specs.Counts.{NoneRose};
 ghost use Rattle.bx_disk.specs.Kept.{Counted};
 ghost use Rattle.bx_calls.specs.Calls.{LeavesOnly};
 ghost use Rattle.bx_global.specs.Allowed.{IsAllowed};
@@ -12,7 +13,7 @@ ghost use Rattle.bx_global.specs.declared.change.Change.{Change};
 ghost use Rattle.bx_global.specs.declared.state.GlobalState.{GlobalState};
 ghost use Rattle.bx_places.specs.Places.{replica_sectors};
 ghost use Rattle.bx_post.specs.declared.packets.Letter.{Letter};
-ghost use Rattle.bx_facts.specs.declared.input.FactError.TheVariants.{Disk as DiskFails};
+ghost use Rattle.bx_facts.specs.declared.input.FactError.TheVariants.{Disk as DiskFails, OutOfMemory as MemoryFails};
 ghost use Rattle.bx_facts.specs.declared.input.OpenError.TheVariants.{Disk as OpenFails, NoLabel, NoMajority, Spent};
 ghost use Rattle.bx_facts.specs.declared.input.ProposeError.TheVariants.{NotLegal, Busy};
 ghost use Rattle.bx_facts.specs.Chains.{last, AreLegal, IsAboveBoots, IsNext, IsPlace, most_boot};
@@ -79,7 +80,7 @@ pub trait Register: Drop {
         ensures sent { OnOk result (SendsOnly IsRegisters out.old out.new) }
         ensures made { (made self.new ≡ made self.old) × (nodes self.new ≡ nodes self.old) };
 
-    /// Does one event of a machine. At a disk fault what is in the box isn't sent. For want of memory it isn't used again.
+    /// Does one event of a machine. At a disk fault what is in the box isn't sent. For want of memory it isn't used again, and no disk failed.
     fn take<R: Rack>(
         &mut self,
         rack: &mut R,
@@ -102,6 +103,7 @@ pub trait Register: Drop {
         ensures made { (made self.new ≡ made self.old) × (nodes self.new ≡ nodes self.old) }
         ensures members { R.tells rack.old → SameMembers (R.state rack.old) (R.state rack.new) × SameLabels (R.state rack.old) (R.state rack.new) }
         ensures disks { R.tells rack.old → OnlyDiskOf at (R.state rack.old) (R.state rack.new) }
+        ensures memory { IsErrOf result MemoryFails → NoneRose (R.faults rack.old) (R.faults rack.new) (R.faults_of rack.old) (R.faults_of rack.new) }
         ensures rack { Counted R.Rack rack.old rack.new result DiskFails };
 
     /// A machine stops, and needs no disk then. It takes no memory.

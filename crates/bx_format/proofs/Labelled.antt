@@ -5,7 +5,7 @@ use Rattle.std.proofs.lemmas.List.{take_all}
 use Rattle.bx_disk.specs.Disks.{Disks, sector_of}
 use Rattle.bx_calls.specs.Regions.{ReadsAs}
 use Rattle.bx_calls.specs.Calls.{KeepsSure}
-use Rattle.bx_fields.specs.Writing.{padded}
+use Rattle.bx_base.specs.Writing.{padded}
 use Rattle.bx_layout.specs.declared.label.Label.{Label}
 use Rattle.bx_layout.specs.Labels.{label_text}
 use Rattle.bx_places.specs.Places.{block_place}

@@ -1,7 +1,7 @@
 -- What the disks of a volume hold while it is made, and when it is made.
 use Rattle.std.specs.Prelude.{◌≡◌, ℕ, ◌<◌, ◌≤◌, ◌==◌, ◌&&◌, nat_lt, if◌then◌else◌, Bool, false, List, length, slice_index}
 use Rattle.bx_disk.specs.Disks.{Image, Disks, zeros}
-use Rattle.bx_fields.specs.Writing.{padded}
+use Rattle.bx_base.specs.Writing.{padded}
 use Rattle.bx_layout.specs.declared.block.Block.{Block}
 use Rattle.bx_layout.specs.declared.label.Label.{Label}
 use Rattle.bx_layout.specs.Labels.{label_text}

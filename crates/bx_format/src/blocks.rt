@@ -5,9 +5,9 @@ ghost use Rattle.bx_layout.specs.Areas.{IsArea};
 ghost use Rattle.bx_truth.specs.Opening.{area_block, free_block, opening_slots, opening_truth, page_block, root_block};
 
 use bx_base::{OutOfMemory, Raw};
-use bx_handles::ChunkHandle;
 use bx_layout::{AreaBlock, Block, Inode};
 use bx_page::Page;
+use bx_places::ChunkHandle;
 use std::alloc::Global;
 
 /// The handle of the root's inode, and that of the page of its tree.

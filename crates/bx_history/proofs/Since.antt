@@ -5,25 +5,8 @@ use Rattle.std.proofs.lemmas.Bool.{eq-eqb}
 use Rattle.std.proofs.lemmas.List.{append_assoc}
 use Rattle.bx_script.specs.declared.trace_line.TraceLine.{TraceLine}
 use Rattle.bx_script.specs.declared.trace_line.TraceLine.TheVariants.{Took, Acted, Reply, Again}
-use Rattle.bx_history.specs.Trace.{Taking, takings, taking_in, taking_of}
+use Rattle.bx_history.specs.Trace.{IsIn, Taking, takings, taking_in, taking_of}
 use Rattle.bx_history.specs.Parts.{Part, trace_of, trace_since}
-
-abbrev pub IsIn : Taking → List Taking → Type 0
-IsIn taking [] = ⊥
-IsIn taking (one ∷ more) = (one ≡ taking) ⊎ IsIn taking more
-
-pub in_last : (front : List Taking) (taking : Taking) → IsIn taking (front ++ taking ∷ [])
-in_last [] taking = inl refl
-in_last (one ∷ front) taking = inr (in_last front taking)
-
-pub in_filter : (p : Taking → Bool) (xs : List Taking) (taking : Taking) → IsIn taking (filter p xs) → IsIn taking xs
-in_filter p [] taking is = is
-in_filter p (one ∷ xs) taking is = by (p one) (in_filter p xs taking) is
-  where
-    by : (b : Bool) → (IsIn taking (filter p xs) → IsIn taking xs) → IsIn taking (cond b (one ∷ filter p xs) (filter p xs)) → IsIn taking (one ∷ xs)
-    by true later (inl here) = inl here
-    by true later (inr there) = inr (later there)
-    by false later there = inr (later there)
 
 -- the first with a number, where one with that number is in front
 found_first : (xs ys : List Taking) (taking other : Taking) → IsIn taking xs → taking_in (xs ++ ys) taking.call ≡ Some other → taking_in xs taking.call ≡ Some other

@@ -1,7 +1,7 @@
 -- Calls that have no reply yet.
-use Rattle.std.proofs.Common.{◌≡◌, ℕ, ◌<◌, Bool, true, false, List, [], ◌∷◌, ◌++◌, refl, ap, arith, eqb}
+use Rattle.std.proofs.Common.{◌≡◌, ℕ, Bool, true, false, List, [], ◌∷◌, ◌++◌, refl, eqb}
 use Rattle.std.specs.Prelude.{◌||◌, ◌&&◌, not, filter, ◌==◌, if◌then◌else◌}
-use Rattle.std.proofs.lemmas.Bool.{eq-eqb, ne_eqb, or_from, or_parts}
+use Rattle.std.proofs.lemmas.Bool.{eq-eqb, or_from, or_parts}
 use Rattle.bx_script.specs.declared.trace_line.TraceLine.{TraceLine}
 use Rattle.bx_script.specs.declared.trace_line.TraceLine.TheVariants.{Took, Acted, Reply, Again}
 use Rattle.bx_history.specs.Trace.{has_reply, takings}
@@ -10,9 +10,6 @@ use Rattle.bx_history.proofs.Lists.{filter_both}
 
 pub same : (n : ℕ) → eqb n n ≡ true
 same n = eq-eqb n n refl
-
-pub other_number : (a b : ℕ) → a < b → not (eqb a b) ≡ true
-other_number a b less = ap not (ne_eqb a b (λ is. omega (arith, less, is)))
 
 -- ---- a call without a reply has none since a node ended
 

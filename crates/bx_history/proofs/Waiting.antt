@@ -1,27 +1,28 @@
--- An account goes on by a part, in a stage in which calls wait: nothing arrives, or what isn't taken; an answer is sent again; the oldest call is answered.
-use Rattle.std.proofs.Common.{◌≡◌, ℕ, ◌<◌, Bool, true, false, List, [], ◌∷◌, ◌++◌, Option, Some, None, refl, sym, ap, subst, ◌∙◌, eqb}
+-- An account goes on by a part, in a stage in which calls wait: nothing arrives, or what isn't taken; an answer is sent again; a call that waits is answered.
+use Rattle.std.proofs.Common.{◌≡◌, ℕ, ◌<◌, Bool, true, false, cond, List, [], ◌∷◌, ◌++◌, Option, Some, None, refl, sym, ap, subst, ◌∙◌, eqb}
 use Rattle.std.specs.Prelude.{◌≢◌, not, filter, ◌==◌, if◌then◌else◌}
 use Rattle.std.specs.List.{AllByRecursion}
-use Rattle.std.proofs.lemmas.Bool.{eq-eqb, eqb-true, ne_eqb, not-true, or_from, or_right}
+use Rattle.std.proofs.lemmas.Bool.{eqb-true, ne_eqb, not-true, or_from, or_right}
 use Rattle.bx_base.specs.declared.names.Point.{Point}
 use Rattle.bx_script.specs.declared.trace_line.TraceLine.{TraceLine}
 use Rattle.bx_script.specs.declared.trace_line.TraceLine.TheVariants.{Acted, Again, Reply}
-use Rattle.bx_history.specs.Trace.{Answer, Entry, IsSentBefore, Taking, answers, takings, taking_of, with_answer}
+use Rattle.bx_history.specs.Trace.{Answer, Entry, IsIn, IsSentBefore, Taking, answers, takings, taking_of, with_answer}
 use Rattle.bx_history.specs.Parts.{Arrival, Happening, Part, trace_of, trace_since, waiting}
 use Rattle.bx_history.specs.Placed.{Rules, HasReadingSince, IsAnsweredAtOnce, again_by, taken_by}
 use Rattle.bx_history.specs.Along.{none_ends}
-use Rattle.bx_history.specs.Account.{AreNewestFirst, AwaitsNewest, IsPatient, IsPending, IsSplit, answers_at, entry_for, waits_but}
-use Rattle.bx_history.proofs.Lists.{all_front, all_mapped, filter_all, filter_last}
-use Rattle.bx_history.proofs.Since.{IsIn, found_whole, in_filter, in_last, taken_since}
-use Rattle.bx_history.proofs.Unanswered.{fewer, other_number, same}
+use Rattle.bx_history.specs.Account.{AreNewestFirst, AwaitsNewest, IsPatient, IsPending, IsSplit, answers_at, entry_for}
+use Rattle.bx_history.proofs.Lists.{all_mapped, all_passed, filter_all, in_filter, one_of}
+use Rattle.bx_history.proofs.Since.{found_whole, taken_since}
+use Rattle.bx_history.proofs.Unanswered.{fewer, same}
 
--- all that came before the last one were taken after it
-above_last : (front : List Taking) (last : Taking) → AreNewestFirst (front ++ last ∷ []) → AllByRecursion (λ t. last.call < t.call) front × AreNewestFirst front
-above_last [] last order = (tt, tt)
-above_last (t ∷ front) last order =
-    let rest = above_last front last order.1 in
-    let first = all_front (λ other. other.call < t.call) front last order.0 in
-    ((first.1, rest.0), (first.0, rest.1))
+-- what passes a test keeps its order
+order_passed : (p : Taking → Bool) (waits : List Taking) → AreNewestFirst waits → AreNewestFirst (filter p waits)
+order_passed p [] order = tt
+order_passed p (t ∷ waits) order = by (p t) (order_passed p waits order.1)
+  where
+    by : (b : Bool) → AreNewestFirst (filter p waits) → AreNewestFirst (cond b (t ∷ filter p waits) (filter p waits))
+    by true later = (all_passed (λ other. other.call < t.call) (λ other. other.call < t.call) p waits (λ other is less. less) order.0, later)
+    by false later = later
 
 module _ {Tree : Type 0} (Step : Tree → Entry → Tree → Type 0) (rules : Rules) (patient : IsPatient rules) where
   pub no_prompt : (all : List Happening) → rules.is_prompt all ≡ true → ⊥
@@ -97,10 +98,23 @@ module _ {Tree : Type 0} (Step : Tree → Entry → Tree → Type 0) (rules : Ru
       still_pending : (node : ℕ) (other : Taking) → IsPending (trace_of parts) node other → IsPending (Again arrival.node arrival.client reply ∷ trace_of parts) node other
       still_pending node other pending = record { taken = pending.taken; at = pending.at; no_point = pending.no_point; no_reply = pending.no_reply }
 
-  -- ---- the oldest call is answered, in a run
+  -- ---- what waits is what the parts leave waiting
 
-  module _ (first : Tree) (older : List Part) (history : List Entry) (last next : Tree) (waits : ℕ → List Taking) (reading : Option ℕ) (lines : List TraceLine)
-      (node : ℕ) (front : List Taking) (taking : Taking) (point : Point) (reply : List ℕ) where
+  pub awaits_own : (first : Tree) (parts : List Part) (history : List Entry) (last : Tree) (waits : ℕ → List Taking)
+      → AwaitsNewest Step rules first parts history last waits → AwaitsNewest Step rules first parts history last (waiting parts)
+  awaits_own first parts history last waits so_far = record {
+    fits = so_far.fits;
+    leads = so_far.leads;
+    placed = so_far.placed;
+    waiting_are = λ node. refl;
+    pending = λ node. subst (AllByRecursion (IsPending (trace_of parts) node)) (sym (so_far.waiting_are node)) (so_far.pending node);
+    in_order = λ node. subst AreNewestFirst (sym (so_far.waiting_are node)) (so_far.in_order node);
+    split = so_far.split;
+  }
+
+  -- ---- a call that waits is answered, in a run
+
+  module _ (first : Tree) (older : List Part) (history : List Entry) (last next : Tree) (reading : Option ℕ) (lines : List TraceLine) (taking : Taking) (point : Point) (reply : List ℕ) where
     -- the run, with what came in it before and now
     abbrev run_before : Part
     run_before = record { what = record { arrives = None; reading = reading; ends = none_ends; runs = true }; lines = lines }
@@ -108,25 +122,33 @@ module _ {Tree : Type 0} (Step : Tree → Entry → Tree → Type 0) (rules : Ru
     abbrev run_after : Part
     run_after = record { what = record { arrives = None; reading = reading; ends = none_ends; runs = true }; lines = Reply point.call reply ∷ Acted point ∷ lines }
 
-    module _ (so_far : AwaitsNewest Step rules first (run_before ∷ older) history last waits) (oldest : waits node ≡ front ++ taking ∷ []) (of : point.call ≡ taking.call)
-        (moment : HasReadingSince point.call point.moment (run_before ∷ older)) (step : Step last (entry_for taking point reply) next) where
-      here : AllByRecursion (IsPending (trace_of (run_before ∷ older)) node) front × IsPending (trace_of (run_before ∷ older)) node taking
-      here = all_front _ front taking (subst (AllByRecursion (IsPending (trace_of (run_before ∷ older)) node)) oldest (so_far.pending node))
+    -- another number than that of the call
+    abbrev is_other : Taking → Bool
+    is_other t = not (eqb point.call t.call)
 
-      above : AllByRecursion (λ t. taking.call < t.call) front × AreNewestFirst front
-      above = above_last front taking (subst AreNewestFirst oldest (so_far.in_order node))
+    -- the others wait on, at each node
+    pub others_wait : (at : ℕ) → waiting (run_after ∷ older) at ≡ filter is_other (waiting (run_before ∷ older) at)
+    others_wait at = fewer (trace_since (run_before ∷ older) at) at point.call
+
+    module _ (so_far : AwaitsNewest Step rules first (run_before ∷ older) history last (waiting (run_before ∷ older))) (waited : IsIn taking (waiting (run_before ∷ older) taking.node))
+        (of : point.call ≡ taking.call) (moment : HasReadingSince point.call point.moment (run_before ∷ older)) (step : Step last (entry_for taking point reply) next) where
+      here : IsPending (trace_of (run_before ∷ older)) taking.node taking
+      here = one_of (IsPending (trace_of (run_before ∷ older)) taking.node) (waiting (run_before ∷ older) taking.node) taking (so_far.pending taking.node) waited
 
       is_this : taking_of (trace_of (run_before ∷ older)) point.call ≡ Some taking
-      is_this = rw of (here.1.taken)
+      is_this = rw of (here.taken)
 
-      -- another call that waits has another number
-      other_number_at : (at : ℕ) (other : Taking) → at ≢ node → IsPending (trace_of (run_before ∷ older)) at other → not (eqb point.call other.call) ≡ true
-      other_number_at at other apart pending = ap not (ne_eqb point.call other.call (λ is. apart (sym pending.at ∙ ap (λ (t : Taking). t.node) (one is) ∙ here.1.at)))
+      -- a call that waits at another node has another number
+      other_at : (at : ℕ) (other : Taking) → at ≢ taking.node → IsPending (trace_of (run_before ∷ older)) at other → is_other other ≡ true
+      other_at at other apart pending = ap not (ne_eqb point.call other.call (λ is. apart (sym pending.at ∙ ap (λ (t : Taking). t.node) (one is))))
         where
           one : point.call ≡ other.call → other ≡ taking
           one is = let found : taking_of (trace_of (run_before ∷ older)) point.call ≡ Some other = rw is pending.taken in let both : Some other ≡ Some taking = sym found ∙ is_this in cc
 
-      goes_on_waiting : (at : ℕ) (other : Taking) → not (eqb point.call other.call) ≡ true → IsPending (trace_of (run_before ∷ older)) at other → IsPending (trace_of (run_after ∷ older)) at other
+      pub elsewhere_same : (at : ℕ) → at ≢ taking.node → waiting (run_after ∷ older) at ≡ waiting (run_before ∷ older) at
+      elsewhere_same at apart = others_wait at ∙ filter_all is_other (waiting (run_before ∷ older) at) (all_mapped _ _ (waiting (run_before ∷ older) at) (λ t pending. other_at at t apart pending) (so_far.pending at))
+
+      goes_on_waiting : (at : ℕ) (other : Taking) → is_other other ≡ true → IsPending (trace_of (run_before ∷ older)) at other → IsPending (trace_of (run_after ∷ older)) at other
       goes_on_waiting at other apart pending = record {
         taken = pending.taken;
         at = pending.at;
@@ -134,49 +156,17 @@ module _ {Tree : Type 0} (Step : Tree → Entry → Tree → Type 0) (rules : Ru
         no_reply = or_from _ _ (not-true _ apart) pending.no_reply;
       }
 
-      fewer_wait : (at : ℕ) → waiting (run_after ∷ older) at ≡ filter (λ t. not (eqb point.call t.call)) (waits at)
-      fewer_wait at = fewer (trace_since (run_before ∷ older) at) at point.call ∙ ap (filter (λ t. not (eqb point.call t.call))) (so_far.waiting_are at)
+      pending_then : (at : ℕ) → AllByRecursion (IsPending (trace_of (run_after ∷ older)) at) (waiting (run_after ∷ older) at)
+      pending_then at = subst (AllByRecursion (IsPending (trace_of (run_after ∷ older)) at)) (sym (others_wait at))
+          (all_passed _ _ is_other (waiting (run_before ∷ older) at) (goes_on_waiting at) (so_far.pending at))
 
-      waiting_then : (at : ℕ) → waiting (run_after ∷ older) at ≡ waits_but node front waits at
-      waiting_then at = fewer_wait at ∙ by (node == at) refl
-        where
-          by : (b : Bool) → (node == at) ≡ b → filter (λ t. not (eqb point.call t.call)) (waits at) ≡ (if b then front else waits at)
-          by true is = ap (λ (n : ℕ). filter (λ t. not (eqb point.call t.call)) (waits n)) (sym (eqb-true node at is)) ∙ ap (filter (λ t. not (eqb point.call t.call))) oldest
-              ∙ filter_last _ front taking (all_mapped _ _ front (λ t less. rw of (other_number taking.call t.call less)) above.0) (ap not (eq-eqb point.call taking.call of))
-          by false is = filter_all _ (waits at) (all_mapped _ _ (waits at) (λ t pending. other_number_at at t (λ same. apart same is) pending) (so_far.pending at))
-            where
-              apart : at ≡ node → (node == at) ≡ false → ⊥
-              apart e f = let t : (node == at) ≡ true = eq-eqb node at (sym e) in cc
-
-      pending_then : (at : ℕ) → AllByRecursion (IsPending (trace_of (run_after ∷ older)) at) (waits_but node front waits at)
-      pending_then at = by (node == at) refl
-        where
-          by : (b : Bool) → (node == at) ≡ b → AllByRecursion (IsPending (trace_of (run_after ∷ older)) at) (if b then front else waits at)
-          by true is = subst (λ (n : ℕ). AllByRecursion (IsPending (trace_of (run_after ∷ older)) n) front) (eqb-true node at is)
-              (joined front above.0 here.0)
-            where
-              joined : (some : List Taking) → AllByRecursion (λ t. taking.call < t.call) some → AllByRecursion (IsPending (trace_of (run_before ∷ older)) node) some → AllByRecursion (IsPending (trace_of (run_after ∷ older)) node) some
-              joined [] less all = tt
-              joined (t ∷ some) less all = (goes_on_waiting node t (rw of (other_number taking.call t.call less.0)) all.0, joined some less.1 all.1)
-          by false is = all_mapped _ _ (waits at) (λ t pending. goes_on_waiting at t (other_number_at at t (λ same. apart same is) pending) pending) (so_far.pending at)
-            where
-              apart : at ≡ node → (node == at) ≡ false → ⊥
-              apart e f = let t : (node == at) ≡ true = eq-eqb node at (sym e) in cc
-
-      order_then : (at : ℕ) → AreNewestFirst (waits_but node front waits at)
-      order_then at = by (node == at)
-        where
-          by : (b : Bool) → AreNewestFirst (if b then front else waits at)
-          by true = above.1
-          by false = so_far.in_order at
+      order_then : (at : ℕ) → AreNewestFirst (waiting (run_after ∷ older) at)
+      order_then at = subst AreNewestFirst (sym (others_wait at)) (order_passed is_other (waiting (run_before ∷ older) at) (so_far.in_order at))
 
       -- the answer is the newest that the node sent, also since it ended
-      in_waiting : IsIn taking (waiting (run_before ∷ older) node)
-      in_waiting = subst (IsIn taking) (sym (so_far.waiting_are node ∙ oldest)) (in_last front taking)
-
-      taken_there : taking_of (trace_since (run_before ∷ older) node) point.call ≡ Some taking
-      taken_there = subst (λ (call : ℕ). taking_of (trace_since (run_before ∷ older) node) call ≡ Some taking) (sym of)
-          (taken_since (run_before ∷ older) node taking taking (in_filter _ (takings (trace_since (run_before ∷ older) node)) taking in_waiting) here.1.taken)
+      taken_there : taking_of (trace_since (run_before ∷ older) taking.node) point.call ≡ Some taking
+      taken_there = subst (λ (call : ℕ). taking_of (trace_since (run_before ∷ older) taking.node) call ≡ Some taking) (sym of)
+          (taken_since (run_before ∷ older) taking.node taking taking (in_filter _ (takings (trace_since (run_before ∷ older) taking.node)) taking waited).0 here.taken)
 
       pub one_more : (at : ℕ) → answers_at (trace_since (run_after ∷ older) at) at
           ≡ (if taking.node == at then record { node = taking.node; client = taking.client; bytes = taking.bytes; reply = reply } ∷ answers_at (trace_since (run_before ∷ older) at) at else answers_at (trace_since (run_before ∷ older) at) at)
@@ -195,7 +185,7 @@ module _ {Tree : Type 0} (Step : Tree → Entry → Tree → Type 0) (rules : Ru
 
           by : (b : Bool) → (taking.node == at) ≡ b → answers_at (trace_since (run_after ∷ older) at) at ≡ (if b then answer ∷ answers_at (trace_since (run_before ∷ older) at) at else answers_at (trace_since (run_before ∷ older) at) at)
           by true is =
-              let found : taking_of (trace_since (run_before ∷ older) at) point.call ≡ Some taking = subst (λ (n : ℕ). taking_of (trace_since (run_before ∷ older) n) point.call ≡ Some taking) (sym here.1.at ∙ eqb-true taking.node at is) taken_there in
+              let found : taking_of (trace_since (run_before ∷ older) at) point.call ≡ Some taking = subst (λ (n : ℕ). taking_of (trace_since (run_before ∷ older) n) point.call ≡ Some taking) (eqb-true taking.node at is) taken_there in
               rw (found, is) refl
           by false is = elsewhere (taking_of (trace_since (run_before ∷ older) at) point.call) is only
 
@@ -207,12 +197,12 @@ module _ {Tree : Type 0} (Step : Tree → Entry → Tree → Type 0) (rules : Ru
           by true = ap (λ (l : List Answer). record { node = taking.node; client = taking.client; bytes = taking.bytes; reply = reply } ∷ l) (so_far.split at).whole
           by false = (so_far.split at).whole
 
-      pub answered_oldest : AwaitsNewest Step rules first (run_after ∷ older) (entry_for taking point reply ∷ history) next (waits_but node front waits)
-      answered_oldest = record {
+      pub answered_one : AwaitsNewest Step rules first (run_after ∷ older) (entry_for taking point reply ∷ history) next (waiting (run_after ∷ older))
+      answered_one = record {
         fits = (
-          record { entry = entry_for taking point reply; entered = rw (same point.call) refl; same = refl; first = rw of (here.1.no_reply) },
+          record { entry = entry_for taking point reply; entered = rw (same point.call) refl; same = refl; first = rw of (here.no_reply) },
           (
-            record { taking = taking; taken = is_this; client = refl; bytes = refl; first = rw of (here.1.no_point); call = refl; moment = refl; spare = refl; made = refl },
+            record { taking = taking; taken = is_this; client = refl; bytes = refl; first = rw of (here.no_point); call = refl; moment = refl; spare = refl; made = refl },
             so_far.fits,
           ),
         );
@@ -227,7 +217,7 @@ module _ {Tree : Type 0} (Step : Tree → Entry → Tree → Type 0) (rules : Ru
           },
           so_far.placed.1,
         );
-        waiting_are = waiting_then;
+        waiting_are = λ at. refl;
         pending = pending_then;
         in_order = order_then;
         split = split_then;

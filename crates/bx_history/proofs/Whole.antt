@@ -1,60 +1,94 @@
--- What is accounted for with the newest first is accounted for with the oldest first.
-use Rattle.std.proofs.Common.{◌≡◌, ℕ, false, List, [], ◌∷◌, ◌++◌, Some, refl, sym, ap, ◌∙◌}
-use Rattle.std.specs.Prelude.{map, reverse}
-use Rattle.std.proofs.lemmas.List.{append-nil, reverse-append, reverse-reverse}
+-- What is accounted for with the newest first is accounted for with the oldest first; and points that are told behind the trace.
+use Rattle.std.proofs.Common.{◌≡◌, ℕ, false, List, [], ◌∷◌, ◌++◌, Some, refl, sym, ap, ◌∙◌, append_assoc}
+use Rattle.std.specs.Prelude.{◌≢◌, map, reverse}
+use Rattle.std.specs.List.{AllByRecursion}
+use Rattle.std.proofs.lemmas.Bool.{ne_eqb, or_from}
+use Rattle.std.proofs.lemmas.List.{append-nil, map-append, reverse-append, reverse-reverse}
 use Rattle.bx_base.specs.declared.names.Point.{Point}
 use Rattle.bx_script.specs.declared.trace_line.TraceLine.{TraceLine}
 use Rattle.bx_script.specs.declared.trace_line.TraceLine.TheVariants.{Acted}
-use Rattle.bx_history.specs.Trace.{Entry, Taking, has_point, taking_of}
+use Rattle.bx_history.specs.Trace.{Entry, FitsNewest, Taking, has_point, taking_of}
+use Rattle.bx_history.specs.Legal.{LeadsNewest}
 use Rattle.bx_history.specs.Parts.{trace_of}
-use Rattle.bx_history.specs.Placed.{Rules, HasReadingSince}
+use Rattle.bx_history.specs.Placed.{Rules, HasReadingSince, IsClosing}
 use Rattle.bx_history.specs.Along.{Done, parts_of, schedule_of}
 use Rattle.bx_history.specs.Account.{Accounts, AwaitsNewest, LacksPoint, entry_for}
+use Rattle.bx_history.proofs.Lists.{all_front}
 
-pub accounts : {Tree : Type 0} (Step : Tree → Entry → Tree → Type 0) (rules : Rules) (first : Tree) (done : List Done) (history : List Entry) (last : Tree) (waits : ℕ → List Taking)
-    → AwaitsNewest Step rules first (parts_of done) history last waits
-    → Accounts Step rules (schedule_of done) (reverse (trace_of (parts_of done))) [] first last
-accounts Step rules first done history last waits so_far =
-    let newest : reverse (reverse (trace_of (parts_of done)) ++ []) ≡ trace_of (parts_of done) =
-    ap (λ (t : List TraceLine). reverse t) (append-nil (reverse (trace_of (parts_of done)))) ∙ reverse-reverse (trace_of (parts_of done)) in
-    let entries : reverse (reverse history) ≡ history = reverse-reverse history in
-    record {
-      history = reverse history;
-      fits = rw (newest, entries) so_far.fits;
-      legal = rw entries so_far.leads;
-      placed = record {
-        done = done;
-        along = sym (reverse-reverse (map (λ (d : Done). d.line) done));
-        whole = sym (reverse-reverse (trace_of (parts_of done)));
-        placed = so_far.placed;
-        closed = tt;
-      };
-    }
+all_push : {X : Type 0} (P : X → Type 0) (xs : List X) (x : X) → AllByRecursion P xs → P x → AllByRecursion P (xs ++ x ∷ [])
+all_push P [] x all last = (last, tt)
+all_push P (y ∷ xs) x all last = (all.0, all_push P xs x all.1 last)
 
--- the same with a call in doubt, whose point is told behind the trace
-pub accounts_with_doubt : {Tree : Type 0} (Step : Tree → Entry → Tree → Type 0) (rules : Rules) (first : Tree) (done : List Done) (history : List Entry) (last next : Tree) (waits : ℕ → List Taking)
-    (taking : Taking) (point : Point) (reply : List ℕ)
-    → AwaitsNewest Step rules first (parts_of done) history last waits → LacksPoint (trace_of (parts_of done)) taking → point.call ≡ taking.call
-    → HasReadingSince point.call point.moment (parts_of done) → Step last (entry_for taking point reply) next
-    → Accounts Step rules (schedule_of done) (reverse (trace_of (parts_of done))) (Acted point ∷ []) first next
-accounts_with_doubt Step rules first done history last next waits taking point reply so_far lacks of moment step =
-    let newest : reverse (reverse (trace_of (parts_of done)) ++ Acted point ∷ []) ≡ Acted point ∷ trace_of (parts_of done) =
-    reverse-append (reverse (trace_of (parts_of done))) (Acted point ∷ []) ∙ ap (λ (t : List TraceLine). Acted point ∷ t) (reverse-reverse (trace_of (parts_of done))) in
-    let entries : reverse (reverse (entry_for taking point reply ∷ history)) ≡ entry_for taking point reply ∷ history = reverse-reverse (entry_for taking point reply ∷ history) in
-    let taken : taking_of (trace_of (parts_of done)) point.call ≡ Some taking = rw of (lacks.taken) in
-    let none : has_point (trace_of (parts_of done)) point.call ≡ false = rw of (lacks.no_point) in
-    record {
-      history = reverse (entry_for taking point reply ∷ history);
-      fits = rw (newest, entries) (
-        record { taking = taking; taken = taken; client = refl; bytes = refl; first = none; call = refl; moment = refl; spare = refl; made = refl },
-        so_far.fits,
-      );
-      legal = rw entries (last, so_far.leads, step);
-      placed = record {
-        done = done;
-        along = sym (reverse-reverse (map (λ (d : Done). d.line) done));
-        whole = sym (reverse-reverse (trace_of (parts_of done)));
-        placed = so_far.placed;
-        closed = (moment, tt);
-      };
-    }
+-- These points were told behind the trace, the oldest first: with them it fits a history, which leads to this tree. They tell of no call but their own.
+pub record IsClosed {Tree : Type 0} (Step : Tree → Entry → Tree → Type 0) (rules : Rules) (first : Tree) (done : List Done) (closing : List Point) (next : Tree) : Type 0 where
+  pub history : List Entry
+  pub whole : List TraceLine
+  pub whole_is : reverse (reverse (trace_of (parts_of done)) ++ map Acted closing) ≡ whole
+  pub fits : FitsNewest rules.kept whole history
+  pub leads : LeadsNewest Step first history next
+  pub taken : (call : ℕ) → taking_of whole call ≡ taking_of (trace_of (parts_of done)) call
+  pub apart : (call : ℕ) → has_point (trace_of (parts_of done)) call ≡ false → AllByRecursion (λ point. point.call ≢ call) closing → has_point whole call ≡ false
+  pub closed : AllByRecursion (IsClosing (parts_of done)) (map Acted closing)
+
+module _ {Tree : Type 0} (Step : Tree → Entry → Tree → Type 0) (rules : Rules) (first : Tree) (done : List Done) where
+  -- none is told
+  pub closes_none : (history : List Entry) (last : Tree) (waits : ℕ → List Taking) → AwaitsNewest Step rules first (parts_of done) history last waits → IsClosed Step rules first done [] last
+  closes_none history last waits so_far = record {
+    history = history;
+    whole = trace_of (parts_of done);
+    whole_is = ap (λ (t : List TraceLine). reverse t) (append-nil (reverse (trace_of (parts_of done)))) ∙ reverse-reverse (trace_of (parts_of done));
+    fits = so_far.fits;
+    leads = so_far.leads;
+    taken = λ call. refl;
+    apart = λ call none all. none;
+    closed = tt;
+  }
+
+  -- one more is, of a call that lacks a point
+  pub closes_more : (closing : List Point) (last next : Tree) (taking : Taking) (point : Point) (reply : List ℕ) → IsClosed Step rules first done closing last → LacksPoint (trace_of (parts_of done)) taking → point.call ≡ taking.call
+      → AllByRecursion (λ other. other.call ≢ point.call) closing → HasReadingSince point.call point.moment (parts_of done) → Step last (entry_for taking point reply) next
+      → IsClosed Step rules first done (closing ++ point ∷ []) next
+  closes_more closing last next taking point reply so_far lacks of others moment step =
+      let more : map Acted (closing ++ point ∷ []) ≡ map Acted closing ++ Acted point ∷ [] = map-append Acted closing (point ∷ []) in
+      record {
+        history = entry_for taking point reply ∷ so_far.history;
+        whole = Acted point ∷ so_far.whole;
+        whole_is = ap (λ (l : List TraceLine). reverse (reverse (trace_of (parts_of done)) ++ l)) more ∙ ap (λ (l : List TraceLine). reverse l) (sym (append_assoc (reverse (trace_of (parts_of done))) (map Acted closing) (Acted point ∷ [])))
+            ∙ reverse-append (reverse (trace_of (parts_of done)) ++ map Acted closing) (Acted point ∷ []) ∙ ap (λ (l : List TraceLine). Acted point ∷ l) so_far.whole_is;
+        fits = (
+          record {
+            taking = taking;
+            taken = so_far.taken point.call ∙ rw of (lacks.taken);
+            client = refl;
+            bytes = refl;
+            first = so_far.apart point.call (rw of (lacks.no_point)) others;
+            call = refl;
+            moment = refl;
+            spare = refl;
+            made = refl;
+          },
+          so_far.fits,
+        );
+        leads = (last, so_far.leads, step);
+        taken = so_far.taken;
+        apart = λ call none all. (let parts = all_front (λ (other : Point). other.call ≢ call) closing point all in or_from _ _ (ne_eqb point.call call parts.1) (so_far.apart call none parts.0));
+        closed = rw more (all_push (IsClosing (parts_of done)) (map Acted closing) (Acted point) so_far.closed moment);
+      }
+
+  -- with the oldest first
+  pub accounts : (history : List Entry) (last next : Tree) (waits : ℕ → List Taking) (closing : List Point) → AwaitsNewest Step rules first (parts_of done) history last waits → IsClosed Step rules first done closing next
+      → Accounts Step rules (schedule_of done) (reverse (trace_of (parts_of done))) (map Acted closing) first next
+  accounts history last next waits closing so_far closes =
+      let entries : reverse (reverse closes.history) ≡ closes.history = reverse-reverse closes.history in
+      record {
+        history = reverse closes.history;
+        fits = rw (closes.whole_is, entries) (closes.fits);
+        legal = rw entries (closes.leads);
+        placed = record {
+          done = done;
+          along = sym (reverse-reverse (map (λ (d : Done). d.line) done));
+          whole = sym (reverse-reverse (trace_of (parts_of done)));
+          placed = so_far.placed;
+          closed = closes.closed;
+        };
+      }

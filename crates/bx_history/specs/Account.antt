@@ -56,10 +56,6 @@ entry_for taking point reply =
 abbrev pub waits_with : Taking → (ℕ → List Taking) → ℕ → List Taking
 waits_with taking waits node = if taking.node == node then taking ∷ waits node else waits node
 
--- what waits at each node once these are left at one
-abbrev pub waits_but : ℕ → List Taking → (ℕ → List Taking) → ℕ → List Taking
-waits_but home left waits node = if home == node then left else waits node
-
 -- A stage in which nothing is promised of what waits behind a run, nor of blocks.
 pub record IsPatient (rules : Rules) : Type 0 where
   pub not_prompt : (all : List Happening) → rules.is_prompt all ≡ false

@@ -1,6 +1,6 @@
 -- A trace that fits a history. Inside, traces and histories have their newest line or entry first, so that "earlier" is the
 -- tail; `Fits` turns both around for the reader.
-use Rattle.std.specs.Prelude.{◌≡◌, ℕ, suc, ◌+◌, ◌==◌, ◌&&◌, ◌||◌, Bool, true, false, if◌then◌else◌, List, [], ◌∷◌, take, reverse, filter, Option, Some, None}
+use Rattle.std.specs.Prelude.{◌≡◌, ℕ, suc, ◌+◌, ◌==◌, ◌&&◌, ◌||◌, ◌⊎◌, Bool, true, false, if◌then◌else◌, List, [], ◌∷◌, take, reverse, filter, Option, Some, None}
 use Rattle.std.specs.List.{list_any}
 use Rattle.std.specs.Str.{bytes_eq}
 use Rattle.bx_base.specs.declared.names.Point.{Point}
@@ -24,6 +24,11 @@ pub record Taking : Type 0 where
   pub node : ℕ
   pub client : ℕ
   pub bytes : List ℕ
+
+-- it is one of these
+abbrev pub IsIn : {X : Type 0} → X → List X → Type 0
+IsIn x [] = ⊥
+IsIn x (y ∷ ys) = (y ≡ x) ⊎ IsIn x ys
 
 -- an answer that a node sent
 pub record Answer : Type 0 where

@@ -1,6 +1,6 @@
 -- The slots of areas, and the first block that is not as they ask.
 use Rattle.std.specs.Prelude.{◌≡◌, ℕ, ◌+◌, ◌*◌, ◌<◌, ◌⊎◌, ◌↔◌, ◌==◌, if◌then◌else◌, true, false}
-use Rattle.bx_handles.specs.Handles.{number_of, own_handle}
+use Rattle.bx_places.specs.Handles.{number_of, own_handle}
 use Rattle.bx_layout.specs.declared.block.Block.{Block}
 use Rattle.bx_layout.specs.Areas.{in_use, generation_in}
 use Rattle.bx_places.specs.Places.{IsBlock, block_area, block_slot}

@@ -11,9 +11,8 @@ ghost use Rattle.bx_homes.specs.Reading.{CanRead, CanReadArea, ReadsBlocks};
 use crate::blocks::Blocks;
 use bx_base::OutOfMemory;
 use bx_disk::RackError;
-use bx_handles::ChunkHandle;
 use bx_layout::{AreaBlock, Block};
-use bx_places::SLOTS;
+use bx_places::{ChunkHandle, SLOTS};
 use std::alloc::Global;
 
 /// A block that is not as the slots ask.

@@ -1,2 +1,5 @@
 pub mod Found
 pub mod Written
+pub mod Trees
+pub mod Pages
+pub mod Later

@@ -4,3 +4,5 @@ pub mod Stands
 pub mod Stops
 pub mod Writing
 pub use Rattle.bx_blink.specs.Hints
+pub mod Fitting
+pub mod Pages

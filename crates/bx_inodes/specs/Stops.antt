@@ -1,7 +1,7 @@
 -- What a stopped attempt asks for.
 use Rattle.std.specs.Prelude.{◌≡◌, ℕ, true, List, None, Some, Result, Ok, Err}
 use Rattle.bx_base.specs.declared.names.Mode.{Mode}
-use Rattle.bx_handles.specs.Handles.{named}
+use Rattle.bx_places.specs.Handles.{named}
 use Rattle.bx_places.specs.Places.{is_block}
 use Rattle.bx_truth.specs.Chunks.{block_at}
 use Rattle.bx_views.specs.Truths.{Held}

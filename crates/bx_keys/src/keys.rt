@@ -4,8 +4,7 @@ ghost use Rattle.std.specs.Prelude.{◌≡◌, ◌∷◌, ◌++◌, ◌^◌, ◌
 ghost use Rattle.std.specs.Int.{w32, w64, to_be_bytes};
 ghost use Rattle.bx_truth.specs.Keys.{name_key, name_value, entry_key, entry_value};
 
-use bx_base::{OutOfMemory, Raw};
-use bx_fields::{u32_at, u64_at};
+use bx_base::{OutOfMemory, Raw, u32_at, u64_at};
 use std::alloc::Global;
 
 /// What a key begins with that has a name, and one that has a number.

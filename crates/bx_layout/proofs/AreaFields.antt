@@ -4,7 +4,7 @@ use Rattle.std.specs.Prelude.{slice_index}
 use Rattle.std.specs.List.{AllByRecursion}
 use Rattle.std.proofs.lemmas.List.{length-append}
 use Rattle.bx_base.specs.Bytes.{words}
-use Rattle.bx_fields.proofs.Fields.{IsField, as_field, then_field, fits_field, list_field, field32, bytes_field}
+use Rattle.bx_base.proofs.Fields.{IsField, as_field, then_field, fits_field, list_field, field32, bytes_field}
 use Rattle.bx_layout.specs.declared.area.AreaBlock.{AreaBlock}
 use Rattle.bx_layout.specs.Areas.{IsArea, area_text}
 use Rattle.bx_layout.proofs.Lengths.{length-words}

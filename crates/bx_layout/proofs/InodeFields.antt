@@ -3,13 +3,13 @@ use Rattle.std.proofs.Common.{◌≡◌, ℕ, ◌+◌, ◌^◌, ◌<◌, ◌≤�
 use Rattle.std.specs.Int.{w32, w64, to_be_bytes}
 use Rattle.std.proofs.lemmas.Bool.{and_parts, and_from, ltb-true, lt-ltb}
 use Rattle.std.proofs.lemmas.List.{length-append}
-use Rattle.bx_fields.proofs.Fields.{IsField, as_field, then_field, fits_field, sized_bytes_field, field32, field64}
+use Rattle.bx_base.proofs.Fields.{IsField, as_field, then_field, fits_field, sized_bytes_field, field32, field64}
 use Rattle.bx_layout.specs.declared.inode.Inode.{Inode}
-use Rattle.bx_inode_parts.specs.declared.parts.OwnerPart.{OwnerPart}
-use Rattle.bx_inode_parts.specs.declared.parts.SizePart.{SizePart}
-use Rattle.bx_inode_parts.specs.declared.parts.TreePart.{TreePart}
+use Rattle.bx_layout.specs.declared.parts.OwnerPart.{OwnerPart}
+use Rattle.bx_layout.specs.declared.parts.SizePart.{SizePart}
+use Rattle.bx_layout.specs.declared.parts.TreePart.{TreePart}
 use Rattle.bx_layout.specs.Inodes.{IsKind, IsTime, IsInode, time_text, owner_text, size_text, tree_text, inode_text}
-use Rattle.bx_inode_parts.specs.Reading.{Pairs, pair_at, pairs_at, owner_with, owner_fields, is_kind, is_owner, owner_at, size_with, size_fields, sizes_at, tree_with, tree_fields, path_at, tree_at}
+use Rattle.bx_layout.specs.InodeParts.{Pairs, pair_at, pairs_at, owner_with, owner_fields, is_kind, is_owner, owner_at, size_with, size_fields, sizes_at, tree_with, tree_fields, path_at, tree_at}
 use Rattle.bx_layout.specs.InodeReading.{inode_with, inode_parts, inode_at}
 use Rattle.bx_layout.proofs.Rows.{IsRow, row_field}
 

@@ -3,8 +3,8 @@ use Rattle.std.proofs.Common.{◌≡◌, ℕ, ◌-◌, ◌≤◌, List, length, 
 use Rattle.std.specs.Prelude.{replicate}
 use Rattle.std.proofs.lemmas.List.{length-append}
 use Rattle.bx_base.specs.Bytes.{IsBytes}
-use Rattle.bx_fields.specs.Writing.{padded}
-use Rattle.bx_fields.proofs.Whole.{padded_read, padded_same, padded_none, length-padded}
+use Rattle.bx_base.specs.Writing.{padded}
+use Rattle.bx_base.proofs.Whole.{padded_read, padded_same, padded_none, length-padded}
 use Rattle.bx_layout.specs.declared.area.AreaBlock.{AreaBlock}
 use Rattle.bx_layout.specs.declared.inode.Inode.{Inode}
 use Rattle.bx_layout.specs.Areas.{SpellsArea, area_text}

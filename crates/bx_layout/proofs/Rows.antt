@@ -1,7 +1,7 @@
 -- A row of fields as a value, where some of what was read is only tested.
 use Rattle.std.proofs.Common.{◌≡◌, ℕ, Bool, true, List, Some, refl, sym, subst}
-use Rattle.bx_fields.specs.Reading.{Reader, as_at, tested_at}
-use Rattle.bx_fields.proofs.Fields.{IsField, Takes, bind_some, some_is, tested_field}
+use Rattle.bx_base.specs.Reading.{Reader, as_at, tested_at}
+use Rattle.bx_base.proofs.Fields.{IsField, Takes, bind_some, some_is, tested_field}
 
 -- What passes the test is the row of the value that is made of it, and fits; and the row of each value that fits passes.
 pub record IsRow {A B : Type 0} (f : A → B) (g : B → A) (test : A → Bool) (Fits : A → Type 0) (P : B → Type 0) : Type 0 where

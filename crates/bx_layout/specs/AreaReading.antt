@@ -1,7 +1,7 @@
 -- Reading an area: its words, and its bits.
 use Rattle.std.specs.Prelude.{ℕ, List}
 use Rattle.std.specs.Int.{w32}
-use Rattle.bx_fields.specs.Reading.{Reader, number_at, bytes_at, then_at, as_at, list_at}
+use Rattle.bx_base.specs.Reading.{Reader, number_at, bytes_at, then_at, as_at, list_at}
 use Rattle.bx_layout.specs.declared.area.AreaBlock.{AreaBlock}
 
 abbrev pub area_with : List ℕ × List ℕ → AreaBlock

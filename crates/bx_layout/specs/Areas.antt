@@ -1,7 +1,7 @@
 -- Areas: the words of the slots, and the bits of dead inodes.
 use Rattle.std.specs.Prelude.{◌≡◌, ℕ, ◌+◌, ◌/◌, ◌%◌, ◌^◌, ◌<◌, Bool, true, false, not, ◌&&◌, ◌==◌, nat_lt, nat_le, if◌then◌else◌, List, ◌++◌, length, slice_index, slice_set}
 use Rattle.bx_base.specs.Bytes.{words}
-use Rattle.bx_fields.specs.Writing.{padded}
+use Rattle.bx_base.specs.Writing.{padded}
 use Rattle.bx_layout.specs.declared.area.AreaBlock.{AreaBlock}
 
 -- what every area has: a word of 32 bits for each slot, and a bit for each

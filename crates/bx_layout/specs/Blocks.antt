@@ -1,9 +1,9 @@
 -- Blocks: a header of one sector, and 4096 bytes.
 use Rattle.std.specs.Prelude.{◌≡◌, ℕ, ◌^◌, ◌<◌, List, ◌++◌, length}
 use Rattle.std.specs.Int.{w32, w64, to_be_bytes}
-use Rattle.bx_fields.specs.Writing.{padded}
-use Rattle.bx_handles.specs.declared.chunk_handle.ChunkHandle.{ChunkHandle}
-use Rattle.bx_handles.specs.Handles.{parts_of}
+use Rattle.bx_base.specs.Writing.{padded}
+use Rattle.bx_places.specs.declared.chunk_handle.ChunkHandle.{ChunkHandle}
+use Rattle.bx_places.specs.Handles.{parts_of}
 use Rattle.bx_layout.specs.declared.block.Block.{Block}
 
 -- a handle is that of the own block of an area of some volume

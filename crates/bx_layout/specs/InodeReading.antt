@@ -1,9 +1,9 @@
 -- Reading an inode in three parts.
-use Rattle.bx_fields.specs.Reading.{Reader, then_at, as_at}
-use Rattle.bx_inode_parts.specs.declared.parts.OwnerPart.{OwnerPart}
-use Rattle.bx_inode_parts.specs.declared.parts.SizePart.{SizePart}
-use Rattle.bx_inode_parts.specs.declared.parts.TreePart.{TreePart}
-use Rattle.bx_inode_parts.specs.Reading.{owner_at, sizes_at, tree_at}
+use Rattle.bx_base.specs.Reading.{Reader, then_at, as_at}
+use Rattle.bx_layout.specs.declared.parts.OwnerPart.{OwnerPart}
+use Rattle.bx_layout.specs.declared.parts.SizePart.{SizePart}
+use Rattle.bx_layout.specs.declared.parts.TreePart.{TreePart}
+use Rattle.bx_layout.specs.InodeParts.{owner_at, sizes_at, tree_at}
 use Rattle.bx_layout.specs.declared.inode.Inode.{Inode}
 
 abbrev pub Parts : Type 0

@@ -1,7 +1,7 @@
 -- Inodes.
 use Rattle.std.specs.Prelude.{◌≡◌, ℕ, ◌+◌, ◌^◌, ◌<◌, ◌≤◌, ◌⊎◌, List, ◌++◌, length, replicate}
 use Rattle.std.specs.Int.{w32, w64, to_be_bytes}
-use Rattle.bx_fields.specs.Writing.{padded}
+use Rattle.bx_base.specs.Writing.{padded}
 use Rattle.bx_layout.specs.declared.inode.Inode.{Inode}
 
 -- the types of files: 0 dead, 1 a regular file, 2 a directory, 5 a link

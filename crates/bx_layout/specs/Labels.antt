@@ -1,7 +1,7 @@
 -- Labels of disks, and gates: sectors that are open or closed.
 use Rattle.std.specs.Prelude.{◌≡◌, ℕ, ◌^◌, ◌<◌, ◌≤◌, List, [], ◌∷◌, ◌++◌, take, replicate}
 use Rattle.std.specs.Int.{w32, w64, to_be_bytes}
-use Rattle.bx_fields.specs.Writing.{padded}
+use Rattle.bx_base.specs.Writing.{padded}
 use Rattle.bx_layout.specs.declared.label.Label.{Label}
 use Rattle.bx_layout.specs.declared.gate.Gate.{Gate}
 use Rattle.bx_layout.specs.declared.gate.Gate.TheVariants.{Open, Closed}

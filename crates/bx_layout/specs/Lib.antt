@@ -4,3 +4,4 @@ pub mod Areas
 pub mod Inodes
 pub mod AreaReading
 pub mod InodeReading
+pub mod InodeParts

@@ -2,15 +2,14 @@
 
 ghost use Rattle.std.specs.Prelude.{◌≡◌, ◌+◌, ◌≤◌, ◌++◌, length, IfOk, IfSome, IfNone, replicate, slice_index};
 ghost use Rattle.std.specs.Int.{w32};
-ghost use Rattle.bx_fields.specs.Reading.{Gives};
-ghost use Rattle.bx_fields.specs.Writing.{padded};
+ghost use Rattle.bx_base.specs.Reading.{Gives};
+ghost use Rattle.bx_base.specs.Writing.{padded};
 ghost use Rattle.bx_layout.specs.Areas.{IsArea, SpellsArea, area_text};
 ghost use Rattle.bx_layout.specs.AreaReading.{area_at};
 ghost use Rattle.bx_layout.specs.declared.area.AreaBlock.{AreaBlock};
 
 use crate::words::{put_words, words_of};
-use bx_base::{OutOfMemory, Raw, Words};
-use bx_fields::{ReadError, before_zeros, clear_from, front_at, put};
+use bx_base::{OutOfMemory, Raw, ReadError, Words, before_zeros, clear_from, front_at, put};
 use bx_places::{PAYLOAD, SLOTS};
 use std::alloc::Global;
 

@@ -1,13 +1,11 @@
 //! Blocks.
 
 ghost use Rattle.std.specs.Prelude.{◌≡◌, ◌↔◌, ℕ, ◌<◌, length, IsTrue, IfOk, IfSome, IfNone};
-ghost use Rattle.bx_handles.specs.Handles.{parts_of};
+ghost use Rattle.bx_places.specs.Handles.{parts_of};
 ghost use Rattle.bx_layout.specs.Blocks.{IsOwn, SpellsHeader, header_text};
 
-use bx_base::{OutOfMemory, Raw};
-use bx_fields::{clear_from, put_u32, put_u64};
-use bx_handles::{ChunkHandle, OWN_SLOT};
-use bx_places::{MOST_AREAS, PAYLOAD, SECTOR};
+use bx_base::{OutOfMemory, Raw, clear_from, put_u32, put_u64};
+use bx_places::{ChunkHandle, MOST_AREAS, OWN_SLOT, PAYLOAD, SECTOR};
 use byteorder::{BigEndian, ByteOrder};
 use std::alloc::Global;
 

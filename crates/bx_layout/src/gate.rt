@@ -2,7 +2,7 @@
 
 ghost use Rattle.std.specs.Prelude.{◌≡◌, ◌↔◌, length};
 
-use bx_fields::{clear_from, put};
+use bx_base::{clear_from, put};
 
 /// Whether what stands behind a gate counts: a record, or a half of a cell.
 #[derive(Clone, Copy, PartialEq, Eq)]

@@ -1,15 +1,14 @@
 //! Inodes.
 
 ghost use Rattle.std.specs.Prelude.{◌≡◌, ◌+◌, ◌^◌, ◌<◌, ◌≤◌, IfOk, IfSome, IfNone, length};
-ghost use Rattle.bx_fields.specs.Reading.{Gives};
-ghost use Rattle.bx_fields.specs.Writing.{Writes, padded};
+ghost use Rattle.bx_base.specs.Reading.{Gives};
+ghost use Rattle.bx_base.specs.Writing.{Writes, padded};
 ghost use Rattle.bx_layout.specs.Inodes.{IsInode, SpellsInode, inode_text, owner_text, size_text, time_text, tree_text};
 ghost use Rattle.bx_layout.specs.InodeReading.{inode_at};
 ghost use Rattle.bx_layout.specs.declared.inode.Inode.{Inode};
 
-use bx_base::{OutOfMemory, Raw};
-use bx_fields::{ReadError, before_zeros, clear_from, put, put_u32, put_u64};
-use bx_inode_parts::{owner_of, sizes_of, tree_of};
+use crate::parts::{owner_of, sizes_of, tree_of};
+use bx_base::{OutOfMemory, Raw, ReadError, before_zeros, clear_from, put, put_u32, put_u64};
 use bx_places::PAYLOAD;
 use std::alloc::Global;
 

@@ -1,9 +1,9 @@
 //! Labels of disks.
 
 ghost use Rattle.std.specs.Prelude.{◌≡◌, ◌↔◌, length, IsTrue, IfSome, IfNone};
-ghost use Rattle.bx_fields.specs.Writing.{padded};
+ghost use Rattle.bx_base.specs.Writing.{padded};
 
-use bx_fields::{clear_from, put, put_u32, put_u64};
+use bx_base::{clear_from, put, put_u32, put_u64};
 use bx_places::SECTOR;
 use byteorder::{BigEndian, ByteOrder};
 

@@ -7,6 +7,7 @@ mod block;
 mod gate;
 mod inode;
 mod label;
+mod parts;
 mod readings;
 mod slots;
 mod words;

@@ -1,7 +1,7 @@
 //! Laws of formats: what is written is read again, and the same bytes are read as one value; and of slots.
 
 ghost use Rattle.std.specs.Prelude.{◌≡◌, ◌↔◌, ℕ, ◌+◌, ◌<◌, false, List, IsTrue};
-ghost use Rattle.bx_fields.specs.Writing.{padded};
+ghost use Rattle.bx_base.specs.Writing.{padded};
 ghost use Rattle.bx_layout.specs.declared.area.AreaBlock.{AreaBlock};
 ghost use Rattle.bx_layout.specs.declared.block.Block.{Block};
 ghost use Rattle.bx_layout.specs.declared.gate.Gate.{Gate};
@@ -9,7 +9,7 @@ ghost use Rattle.bx_layout.specs.declared.gate.Gate.TheVariants.{Open};
 ghost use Rattle.bx_layout.specs.declared.inode.Inode.{Inode};
 ghost use Rattle.bx_layout.specs.declared.label.Label.{Label};
 ghost use Rattle.bx_layout.specs.Areas.{IsArea, SpellsArea, area_text, generation_in, is_free, in_use, taken_word, freed_word};
-ghost use Rattle.bx_handles.specs.Handles.{number_of, own_handle, parts_of};
+ghost use Rattle.bx_places.specs.Handles.{number_of, own_handle, parts_of};
 ghost use Rattle.bx_layout.specs.Blocks.{HasParts, IsOwn, SpellsBlock, block_text};
 ghost use Rattle.bx_layout.specs.Inodes.{IsInode, SpellsInode, inode_text};
 ghost use Rattle.bx_layout.specs.Labels.{IsLabel, SpellsLabel, IsOpenGate, label_text, gate_text};

@@ -3,11 +3,10 @@
 ghost use Rattle.std.specs.Prelude.{◌+◌, ◌*◌, ◌≤◌, length};
 ghost use Rattle.std.specs.Int.{w32};
 ghost use Rattle.bx_base.specs.Bytes.{words};
-ghost use Rattle.bx_fields.specs.Reading.{Gives, number_at, list_at};
-ghost use Rattle.bx_fields.specs.Writing.{Writes};
+ghost use Rattle.bx_base.specs.Reading.{Gives, number_at, list_at};
+ghost use Rattle.bx_base.specs.Writing.{Writes};
 
-use bx_base::Words;
-use bx_fields::{ReadError, put_u32, u32_at};
+use bx_base::{ReadError, Words, put_u32, u32_at};
 use std::alloc::Global;
 
 /// As many words as are wanted, and the bytes behind them.

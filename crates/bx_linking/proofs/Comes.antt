@@ -3,9 +3,9 @@ use Rattle.std.proofs.Common.{◌≡◌, ℕ, ◌≤◌, Bool, true, false, List
 use Rattle.std.specs.Prelude.{nat_le, nat_lt, IfErr, Result, Ok, Err}
 use Rattle.bx_base.specs.declared.names.Mode.{Mode}
 use Rattle.bx_blink.specs.Walks.{Reads}
-use Rattle.bx_adding.specs.Lacking.{FindsBoth, IfFirst}
+use Rattle.bx_entries.specs.Lacking.{FindsBoth, IfFirst}
 use Rattle.bx_changes.specs.Stopping.{NeverFirst}
-use Rattle.bx_adding.proofs.Lacks.{never_first}
+use Rattle.bx_entries.proofs.Lacks.{never_first}
 use Rattle.bx_changes.specs.Changes.{Changes}
 use Rattle.bx_changes.specs.First.{ComesFirst}
 use Rattle.bx_changes.specs.Growing.{IfFull, IsChangeBy, NeedsBy}
@@ -13,8 +13,8 @@ use Rattle.bx_changes.specs.declared.error.ChangeError.{ChangeError}
 use Rattle.bx_changes.specs.declared.error.ChangeError.TheVariants.{Stopped, Full}
 use Rattle.bx_entries.specs.Finding.{DirectoryFor, MayUse, usable}
 use Rattle.bx_entries.proofs.Found.{is_a_directory, uses}
-use Rattle.bx_handles.specs.Handles.{named}
-use Rattle.bx_hints.specs.Fitting.{HintsFitAll}
+use Rattle.bx_places.specs.Handles.{named}
+use Rattle.bx_inodes.specs.Fitting.{HintsFitAll}
 use Rattle.bx_inodes.specs.Inodes.{FileAt, InodeAt, IsInodeOf}
 use Rattle.bx_inodes.specs.Stands.{Stands}
 use Rattle.bx_inodes.specs.Stops.{NeverInner}

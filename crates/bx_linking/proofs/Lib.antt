@@ -1,4 +1,4 @@
 pub mod Tested
 pub mod Linked
 pub mod Comes
-pub use Rattle.bx_adding.proofs.Lacks
+pub use Rattle.bx_entries.proofs.Lacks

@@ -3,7 +3,7 @@ use Rattle.std.proofs.Common.{◌≡◌, ℕ, ◌≤◌, ◌<◌, Bool, true, fa
 use Rattle.std.specs.Prelude.{◌⊎◌, nat_le, nat_lt, is_some, Result, Ok, Err}
 use Rattle.std.proofs.lemmas.Bool.{le-leb}
 use Rattle.std.proofs.lemmas.Bool.Decides.{nat_tests}
-use Rattle.bx_adding.specs.Finding.{RoomIn}
+use Rattle.bx_entries.specs.RoomFinding.{RoomIn}
 use Rattle.bx_changes.specs.declared.error.ChangeError.{ChangeError}
 use Rattle.bx_changes.specs.declared.error.ChangeError.TheVariants.{Stopped, Full}
 use Rattle.bx_dirs.specs.Entries.{HasEntries}
@@ -11,7 +11,7 @@ use Rattle.bx_entries.specs.declared.finding.Removable.TheVariants as of
 use Rattle.bx_entries.specs.Finding.{IsDirectoryOf}
 use Rattle.bx_entries.proofs.RemovedFrom.{IsListed, listed}
 use Rattle.bx_files.specs.Paths.{IsNeed}
-use Rattle.bx_hints.proofs.Pages.{inode_is}
+use Rattle.bx_inodes.proofs.Pages.{inode_is}
 use Rattle.bx_inodes.specs.declared.stop.Stop.{Stop}
 use Rattle.bx_inodes.specs.declared.stop.Stop.TheVariants.{Need, Inner, Status, OutOfMemory}
 use Rattle.bx_layout.specs.declared.inode.Inode.{Inode}

@@ -1,4 +1,4 @@
 pub mod Drafting
 pub mod Linking
-pub use Rattle.bx_adding.specs.Lacking
-pub use Rattle.bx_adding.specs.Finding
+pub use Rattle.bx_entries.specs.Lacking
+pub use Rattle.bx_entries.specs.RoomFinding

@@ -1,7 +1,7 @@
 -- LINK: what it comes to by what it finds, and its path.
 use Rattle.std.specs.Prelude.{◌≡◌, ℕ, ◌≤◌, ◌⊎◌, nat_le, false, List, [], Option, None, Some, Result, Ok, Err}
-use Rattle.bx_adding.specs.Finding.{IsReadyFor, OnRoomPath}
-use Rattle.bx_adding.specs.Lacking.{FindsBoth}
+use Rattle.bx_entries.specs.RoomFinding.{IsReadyFor, OnRoomPath}
+use Rattle.bx_entries.specs.Lacking.{FindsBoth}
 use Rattle.bx_base.specs.declared.names.Mode.{Mode}
 use Rattle.bx_base.specs.declared.names.Mode.TheVariants.{Exclusive}
 use Rattle.bx_blink.specs.Walks.{reads_with}
@@ -11,8 +11,8 @@ use Rattle.bx_changes.specs.Growing.{IsNearlyFull, LeavesTrees}
 use Rattle.bx_dirs.specs.Changes.{OnAddPath, entry_of}
 use Rattle.bx_entries.specs.Finding.{usable}
 use Rattle.bx_files.specs.Paths.{OnSearch}
-use Rattle.bx_handles.specs.Handles.{named, parts_of}
-use Rattle.bx_hints.specs.Fitting.{HintsFitAll}
+use Rattle.bx_places.specs.Handles.{named, parts_of}
+use Rattle.bx_inodes.specs.Fitting.{HintsFitAll}
 use Rattle.bx_inodes.specs.Inodes.{IsInodeOf, LiveAt}
 use Rattle.bx_inodes.specs.Stands.{Stands}
 use Rattle.bx_inodes.specs.Stops.{OnInode}

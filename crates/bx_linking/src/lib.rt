@@ -6,6 +6,6 @@ mod places;
 mod searching;
 mod testing;
 
-pub use bx_adding::room_for;
+pub use bx_entries::room_for;
 pub use linking::link;
 pub use searching::find_entry;

@@ -1,7 +1,7 @@
 //! LINK.
 
 ghost use Rattle.std.specs.Prelude.{◌≡◌, ◌≤◌, length, Err, IfErr, IfOk};
-ghost use Rattle.bx_adding.specs.Lacking.{MakesPlace, NoSlotsNear, ReadyToEnter};
+ghost use Rattle.bx_entries.specs.Lacking.{MakesPlace, NoSlotsNear, ReadyToEnter};
 ghost use Rattle.bx_changes.specs.Procedures.{ComesFirst, HoldsFirst, IfFull, IsChangeBy, IsHeldDraft, KeepsHints, NeedsBy, OnVolume};
 ghost use Rattle.bx_model.specs.Making.{link as link_of};
 ghost use Rattle.bx_linking.specs.Linking.{OnLink};
@@ -10,9 +10,9 @@ use crate::places::link_into;
 use bx_base::Mode;
 use bx_changes::ChangeError;
 use bx_entries::Known;
-use bx_handles::named_handle;
 use bx_inodes::{Stop, inode_at};
 use bx_model::{Call, NFS_OK, Reply, STALE};
+use bx_places::named_handle;
 use bx_records::Draft;
 use bx_views::View;
 use std::alloc::Global;

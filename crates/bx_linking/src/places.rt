@@ -1,7 +1,7 @@
 //! The place of a file's new name: the directory that is named, and the entry in it.
 
 ghost use Rattle.std.specs.Prelude.{◌<◌, ◌≤◌, ℕ, [], length, IfErr, IfOk, IsSome};
-ghost use Rattle.bx_adding.specs.Lacking.{IfFirst, MakesPlace, NoSlotsNear, ReadyToEnter};
+ghost use Rattle.bx_entries.specs.Lacking.{IfFirst, MakesPlace, NoSlotsNear, ReadyToEnter};
 ghost use Rattle.bx_changes.specs.Procedures.{Exclusive, HoldsFirst, IfFull, IsHeldDraft, IsInode, IsInodeOf, LiveAt, NeedsBy, NeverFirst, OnVolume, Tree, Truth, block_at, reads_with};
 ghost use Rattle.bx_dirs.specs.Changes.{OnAddPath, entry_of};
 ghost use Rattle.bx_model.specs.Reading.{named_file};
@@ -9,13 +9,12 @@ ghost use Rattle.bx_linking.specs.Drafting.{ComesBy};
 ghost use Rattle.bx_linking.specs.Linking.{IsLinking, LinksIn, MayLink, OnInto, linking, with_link};
 
 use crate::testing::may_link;
-use bx_adding::enter;
 use bx_changes::ChangeError;
-use bx_entries::{Known, directory_for};
-use bx_handles::named_handle;
+use bx_entries::{Known, directory_for, enter};
 use bx_inodes::{Stop, put_inode};
 use bx_layout::Inode;
 use bx_model::{Call, STALE, Want};
+use bx_places::named_handle;
 use bx_records::Draft;
 use bx_views::View;
 use std::alloc::Global;

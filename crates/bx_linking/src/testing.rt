@@ -1,16 +1,15 @@
 //! Whether a file may have one more name.
 
 ghost use Rattle.std.specs.Prelude.{◌≡◌, ◌<◌, ℕ, [], None, IfErr, IfOk};
-ghost use Rattle.bx_adding.specs.Lacking.{FindsBoth, IfFirst, MakesEither};
+ghost use Rattle.bx_entries.specs.Lacking.{FindsBoth, IfFirst, MakesEither};
 ghost use Rattle.bx_changes.specs.Procedures.{HoldsFirst, IfFull, NeedsBy, NeedsOn, NeverInner, NoSlots, Tree, Truth, parts_of};
 ghost use Rattle.bx_files.specs.Paths.{OnSearch};
 ghost use Rattle.bx_truth.specs.Keys.{name_key};
 ghost use Rattle.bx_linking.specs.Linking.{IsLinking, LinkErrorIn, MayLinkIn, OnTest};
 
 use crate::searching::find_entry;
-use bx_adding::room_for;
 use bx_changes::ChangeError;
-use bx_entries::Known;
+use bx_entries::{Known, room_for};
 use bx_inodes::Stop;
 use bx_model::{DQUOT, EXIST, PERM};
 use bx_tree_files::DIRECTORY;

@@ -3,8 +3,8 @@ use Rattle.std.proofs.Common.{◌≡◌, ℕ, zero, suc, ◌^◌, ◌<◌, List,
 use Rattle.std.proofs.lemmas.Bool.{lt-ltb, ltb-true}
 use Rattle.bx_base.specs.declared.names.Mode.{Mode}
 use Rattle.bx_base.specs.declared.names.Mode.TheVariants.{Shared, Exclusive}
-use Rattle.bx_fields.specs.Reading.{Reader, as_at}
-use Rattle.bx_fields.proofs.Fields.{IsField, Takes, as_field, bind_some, field32, field64, fits_field, some_is, tested_field, then_field}
+use Rattle.bx_base.specs.Reading.{Reader, as_at}
+use Rattle.bx_base.proofs.Fields.{IsField, Takes, as_field, bind_some, field32, field64, fits_field, some_is, tested_field, then_field}
 use Rattle.bx_rows.specs.Conditions.{Fits}
 use Rattle.bx_lock_words.specs.declared.words.Grant.{Grant}
 use Rattle.bx_lock_words.specs.declared.words.Release.{Release}

@@ -4,8 +4,8 @@ use Rattle.std.proofs.lemmas.Bool.{eqb-true}
 use Rattle.std.proofs.lemmas.List.{append-nil}
 use Rattle.std.proofs.lemmas.Option.{some_pair_parts}
 use Rattle.bx_base.specs.Bytes.{IsBytes}
-use Rattle.bx_fields.specs.Reading.{Reader, as_at}
-use Rattle.bx_fields.proofs.Fields.{IsField, Takes, bind_some, field64, some_is}
+use Rattle.bx_base.specs.Reading.{Reader, as_at}
+use Rattle.bx_base.proofs.Fields.{IsField, Takes, bind_some, field64, some_is}
 use Rattle.bx_lock_words.specs.declared.words.Word.{Word}
 use Rattle.bx_lock_words.specs.declared.words.Word.TheVariants.{Wants, Grants, Revokes, Releases, Renews, Leases}
 use Rattle.bx_lock_words.specs.Reading

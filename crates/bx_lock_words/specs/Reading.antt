@@ -3,7 +3,7 @@ use Rattle.std.specs.Prelude.{◌==◌, ℕ, zero, suc, Bool, nat_lt, None, if�
 use Rattle.std.specs.Int.{w32, w64}
 use Rattle.bx_base.specs.declared.names.Mode.{Mode}
 use Rattle.bx_base.specs.declared.names.Mode.TheVariants.{Shared, Exclusive}
-use Rattle.bx_fields.specs.Reading.{Reader, number_at, then_at, as_at, tested_at}
+use Rattle.bx_base.specs.Reading.{Reader, number_at, then_at, as_at, tested_at}
 use Rattle.bx_lock_words.specs.declared.words.Grant.{Grant}
 use Rattle.bx_lock_words.specs.declared.words.Release.{Release}
 use Rattle.bx_lock_words.specs.declared.words.Revoke.{Revoke}

@@ -1,13 +1,12 @@
 //! Parts of bodies, read from the front of bytes.
 
 ghost use Rattle.std.specs.Prelude.{◌≡◌, IfErr};
-ghost use Rattle.bx_fields.specs.Reading.{Gives};
-ghost use Rattle.bx_fields.specs.declared.error.ReadError.TheVariants.{Malformed};
+ghost use Rattle.bx_base.specs.Reading.{Gives};
+ghost use Rattle.bx_base.specs.declared.error.ReadError.TheVariants.{Malformed};
 ghost use Rattle.bx_lock_words.specs.Reading.{grant_at, mode_at, numbers_at, release_at, revoke_at, want_at};
 
 use crate::words::{Grant, Release, Revoke, Want};
-use bx_base::Mode;
-use bx_fields::{ReadError, u32_at, u64_at};
+use bx_base::{Mode, ReadError, u32_at, u64_at};
 
 /// Two numbers, and the bytes behind them.
 #[tactic(auto, unfolding(crate::specs::Reading::numbers_at))]

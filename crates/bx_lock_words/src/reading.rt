@@ -1,15 +1,15 @@
 //! Reading what is said.
 
 ghost use Rattle.std.specs.Prelude.{◌≡◌, IfErr, MatchOption};
-ghost use Rattle.bx_fields.specs.Reading.{Gives};
-ghost use Rattle.bx_fields.specs.declared.error.ReadError.TheVariants.{Malformed};
+ghost use Rattle.bx_base.specs.Reading.{Gives};
+ghost use Rattle.bx_base.specs.declared.error.ReadError.TheVariants.{Malformed};
 ghost use Rattle.bx_lock_words.specs.Reading.{word_at};
 ghost use Rattle.bx_lock_words.specs.Words.{Spells};
 ghost use Rattle.bx_lock_words.specs.declared.words.Word.{Word};
 
 use crate::parts::{grant_of, numbers_of, release_of, revoke_of, want_of};
 use crate::words::Word;
-use bx_fields::{ReadError, u64_at};
+use bx_base::{ReadError, u64_at};
 
 impl Word {
     /// What a packet of this kind and body says. `None` exactly where that is nothing: the kind is none of the lock service's, or

@@ -4,8 +4,7 @@ ghost use Rattle.std.specs.Prelude.{◌≡◌, ◌++◌, IfOk, OnOk};
 ghost use Rattle.bx_lock_words.specs.Words.{body_text, grant_text, mode_text, numbers_text, release_text, revoke_text, want_text};
 
 use crate::words::{Grant, Release, Revoke, Want, Word};
-use bx_base::{Mode, OutOfMemory, Raw};
-use bx_fields::{push_u32, push_u64};
+use bx_base::{Mode, OutOfMemory, Raw, push_u32, push_u64};
 use std::alloc::Global;
 
 impl Word {

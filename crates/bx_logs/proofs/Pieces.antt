@@ -6,7 +6,7 @@ use Rattle.std.proofs.lemmas.Bool.Decides.{nat_tests}
 use Rattle.std.proofs.lemmas.List.{take_all, take-append-le, drop-append-le, length-append, length-map, map-append, take_more}
 use Rattle.std.proofs.Math.Seq.{drop-append-add}
 use Rattle.bx_disk.specs.Disks.{Image, sector_of}
-use Rattle.bx_fields.specs.Writing.{padded}
+use Rattle.bx_base.specs.Writing.{padded}
 use Rattle.bx_calls.specs.Regions.{ReadsAs}
 use Rattle.bx_layout.specs.declared.block.Block.{Block}
 use Rattle.bx_layout.specs.Blocks.{HasParts, block_text}

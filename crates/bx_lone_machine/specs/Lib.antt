@@ -1,2 +1,3 @@
 pub mod Machine
 pub mod Rounds
+pub use Rattle.bx_engine.specs.Calls

@@ -18,10 +18,9 @@ ghost use Rattle.bx_volume.specs.Records.{Logged, newest_in};
 use crate::through::write_through;
 use bx_base::{List, OutOfMemory, Raw};
 use bx_disk::{Rack, RackError};
-use bx_handles::{ChunkHandle, OWN_SLOT};
 use bx_layout::Block;
 use bx_logs::Newest;
-use bx_places::{MOST_AREAS, PAYLOAD, SECTOR, place};
+use bx_places::{ChunkHandle, MOST_AREAS, OWN_SLOT, PAYLOAD, SECTOR, place};
 use bx_records::Run;
 use std::alloc::Global;
 

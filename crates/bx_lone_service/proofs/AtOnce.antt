@@ -1,7 +1,7 @@
 -- A call that touches no block leaves the file tree as it is.
 use Rattle.std.proofs.Common.{◌≡◌, ℕ, Bool, true, false, List, Ok, Option, Some, None, ap, subst}
 use Rattle.std.specs.Prelude.{◌==◌, if◌then◌else◌}
-use Rattle.bx_engine.specs.Calls.{HasNoFile, IsAtOnce}
+use Rattle.bx_lone_machine.specs.Calls.{HasNoFile, IsAtOnce}
 use Rattle.bx_model.specs.declared.call.Args.{Args}
 use Rattle.bx_model.specs.declared.call.Args.TheVariants as args
 use Rattle.bx_model.specs.declared.call.Call.{Call}

@@ -5,3 +5,5 @@ pub mod Rounding
 pub mod Stopping
 pub mod Back
 mod Bare
+pub mod Nodes
+mod Tidies

@@ -1,6 +1,6 @@
 -- Calls that wait in a queue.
-use Rattle.std.proofs.Common.{◌≡◌, true, ℕ, ◌<◌, ◌≤◌, List, [], ◌∷◌, ◌++◌, Contains, Result, Ok, Err, OnOk, refl, sym, ap, subst, ◌∙◌, arith, append_assoc}
-use Rattle.std.specs.Prelude.{◌≢◌, map}
+use Rattle.std.proofs.Common.{◌≡◌, ◌⊎◌, inl, inr, true, ℕ, ◌<◌, ◌≤◌, List, [], ◌∷◌, ◌++◌, Contains, Result, Ok, Err, OnOk, refl, sym, ap, subst, ◌∙◌, arith, append_assoc}
+use Rattle.std.specs.Prelude.{◌≢◌, ◌↔◌, map}
 use Rattle.std.specs.List.{AllByRecursion}
 use Rattle.std.proofs.lemmas.List.{map-append}
 use Rattle.bx_lone_machine.specs.Machine.{AreRising, calls_of, latest_of}
@@ -10,7 +10,10 @@ use Rattle.bx_lone_machine.proofs.Rising.{rising_more}
 use Rattle.bx_facts.proofs.Lists.{behind}
 use Rattle.bx_lone_standing.specs.declared.stage.Waiting.{Waiting}
 use Rattle.bx_rpc.specs.Message.{is_message}
-use Rattle.bx_lone_service.specs.Calls.{taking_of}
+use Rattle.bx_history.specs.Trace.{IsIn, Taking}
+use Rattle.bx_service.specs.Rounds.{taking_of}
+use Rattle.bx_service.specs.declared.event.Call.{Call}
+use Rattle.bx_lone_service.specs.Calls.{taking_as}
 use Rattle.bx_lone_service.specs.Stages.{AreQueued, latest_in}
 use Rattle.bx_lone_service.specs.declared.returning.Left.{Left}
 
@@ -19,8 +22,8 @@ ok_then (Ok x) gives holds = gives holds
 ok_then (Err e) gives holds = tt
 
 -- one call more waits
-pub one_more : (old new : List Waiting) (call : Waiting) → new ≡ old ++ call ∷ [] → map taking_of new ≡ map taking_of old ++ taking_of call ∷ []
-one_more old new call is = ap (map taking_of) is ∙ map-append taking_of old (call ∷ [])
+pub one_more : (old new : List Waiting) (call : Waiting) → new ≡ old ++ call ∷ [] → map taking_as new ≡ map taking_as old ++ taking_as call ∷ []
+one_more old new call is = ap (map taking_as) is ∙ map-append taking_as old (call ∷ [])
 
 pub latest_more : (above : ℕ) (queue : List Waiting) (call : Waiting) → latest_in above (queue ++ call ∷ []) ≡ call.number
 latest_more above [] call = refl
@@ -41,7 +44,7 @@ queued_less above call queue queued = record { messages = λ one there. queued.m
     there_behind one there = behind call queue one there
 
 -- all of them are above what is below the first
-pub above_all : (above most below : ℕ) (queue : List Waiting) → AreRising above most queue → below ≤ above → AllByRecursion (λ call. call.call ≢ below) (map taking_of queue)
+pub above_all : (above most below : ℕ) (queue : List Waiting) → AreRising above most queue → below ≤ above → AllByRecursion (λ call. call.call ≢ below) (map taking_as queue)
 above_all above most below [] rising le = tt
 above_all above most below (call ∷ queue) rising le = (
   λ same. (let less = rising.0 in omega (arith, same, less, le)),
@@ -69,3 +72,39 @@ joins_next old new left call rest whole joins calls latest = record {
   queued = subst (λ (n : ℕ). AreQueued n rest) (sym latest) (queued_less (latest_of old) call rest joins.queued);
   last = ap (λ (n : ℕ). latest_in n rest) latest ∙ joins.last;
 }
+
+-- ---- what waits, as a set
+
+-- it waits with one call more where it waited, or is that call
+pub more_in : (old new : List Waiting) (call : Waiting) (came : Call) (other : Taking) → came.node < 1 → taking_of came ≡ record (taking_as call) { node = came.node } → new ≡ old ++ call ∷ []
+    → IsIn other (map taking_as new) ↔ (IsIn other (map taking_as old) ⊎ (other ≡ taking_of came))
+more_in old new call came other there same is = (λ i. forth (in_either (map taking_as old) (subst (IsIn other) whole i)), λ w. subst (IsIn other) (sym whole) (back w))
+  where
+    whole : map taking_as new ≡ map taking_as old ++ taking_as call ∷ []
+    whole = one_more old new call is
+
+    this : taking_as call ≡ taking_of came
+    this = ap (λ (n : ℕ). record (taking_as call) { node = n }) (let zero_is : 0 ≡ came.node = omega (arith, there) in zero_is) ∙ sym same
+
+    in_either : (calls : List Taking) → IsIn other (calls ++ taking_as call ∷ []) → IsIn other calls ⊎ (taking_as call ≡ other)
+    in_either [] (inl e) = inr e
+    in_either [] (inr none) = absurd none
+    in_either (one ∷ calls) (inl e) = inl (inl e)
+    in_either (one ∷ calls) (inr i) = elim (in_either calls i) [ inl first ↦ inl (inr first) | inr e ↦ inr e ]
+
+    forth : IsIn other (map taking_as old) ⊎ (taking_as call ≡ other) → IsIn other (map taking_as old) ⊎ (other ≡ taking_of came)
+    forth (inl i) = inl i
+    forth (inr e) = inr (sym e ∙ this)
+
+    in_front : (calls : List Taking) → IsIn other calls → IsIn other (calls ++ taking_as call ∷ [])
+    in_front [] i = absurd i
+    in_front (one ∷ calls) (inl e) = inl e
+    in_front (one ∷ calls) (inr i) = inr (in_front calls i)
+
+    at_end : (calls : List Taking) → taking_as call ≡ other → IsIn other (calls ++ taking_as call ∷ [])
+    at_end [] e = inl e
+    at_end (one ∷ calls) e = inr (at_end calls e)
+
+    back : IsIn other (map taking_as old) ⊎ (other ≡ taking_of came) → IsIn other (map taking_as old ++ taking_as call ∷ [])
+    back (inl i) = in_front (map taking_as old) i
+    back (inr e) = at_end (map taking_as old) (this ∙ sym e)

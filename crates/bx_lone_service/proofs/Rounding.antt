@@ -1,6 +1,7 @@
 -- What rounds and recoveries are to a service.
 use Rattle.std.proofs.Common.{◌≡◌, ℕ, ◌⊎◌, inl, inr, List, [], ◌∷◌, ◌++◌, Option, Some, None, Result, Ok, Err, OnOk, refl, sym, ap, subst, ◌∙◌, arith}
-use Rattle.std.specs.Prelude.{IfSome, is_some, map, true}
+use Rattle.std.specs.Prelude.{◌≢◌, IfSome, is_some, map, true}
+use Rattle.std.specs.List.{AllByRecursion}
 use Rattle.std.specs.Option.{option_map}
 use Rattle.bx_base.specs.declared.names.Point.{Point}
 use Rattle.bx_disk.specs.Disks.{Disks}
@@ -18,8 +19,9 @@ use Rattle.bx_lone_repair.specs.Left as lefts
 use Rattle.bx_lone_repair.specs.Recovering.{IsFoundOpen}
 use Rattle.bx_model.specs.declared.tree.Tree.{Tree}
 use Rattle.bx_history.specs.Trace.{Taking}
-use Rattle.bx_service.specs.Rounds.{Answers, Doubt, Finds, GoesOn, IsBegun, Restarts}
-use Rattle.bx_lone_service.specs.Calls.{taking_of}
+use Rattle.bx_service.specs.Rounds.{Doubt}
+use Rattle.bx_lone_service.specs.Lone.{Answers, Finds, GoesOn, IsBegun, Recovers}
+use Rattle.bx_lone_service.specs.Calls.{taking_as}
 use Rattle.bx_lone_service.specs.Stages.{AreQueued, IsHolding, IsLeftBy, doubt_as, latest_in, maybe_doubt}
 use Rattle.bx_lone_service.specs.declared.returning.Left.{Left}
 use Rattle.bx_lone_service.specs.declared.service.Stage.TheVariants.{Up}
@@ -29,7 +31,7 @@ use Rattle.bx_lone_service.proofs.Queues.{above_all}
 
 pub finds : (left : Left) (queue : List Waiting) (x y : Disks) (tree : Tree) (doubt : Option Doubt) (point : Point) → AreQueued left.latest queue → (holds : IsLeftBy left x tree doubt)
     → IsFoundOpen left.volume left.floor tree holds.of y point
-    → Finds (λ t d. IsLeftBy (record { volume = left.volume; floor = point.call; latest = left.latest }) y t d) (map taking_of queue) tree doubt point
+    → Finds (λ t d. IsLeftBy (record { volume = left.volume; floor = point.call; latest = left.latest }) y t d) (map taking_as queue) tree doubt point
 finds left queue x y tree doubt point queued holds found = record {
   doubt = doubt_as (record { call = found.acted.call; point = point });
   was = holds.is ∙ ap maybe_doubt found.acted.is;
@@ -44,7 +46,7 @@ finds left queue x y tree doubt point queued holds found = record {
     none_is one is = cc
 
 -- nothing is in doubt after it
-pub nothing_more : (Holds_then : Tree → Option Doubt → Type 0) (waits : List Taking) (tree : Tree) (found : Option Point) → Restarts Holds_then waits tree None found → Holds_then tree None
+pub nothing_more : (Holds_then : Tree → Option Doubt → Type 0) (waits : List Taking) (tree : Tree) (found : Option Point) → Recovers Holds_then waits tree None found → Holds_then tree None
 nothing_more Holds_then waits tree None returns = by returns.now refl
   where
     none_is : (doubt : Doubt) → None ≡ Some doubt → ⊥
@@ -65,7 +67,7 @@ finds_on Holds Holds_then waits waits_then tree doubt point same found holds =
 
 -- A recovery that finds a call is tried again, and goes on.
 pub twice : (Holds Holds_then : Tree → Option Doubt → Type 0) (waits waits_then : List Taking) (tree : Tree) (doubt : Option Doubt) (found found_then : Option Point) → is_some found ≡ true → waits_then ≡ waits
-    → Restarts Holds waits tree doubt found → ((next : Tree) → Holds next None → Restarts Holds_then waits_then next None found_then) → Restarts Holds_then waits_then tree doubt found
+    → Recovers Holds waits tree doubt found → ((next : Tree) → Holds next None → Recovers Holds_then waits_then next None found_then) → Recovers Holds_then waits_then tree doubt found
 twice Holds Holds_then waits waits_then tree doubt None found_then some same restarts again = absurd cc
 twice Holds Holds_then waits waits_then tree doubt (Some point) found_then some same restarts again =
     finds_on Holds Holds_then waits waits_then tree doubt point same restarts (nothing_more Holds_then waits_then restarts.next found_then (again restarts.next restarts.holds))
@@ -110,8 +112,8 @@ is_one machine sizes ready doubt is =
 doubt_is : (machine : LoneMachine) (call : Waiting) (rest : List Waiting) (point : Point) → calls_of machine ≡ call ∷ rest → record_of machine ≡ Some point → doubt_of machine ≡ Some (record { call = call; point = point })
 doubt_is machine call rest point calls recorded = ap (λ (l : List Waiting). doubt_in l (record_of machine)) calls ∙ ap (doubt_in (call ∷ rest)) recorded
 
-begun : (machine : LoneMachine) (doubt : Doubt) (moment : ℕ) → (one : IsOne machine doubt) → one.one.point.moment ≡ moment → IsBegun moment (map taking_of (calls_of machine)) doubt
-begun machine doubt moment one at = subst (IsBegun moment (map taking_of (calls_of machine))) one.same (record { rest = map taking_of one.rest; oldest = ap (map taking_of) one.calls; of = one.of; at = at })
+begun : (machine : LoneMachine) (doubt : Doubt) (moment : ℕ) → (one : IsOne machine doubt) → one.one.point.moment ≡ moment → IsBegun moment (map taking_as (calls_of machine)) doubt
+begun machine doubt moment one at = subst (IsBegun moment (map taking_as (calls_of machine))) one.same (record { rest = map taking_as one.rest; oldest = ap (map taking_as) one.calls; of = one.of; at = at })
 
 module _ (old new : LoneMachine) (sizes sizes_then : List ℕ) (ready : machines.IsReady old sizes) (ready_then : machines.IsReady new sizes_then) (y : Disks) (moment : ℕ) (tree : Tree) (doubt : Option Doubt) (is : doubt ≡ maybe_doubt (doubt_of old)) where
   -- what was under way, or begins
@@ -120,20 +122,20 @@ module _ (old new : LoneMachine) (sizes sizes_then : List ℕ) (ready : machines
 
   -- no call is answered
   pub goes_on : calls_of new ≡ calls_of old → IsOfRound moment (record_of old) (record_of new) None → Holds new y tree
-      → GoesOn (IsHolding (Up new) y) moment (map taking_of (calls_of old)) (map taking_of (calls_of new)) tree doubt
+      → GoesOn (IsHolding (Up new) y) moment (map taking_as (calls_of old)) (map taking_as (calls_of new)) tree doubt
   goes_on same round holds = record {
-    same = ap (map taking_of) same;
+    same = ap (map taking_as) same;
     now = maybe_doubt (doubt_of new);
     follows = λ of found. follows of (is_one new sizes_then ready_then of found);
     holds = (holds, refl);
   }
     where
-      follows : (of : Doubt) → IsOne new of → (doubt ≡ Some of) ⊎ IsBegun moment (map taking_of (calls_of old)) of
+      follows : (of : Doubt) → IsOne new of → (doubt ≡ Some of) ⊎ IsBegun moment (map taking_as (calls_of old)) of
       follows of one = by (came None round of one)
         where
-          by : (record_of old ≡ Some one.one.point) ⊎ (one.one.point.moment ≡ moment) → (doubt ≡ Some of) ⊎ IsBegun moment (map taking_of (calls_of old)) of
+          by : (record_of old ≡ Some one.one.point) ⊎ (one.one.point.moment ≡ moment) → (doubt ≡ Some of) ⊎ IsBegun moment (map taking_as (calls_of old)) of
           by (inl was) = inl (is ∙ ap maybe_doubt (doubt_is old one.one.call one.rest one.one.point (sym same ∙ one.calls) was) ∙ ap (λ (d : Doubt). Some d) one.same)
-          by (inr at) = inr (subst (λ (l : List Waiting). IsBegun moment (map taking_of l) of) same (begun new of moment one at))
+          by (inr at) = inr (subst (λ (l : List Waiting). IsBegun moment (map taking_as l) of) same (begun new of moment one at))
 
   -- the oldest is
   module _ (acted : nodes.Acted) (takes : Takes (Some acted) (calls_of old) (calls_of new)) (round : IsOfRound moment (record_of old) (record_of new) (Some acted))
@@ -144,7 +146,7 @@ module _ (old new : LoneMachine) (sizes sizes_then : List ℕ) (ready : machines
     first : takes.0 ≡ has.call
     first = head_is takes.0 has.call (calls_of new) (calls_of new) (sym takes.1 ∙ has.oldest)
 
-    at : (record_of old ≡ Some acted.point) ⊎ (acted.point.moment ≡ moment) → (acted.point.moment ≡ moment) ⊎ (doubt ≡ Some (record { call = taking_of has.call; point = acted.point }))
+    at : (record_of old ≡ Some acted.point) ⊎ (acted.point.moment ≡ moment) → (acted.point.moment ≡ moment) ⊎ (doubt ≡ Some (record { call = taking_as has.call; point = acted.point }))
     at (inl was) = inr (is ∙ ap maybe_doubt (doubt_is old has.call (calls_of new) acted.point has.oldest was))
     at (inr now) = inl now
 
@@ -156,10 +158,19 @@ module _ (old new : LoneMachine) (sizes sizes_then : List ℕ) (ready : machines
         let less = rising.1.0 in
         omega (arith, before.2, one.of, less)
 
-    pub answers : Answers (IsHolding (Up new) y) moment (map taking_of (calls_of old)) (map taking_of (calls_of new)) tree doubt (record { point = acted.point; reply = acted.reply })
+    -- the others that wait have higher numbers
+    higher : AllByRecursion (λ call. call.call ≢ acted.point.call) (map taking_as (calls_of new))
+    higher =
+        let rising = subst (AreRising (call_past old.node.stage) (machines.latest_of old)) has.oldest ready.rising in
+        let of_it : acted.point.call ≡ has.call.number = takes.2 ∙ ap (λ (w : Waiting). w.number) first in
+        above_all has.call.number (machines.latest_of old) acted.point.call (calls_of new) rising.1 (omega (arith, of_it))
+
+    pub answers : Answers (IsHolding (Up new) y) moment (map taking_as (calls_of old)) (map taking_as (calls_of new)) tree doubt (record { node = 0; point = acted.point; reply = acted.reply })
     answers = record {
-      call = taking_of has.call;
-      oldest = ap (map taking_of) has.oldest;
+      call = taking_as has.call;
+      oldest = ap (map taking_as) has.oldest;
+      here = refl;
+      others = higher;
       of = takes.2 ∙ ap (λ (w : Waiting). w.number) first;
       at = at round.says;
       next = has.next;
@@ -169,10 +180,10 @@ module _ (old new : LoneMachine) (sizes sizes_then : List ℕ) (ready : machines
       holds = (has.stands, refl);
     }
       where
-        follows : (of : Doubt) → IsOne new of → (None ≡ Some of) ⊎ IsBegun moment (map taking_of (calls_of new)) of
+        follows : (of : Doubt) → IsOne new of → (None ≡ Some of) ⊎ IsBegun moment (map taking_as (calls_of new)) of
         follows of one = by (came (Some acted) round of one)
           where
-            by : (record_of old ≡ Some one.one.point) ⊎ (one.one.point.moment ≡ moment) → (None ≡ Some of) ⊎ IsBegun moment (map taking_of (calls_of new)) of
+            by : (record_of old ≡ Some one.one.point) ⊎ (one.one.point.moment ≡ moment) → (None ≡ Some of) ⊎ IsBegun moment (map taking_as (calls_of new)) of
             by (inl was) = absurd (other of one was)
             by (inr now) = inr (begun new of moment one now)
 

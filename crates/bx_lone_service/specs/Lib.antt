@@ -3,3 +3,4 @@ pub mod Logs
 pub mod Services
 pub mod Shown
 pub mod Stages
+pub mod Lone

@@ -122,29 +122,28 @@ module _ (volume floor : ℕ) (tree : Tree) (of : Option lefts.Doubt) (x y : Dis
     told : filter (λ point. nat_lt floor point.call) points ≡ reverse shown.untold
     told = ap (filter (λ point. nat_lt floor point.call)) all_points ∙ filter_reverse _ (map point_of (shown.logs 0)) ∙ ap reverse shown.untold_is
 
-  pub left_is_shown : Shows (λ number. nat_lt floor number) y tree (maybe_doubt of)
-  left_is_shown = record {
+  pub left_is_shown : (doubts : ℕ → Option Doubt) → doubts 0 ≡ maybe_doubt of → Shows (λ number. nat_lt floor number) 1 y tree doubts
+  left_is_shown doubts same = record {
     next = shown.shown;
     stands = record { state = opening_state 1 1; is_state = refl; second = all_first; reads = are_read; shows = subst (λ (s : List ℕ). ShowsTree s y.reads (opening_state 1 1) each_first shown.shown) (sym crashed.sizes) shown.shows };
     opened = reverse shown.untold;
     open_is = told;
-    tells = by shown.comes;
+    tells = (tree, [], (refl, refl), by shown.comes);
   }
     where
       by : ((shown.untold ≡ []) × (shown.shown ≡ tree)) ⊎ ((point : Point) × (shown.untold ≡ point ∷ []) × IsOfDoubt floor tree of point shown.shown)
-          → ((shown.shown ≡ tree) × (reverse shown.untold ≡ [])) ⊎ IsInDoubt tree (maybe_doubt of) shown.shown (reverse shown.untold)
+          → ((shown.shown ≡ tree) × (reverse shown.untold ≡ [])) ⊎ IsInDoubt tree (doubts 0) shown.shown [] (reverse shown.untold)
       by (inl none) = inl (none.1, ap reverse none.0)
       by (inr one) = inr (record {
         of = doubt_as (record { call = one.2.call; point = one.0 });
-        is = ap maybe_doubt one.2.is;
+        is = same ∙ ap maybe_doubt one.2.is;
         acts = record { of = one.2.of; reply = one.2.reply; step = one.2.step };
         open_is = ap reverse one.1;
       })
 
 -- ---- the service
 
-pub shows : (stage : Stage) (x y : Disks) (tree : Tree) (doubt : Option Doubt) → IsReady stage x.sizes → IsHolding stage x tree doubt → IsCrashed x y → Shows (lacks_of stage) y tree doubt
-shows (Up machine) x y tree doubt ready holds crashed =
-    rw holds.1 (left_is_shown (volume_of machine) (floor_of machine) tree (doubt_of machine) x y (stopped machine x tree ready.0 holds.0) crashed)
-shows (Down left) x y tree doubt ready holds crashed = rw (holds.is) (left_is_shown left.volume left.floor tree holds.of x y holds.left_is crashed)
-shows (Returning left queue latest) x y tree doubt ready holds crashed = rw (holds.is) (left_is_shown left.volume left.floor tree holds.of x y holds.left_is crashed)
+pub shows : (stage : Stage) (x y : Disks) (tree : Tree) (doubts : ℕ → Option Doubt) → IsReady stage x.sizes → IsHolding stage x tree (doubts 0) → IsCrashed x y → Shows (lacks_of stage) 1 y tree doubts
+shows (Up machine) x y tree doubts ready holds crashed = left_is_shown (volume_of machine) (floor_of machine) tree (doubt_of machine) x y (stopped machine x tree ready.0 holds.0) crashed doubts holds.1
+shows (Down left) x y tree doubts ready holds crashed = left_is_shown left.volume left.floor tree holds.of x y holds.left_is crashed doubts holds.is
+shows (Returning left queue latest) x y tree doubts ready holds crashed = left_is_shown left.volume left.floor tree holds.of x y holds.left_is crashed doubts holds.is

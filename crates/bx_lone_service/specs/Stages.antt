@@ -1,8 +1,9 @@
 -- What a service is by its stage.
-use Rattle.std.specs.Prelude.{◌≡◌, ℕ, ◌≤◌, nat_lt, ◌⊎◌, Bool, true, false, not, ◌&&◌, ◌||◌, List, [], ◌∷◌, Contains, map, Option, Some, None, refl}
+use Rattle.std.specs.Prelude.{◌≡◌, ℕ, ◌≤◌, nat_lt, ◌⊎◌, Bool, true, false, not, ◌&&◌, ◌||◌, ◌==◌, List, [], ◌∷◌, Contains, map, Option, Some, None, refl}
+use Rattle.std.proofs.Common.{subst}
 use Rattle.bx_clean.specs.Tidying.{IsClean}
 use Rattle.bx_disk.specs.Disks.{Disks}
-use Rattle.bx_history.specs.Trace.{Taking}
+use Rattle.bx_history.specs.Trace.{IsIn, Taking}
 use Rattle.bx_lone_machine.specs.Machine as machines
 use Rattle.bx_lone_machine.specs.Machine.{Holds, calls_of, doubt_of, floor_of, member_waits, none_wait, volume_of}
 use Rattle.bx_lone_machine.specs.declared.machine.LoneMachine.{LoneMachine}
@@ -12,7 +13,7 @@ use Rattle.bx_lone_repair.specs.Left as lefts
 use Rattle.bx_model.specs.declared.tree.Tree.{Tree}
 use Rattle.bx_rpc.specs.Message.{is_message}
 use Rattle.bx_service.specs.Rounds.{Doubt}
-use Rattle.bx_lone_service.specs.Calls.{taking_of}
+use Rattle.bx_lone_service.specs.Calls.{taking_as}
 use Rattle.bx_lone_service.specs.declared.returning.Left.{Left}
 use Rattle.bx_lone_service.specs.declared.service.Stage.{Stage}
 use Rattle.bx_lone_service.specs.declared.service.Stage.TheVariants.{Up, Down, Returning}
@@ -30,9 +31,9 @@ pub record AreQueued (above : ℕ) (queue : List Waiting) : Type 0 where
   pub rising : machines.AreRising above (latest_in above queue) queue
 
 abbrev pub waits_of : Stage → List Taking
-waits_of (Up machine) = map taking_of (calls_of machine)
+waits_of (Up machine) = map taking_as (calls_of machine)
 waits_of (Down left) = []
-waits_of (Returning left queue latest) = map taking_of queue.items
+waits_of (Returning left queue latest) = map taking_as queue.items
 
 abbrev pub is_up : Stage → Bool
 is_up (Up machine) = true
@@ -77,17 +78,35 @@ rests_of (Up machine) tidies = not tidies && machines.rests machine
 rests_of (Down left) tidies = not tidies
 rests_of (Returning left queue latest) tidies = false
 
--- then no call waits, no tidy is under way, and nothing has to be brought back
-pub at_rest : (stage : Stage) (tidies : Bool) → rests_of stage tidies ≡ true → (waits_of stage ≡ []) × (tidies ≡ false) × (is_returning stage ≡ false)
-at_rest (Up machine) true rests = absurd cc
-at_rest (Up machine) false rests = (by (calls_of machine) (not (member_waits machine 0 || member_waits machine 1)) rests, refl, refl)
+-- the tidy that is under way is that of node 0
+abbrev pub tidies_at : Bool → ℕ → Bool
+tidies_at tidies node = (node == 0) && tidies
+
+pub none_tidies : (tidies : Bool) → tidies ≡ false → (node : ℕ) → tidies_at tidies node ≡ false
+none_tidies tidies none node = rw none (by (node == 0))
   where
-    by : (calls : List Waiting) (other : Bool) → (none_wait calls && other) ≡ true → map taking_of calls ≡ []
+    by : (b : Bool) → (b && false) ≡ false
+    by true = refl
+    by false = refl
+
+-- none waits among none
+pub none_in : (waits : List Taking) → waits ≡ [] → (call : Taking) → IsIn call waits → ⊥
+none_in waits none call is = subst (IsIn call) none is
+
+resting : (stage : Stage) (tidies : Bool) → rests_of stage tidies ≡ true → (waits_of stage ≡ []) × (tidies ≡ false) × (is_returning stage ≡ false)
+resting (Up machine) true rests = absurd cc
+resting (Up machine) false rests = (by (calls_of machine) (not (member_waits machine 0 || member_waits machine 1)) rests, refl, refl)
+  where
+    by : (calls : List Waiting) (other : Bool) → (none_wait calls && other) ≡ true → map taking_as calls ≡ []
     by [] other rests = refl
     by (call ∷ calls) other rests = absurd cc
-at_rest (Down left) true rests = absurd cc
-at_rest (Down left) false rests = (refl, refl, refl)
-at_rest (Returning left queue latest) tidies rests = absurd cc
+resting (Down left) true rests = absurd cc
+resting (Down left) false rests = (refl, refl, refl)
+resting (Returning left queue latest) tidies rests = absurd cc
+
+-- then no call waits, no tidy is under way, and nothing has to be brought back
+pub at_rest : (stage : Stage) (tidies : Bool) → rests_of stage tidies ≡ true → ((call : Taking) → IsIn call (waits_of stage) → ⊥) × ((node : ℕ) → tidies_at tidies node ≡ false) × (is_returning stage ≡ false)
+at_rest stage tidies rests = let rest = resting stage tidies rests in (none_in (waits_of stage) rest.0, none_tidies tidies rest.1, rest.2)
 
 -- What a round makes of a node: it is up as before, one call at most waits no more, the oldest, and where it is down nothing changes.
 pub record IsTurn (stage stage_then : Stage) (disks disks_then : Disks) : Type 0 where
@@ -98,7 +117,7 @@ pub record IsTurn (stage stage_then : Stage) (disks disks_then : Disks) : Type 0
 -- ---- what is in doubt
 
 abbrev pub doubt_as : lefts.Doubt → Doubt
-doubt_as doubt = record { call = taking_of doubt.call; point = doubt.point }
+doubt_as doubt = record { call = taking_as doubt.call; point = doubt.point }
 
 abbrev pub maybe_doubt : Option lefts.Doubt → Option Doubt
 maybe_doubt None = None
@@ -136,7 +155,7 @@ IsCleanOn (Down left) disks = ⊥
 IsCleanOn (Returning left queue latest) disks = ⊥
 
 -- while it is down no call waits
-pub none_down : (stage : Stage) → is_up stage ≡ false → waits_of stage ≡ []
-none_down (Up machine) down = absurd cc
-none_down (Down left) down = refl
-none_down (Returning left queue latest) down = absurd cc
+pub none_down : (stage : Stage) → is_up stage ≡ false → (call : Taking) → IsIn call (waits_of stage) → ⊥
+none_down (Up machine) down call is = absurd cc
+none_down (Down left) down call is = is
+none_down (Returning left queue latest) down call is = absurd cc

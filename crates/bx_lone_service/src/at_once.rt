@@ -1,7 +1,7 @@
 //! Calls that touch no block.
 
 ghost use Rattle.std.specs.Prelude.{◌≡◌, ◌≤◌, IfNone, IfOk, IfSome, false, true};
-ghost use Rattle.bx_engine.specs.Calls.{IsAtOnce as IsAnsweredAtOnce};
+ghost use Rattle.bx_lone_machine.specs.Calls.{IsAtOnce as IsAnsweredAtOnce};
 ghost use Rattle.bx_lone_standing.specs.Bare.{StandsBare};
 ghost use Rattle.bx_model.specs.declared.tree.Tree.{Tree};
 ghost use Rattle.bx_nfs.specs.Asked.{IsAsked};
@@ -13,7 +13,7 @@ ghost use Rattle.bx_views.specs.Truths.{Truth};
 
 use bx_base::OutOfMemory;
 use bx_cache::Cache;
-use bx_engine::BoxFs;
+use bx_lone_machine::BoxFs;
 use bx_model::{Args, Call};
 use bx_nfs::reads_as;
 use bx_views::{Attempt, Done, Engine};

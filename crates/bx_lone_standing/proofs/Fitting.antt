@@ -7,7 +7,7 @@ use Rattle.std.proofs.lemmas.List.{length-replicate, map-append, take_more}
 use Rattle.bx_disk.specs.Disks.{sector_of}
 use Rattle.bx_facts.specs.Writes.{AreRuns, IsRun, Made, Writes, WritesIn}
 use Rattle.bx_facts.proofs.Lists.{behind, front, front_or_behind, nothing}
-use Rattle.bx_fields.proofs.Whole.{length-padded}
+use Rattle.bx_base.proofs.Whole.{length-padded}
 use Rattle.bx_layout.specs.declared.block.Block.{Block}
 use Rattle.bx_layout.specs.declared.gate.Gate.{Gate}
 use Rattle.bx_layout.specs.declared.gate.Gate.TheVariants.{Open, Closed as Shut}

@@ -1,6 +1,6 @@
 -- What the blocks of a volume stand for, to a node that has no hints.
 use Rattle.std.specs.Prelude.{ℕ}
-use Rattle.bx_hints.specs.Fitting.{HintsFitAll}
+use Rattle.bx_inodes.specs.Fitting.{HintsFitAll}
 use Rattle.bx_inodes.specs.Stands.{Stands}
 use Rattle.bx_model.specs.declared.tree.Tree.{Tree}
 use Rattle.bx_views.specs.Truths.{Truth, no_hints}

@@ -2,7 +2,7 @@
 use Rattle.std.proofs.Common.{◌≡◌, ℕ, ◌+◌, ◌*◌, ◌/◌, ◌%◌, ◌^◌, ◌<◌, ◌⊎◌, arith, Bool, true, false, List, [], ◌∷◌, inl, inr, sym, ap, ◌∙◌, subst, refl, Option, Some, None, Result, Ok, Err}
 use Rattle.std.specs.Prelude.{◌≢◌, ◌==◌, not, if◌then◌else◌, Contains, IsSome, OnOk}
 use Rattle.bx_base.specs.declared.names.Mode.TheVariants.{Exclusive}
-use Rattle.bx_handles.specs.Handles.{parts_of}
+use Rattle.bx_places.specs.Handles.{parts_of}
 use Rattle.bx_layout.specs.declared.block.Block.{Block}
 use Rattle.bx_layout.specs.declared.inode.Inode.{Inode}
 use Rattle.bx_model.specs.Edits.{without}
@@ -39,9 +39,9 @@ use Rattle.bx_chunks.specs.declared.error.ChunkError.{ChunkError}
 use Rattle.bx_chunks.specs.declared.error.ChunkError.TheVariants.{Need, Stale, Full, OutOfMemory, Crowded}
 use Rattle.bx_chunks.proofs.HeldDrafts.{marks_held}
 use Rattle.bx_chunks.proofs.Marks.{marks_in}
-use Rattle.bx_hints.specs.Fitting.{Continues, HintsFitAll, IsPageUnder}
-use Rattle.bx_hints.proofs.Later.{fit_later, fit_still}
-use Rattle.bx_hints.proofs.Pages.{inode_is, one_block, stored_is}
+use Rattle.bx_inodes.specs.Fitting.{Continues, HintsFitAll, IsPageUnder}
+use Rattle.bx_inodes.proofs.Later.{fit_later, fit_still}
+use Rattle.bx_inodes.proofs.Pages.{inode_is, one_block, stored_is}
 use Rattle.bx_inodes.specs.Inodes.{HoldsInode}
 use Rattle.bx_leaves.proofs.Fair.{put_held}
 use Rattle.bx_making.specs.Burying.{BuriesAt, BuriesFile, BuriesIn, IsBare, MarksAndPuts, dead_inode}

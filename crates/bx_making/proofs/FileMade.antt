@@ -34,10 +34,10 @@ use Rattle.bx_chunks.specs.Putting.{empty_of}
 use Rattle.bx_chunks.specs.declared.error.ChunkError.{ChunkError}
 use Rattle.bx_chunks.specs.declared.error.ChunkError.TheVariants.{Need, Stale, Full, OutOfMemory, Crowded}
 use Rattle.bx_chunks.proofs.Allocates.{allocates_in}
-use Rattle.bx_hints.specs.Fitting.{HintsFitAll, IsPageUnder}
-use Rattle.bx_hints.proofs.Later.{fit_still, given_later}
-use Rattle.bx_hints.proofs.Pages.{has_pages, one_block}
-use Rattle.bx_hints.proofs.Trees.{fit_other}
+use Rattle.bx_inodes.specs.Fitting.{HintsFitAll, IsPageUnder}
+use Rattle.bx_inodes.proofs.Later.{fit_still, given_later}
+use Rattle.bx_inodes.proofs.Pages.{has_pages, one_block}
+use Rattle.bx_inodes.proofs.Trees.{fit_other}
 use Rattle.bx_inodes.specs.Inodes.{HoldsInode}
 use Rattle.bx_making.specs.Made.{MakesFile, MakesIn, file_of}
 use Rattle.bx_making.specs.Making.{FillsAt, MakesAt, MakesBoth, rooted}

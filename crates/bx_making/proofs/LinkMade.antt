@@ -34,9 +34,9 @@ use Rattle.bx_chunks.specs.declared.error.ChunkError.{ChunkError}
 use Rattle.bx_chunks.specs.declared.error.ChunkError.TheVariants.{Need, Stale, Full, OutOfMemory, Crowded}
 use Rattle.bx_chunks.proofs.Allocates.{allocates_in}
 use Rattle.bx_chunks.proofs.FairNeeds.{Shares, fair}
-use Rattle.bx_hints.specs.Fitting.{HintsFitAll, IsPageUnder}
-use Rattle.bx_hints.proofs.Later.{fit_still}
-use Rattle.bx_hints.proofs.Pages.{one_block}
+use Rattle.bx_inodes.specs.Fitting.{HintsFitAll, IsPageUnder}
+use Rattle.bx_inodes.proofs.Later.{fit_still}
+use Rattle.bx_inodes.proofs.Pages.{one_block}
 use Rattle.bx_inodes.specs.Inodes.{HoldsInode}
 use Rattle.bx_leaves.proofs.Fair.{put_held}
 use Rattle.bx_making.specs.Links.{LinksAt, LinksOne}

@@ -2,7 +2,7 @@
 
 ghost use Rattle.std.specs.Prelude.{◌≡◌, ◌≢◌, ◌<◌, ℕ, IsSome, OnErr, OnOk, Some};
 ghost use Rattle.bx_base.specs.declared.names.Mode.TheVariants.{Exclusive};
-ghost use Rattle.bx_handles.specs.Handles.{parts_of};
+ghost use Rattle.bx_places.specs.Handles.{parts_of};
 ghost use Rattle.bx_inodes.specs.Inodes.{HoldsInode};
 ghost use Rattle.bx_model.specs.Opening.{root_handle};
 ghost use Rattle.bx_tree_files.specs.declared.file.File.{File};

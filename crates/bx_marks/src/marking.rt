@@ -1,7 +1,7 @@
 //! The marks of dead inodes, which wait for cleaning.
 
 ghost use Rattle.std.specs.Prelude.{◌≡◌, ◌<◌, ℕ, OnErr, IfSome, IfNone, false, slice_index};
-ghost use Rattle.bx_handles.specs.Handles.{number_of, parts_of};
+ghost use Rattle.bx_places.specs.Handles.{number_of, parts_of};
 ghost use Rattle.bx_layout.specs.Areas.{IsArea, generation_in, is_dead};
 ghost use Rattle.bx_truth.specs.Chunks.{IsChunked};
 ghost use Rattle.bx_views.specs.Attempts.{IsHeldDraft};
@@ -11,9 +11,8 @@ ghost use Rattle.bx_chunks.specs.Marking.{FindsDeadAt, FindsDeadIn, IsLowestDead
 
 use bx_base::Mode;
 use bx_chunks::{ChunkError, own_block, put_area, slots_of, slots_of_given};
-use bx_handles::ChunkHandle;
 use bx_layout::AreaBlock;
-use bx_places::SLOTS;
+use bx_places::{ChunkHandle, SLOTS};
 use bx_records::Draft;
 use bx_views::View;
 use std::alloc::Global;

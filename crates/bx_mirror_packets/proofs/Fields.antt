@@ -3,8 +3,8 @@ use Rattle.std.proofs.Common.{◌≡◌, ℕ, ◌*◌, ◌/◌, ◌%◌, ◌^◌
 use Rattle.std.specs.List.{AllByRecursion}
 use Rattle.std.specs.Int.{w32, w64, to_be_bytes}
 use Rattle.std.proofs.lemmas.Bool.{lt-ltb, ltb-true}
-use Rattle.bx_fields.specs.Reading.{Reader, as_at}
-use Rattle.bx_fields.proofs.Fields.{IsField, Takes, as_field, bind_some, bytes_field, field32, field64, fits_field, list_field, sized_field, some_is, tested_field, then_field}
+use Rattle.bx_base.specs.Reading.{Reader, as_at}
+use Rattle.bx_base.proofs.Fields.{IsField, Takes, as_field, bind_some, bytes_field, field32, field64, fits_field, list_field, sized_field, some_is, tested_field, then_field}
 use Rattle.bx_records.specs.declared.runs.Run.{Run}
 use Rattle.bx_rows.specs.Conditions.{Fits}
 use Rattle.bx_rows.proofs.Fields.{pair_field}

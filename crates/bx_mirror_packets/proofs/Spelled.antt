@@ -1,8 +1,8 @@
 -- A packet is one message at most.
 use Rattle.std.proofs.Common.{◌≡◌, ℕ, List, [], ◌∷◌, ◌++◌, refl, sym, ap, subst, ◌∙◌, arith}
 use Rattle.std.specs.List.{AllByRecursion}
-use Rattle.bx_fields.specs.Reading.{Reader}
-use Rattle.bx_fields.proofs.Fields.{IsField}
+use Rattle.bx_base.specs.Reading.{Reader}
+use Rattle.bx_base.proofs.Fields.{IsField}
 use Rattle.bx_records.specs.declared.runs.Run.{Run}
 use Rattle.bx_mirror_packets.specs.DeviceMessages.{HasCounts, HasSectors, IsDeviceMessage, IsRunOf, Spells, body_text, copied_text, copy_text, data_text, kind_of, read_text, write_text, wrote_text}
 use Rattle.bx_mirror_packets.specs.declared.message.DeviceMessage.{DeviceMessage}

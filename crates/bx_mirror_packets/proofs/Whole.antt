@@ -1,10 +1,10 @@
 -- Bodies whose first part, or first two parts, are fields.
 use Rattle.std.proofs.Common.{◌≡◌, ℕ, List, [], ◌++◌, Option, Some, None, sym, ap, subst, ◌∙◌}
 use Rattle.std.proofs.lemmas.Option.{some_pair_parts}
-use Rattle.bx_fields.specs.declared.error.ReadError.{ReadError}
-use Rattle.bx_fields.specs.declared.error.ReadError.TheVariants as errors
-use Rattle.bx_fields.specs.Reading.{Fails, Reader}
-use Rattle.bx_fields.proofs.Fields.{IsField}
+use Rattle.bx_base.specs.declared.error.ReadError.{ReadError}
+use Rattle.bx_base.specs.declared.error.ReadError.TheVariants as errors
+use Rattle.bx_base.specs.Reading.{Fails, Reader}
+use Rattle.bx_base.proofs.Fields.{IsField}
 use Rattle.bx_mirror_packets.specs.Reading.{IsText, NoText}
 
 -- what was read at the front, where this stands there

@@ -1,9 +1,9 @@
 -- Reading the parts of bodies from the front of bytes.
 use Rattle.std.specs.Prelude.{◌≡◌, ℕ, ◌*◌, Bool, nat_lt, List}
 use Rattle.std.specs.Int.{w32, w64}
-use Rattle.bx_fields.specs.Reading.{Reader, as_at, bytes_at, list_at, number_at, sized_at, tested_at, then_at}
-use Rattle.bx_fields.specs.declared.error.ReadError.{ReadError}
-use Rattle.bx_fields.specs.declared.error.ReadError.TheVariants as errors
+use Rattle.bx_base.specs.Reading.{Reader, as_at, bytes_at, list_at, number_at, sized_at, tested_at, then_at}
+use Rattle.bx_base.specs.declared.error.ReadError.{ReadError}
+use Rattle.bx_base.specs.declared.error.ReadError.TheVariants as errors
 use Rattle.bx_records.specs.declared.runs.Run.{Run}
 use Rattle.bx_rows.specs.Reading.{pair_at}
 use Rattle.bx_mirror_packets.specs.declared.message.DeviceMessage.{DeviceMessage}

@@ -1,15 +1,14 @@
 //! Whole bodies, read as values.
 
 ghost use Rattle.std.specs.Prelude.{◌≡◌, ◌≤◌, IfOk, MatchResult};
-ghost use Rattle.bx_fields.specs.Reading.{Gives};
+ghost use Rattle.bx_base.specs.Reading.{Gives};
 ghost use Rattle.bx_mirror_packets.specs.DeviceMessages.{IsCopiedBody, IsCopyBody, IsDataBody, IsReadBody, IsWriteBody, IsWroteBody, copied_text, copy_text, data_text, read_text, write_text, wrote_text};
 ghost use Rattle.bx_mirror_packets.specs.Reading.{IsText, IsWriteOf, NoText, writing_at};
 
 use crate::message::{CopiedBody, CopyBody, DataBody, ReadBody, WriteBody, WroteBody};
 use crate::parts::{extent_of, head_of, piece_of};
 use crate::runs::runs_of;
-use bx_base::Raw;
-use bx_fields::{ReadError, all_of, u64_at};
+use bx_base::{Raw, ReadError, all_of, u64_at};
 use bx_records::Runs;
 use std::alloc::Global;
 

@@ -8,8 +8,7 @@ ghost use Rattle.bx_mirror_packets.specs.declared.message.DeviceMessage.TheVaria
 
 use crate::parts::Head;
 use crate::writing::{push_head, push_run};
-use bx_base::{Actor, OutOfMemory, Raw};
-use bx_fields::{push_u32, push_u64};
+use bx_base::{Actor, OutOfMemory, Raw, push_u32, push_u64};
 use bx_post::Outbox;
 use bx_records::{Run, Runs};
 use std::alloc::Global;

@@ -1,10 +1,10 @@
 //! What bodies begin with, read from the front of bytes.
 
 ghost use Rattle.std.specs.Prelude.{◌≡◌};
-ghost use Rattle.bx_fields.specs.Reading.{Gives};
+ghost use Rattle.bx_base.specs.Reading.{Gives};
 ghost use Rattle.bx_mirror_packets.specs.Reading.{extent_at, head_at, piece_at};
 
-use bx_fields::{ReadError, u32_at, u64_at};
+use bx_base::{ReadError, u32_at, u64_at};
 use bx_rows::pair_of;
 
 /// What writes and reads and their answers begin with.

@@ -7,8 +7,7 @@ ghost use Rattle.bx_mirror_packets.specs.declared.message.DeviceMessage.{DeviceM
 
 use crate::bodies::{copied_in, copy_in, data_in, read_in, write_in, wrote_in};
 use crate::message::DeviceMessage;
-use bx_base::OutOfMemory;
-use bx_fields::ReadError;
+use bx_base::{OutOfMemory, ReadError};
 use std::alloc::Global;
 
 impl DeviceMessage {

@@ -1,11 +1,10 @@
 //! Runs of sectors, read from the front of bytes.
 
 ghost use Rattle.std.specs.Prelude.{◌≡◌, [], IfOk};
-ghost use Rattle.bx_fields.specs.Reading.{Gives, list_at};
+ghost use Rattle.bx_base.specs.Reading.{Gives, list_at};
 ghost use Rattle.bx_mirror_packets.specs.Reading.{run_at, runs_at, sectors_at};
 
-use bx_base::Raw;
-use bx_fields::{ReadError, front_at, u32_at, u64_at};
+use bx_base::{Raw, ReadError, front_at, u32_at, u64_at};
 use bx_records::{Run, Runs};
 use std::alloc::Global;
 

@@ -6,8 +6,7 @@ ghost use Rattle.bx_mirror_packets.specs.DeviceMessages.{HasCounts, HasSectors, 
 
 use crate::message::{CopyBody, DataBody, DeviceMessage, ReadBody, WriteBody};
 use crate::parts::{Head, Piece};
-use bx_base::{OutOfMemory, Raw};
-use bx_fields::{push, push_u32, push_u64};
+use bx_base::{OutOfMemory, Raw, push, push_u32, push_u64};
 use bx_records::{Run, Runs};
 use bx_rows::push_pair;
 use std::alloc::Global;

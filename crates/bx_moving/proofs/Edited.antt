@@ -1,7 +1,7 @@
 -- Edits over a draft, by the inode that is read over it.
 use Rattle.std.proofs.Common.{◌≡◌, ℕ, ◌<◌, Bool, true, false, List, Some, None, sym, ap, ◌∙◌, subst, arith}
 use Rattle.std.specs.Prelude.{◌≢◌, IfErr, IfOk, Result, Ok, Err}
-use Rattle.bx_adding.specs.Entering.{EntersIn, MayEnter}
+use Rattle.bx_entries.specs.Entering.{EntersIn, MayEnter}
 use Rattle.bx_base.specs.declared.names.Mode.{Mode}
 use Rattle.bx_changes.proofs.FileChanged.{changed_is_put}
 use Rattle.bx_changes.specs.Growing.{NeedsBy}
@@ -9,7 +9,7 @@ use Rattle.bx_changes.specs.declared.error.ChangeError.{ChangeError}
 use Rattle.bx_changes.specs.declared.error.ChangeError.TheVariants.{Stopped, Full}
 use Rattle.bx_entries.specs.Taking.{IsEntryOf, TakesEntry, TakesOutAt}
 use Rattle.bx_entries.specs.Unlinking.{IsFileOf, Unlinks, UnlinksIn, without_name_of}
-use Rattle.bx_hints.proofs.Pages.{inode_is}
+use Rattle.bx_inodes.proofs.Pages.{inode_is}
 use Rattle.bx_inodes.specs.Inodes.{FileAt, HoldsInode, IsInodeOf}
 use Rattle.bx_inodes.specs.declared.stop.Stop.{Stop}
 use Rattle.bx_inodes.specs.declared.stop.Stop.TheVariants.{Need, Inner, Status, OutOfMemory}
@@ -33,7 +33,7 @@ use Rattle.bx_truth.specs.Stands.{StandsFor}
 use Rattle.bx_truth.specs.Stored.{HasBody, IsDirectory}
 use Rattle.bx_truth.proofs.Put.{shown}
 use Rattle.bx_views.specs.Truths.{Held, Hints, Truth, with_draft}
-use Rattle.bx_moving.specs.Edits.{Comes, EditsTo, GrowsTo, HasRoomFor, Rests}
+use Rattle.bx_moving.specs.Edits.{EditedTo, EditsTo, GrowsTo, HasRoomFor, Rests}
 use Rattle.bx_moving.proofs.Rooms.{rooms_stay}
 
 -- ---- the inode isn't seen
@@ -104,7 +104,7 @@ module _ (areas : ℕ) (held : Held) (hints : Hints) (truth : Truth) (old : List
     not_root = other;
   }
 
-  pub loses : (now : Time) (new : List Changed) → Unlinks areas truth old new tree handle f.file now → Comes areas truth old new (without_name_of now tree handle file)
+  pub loses : (now : Time) (new : List Changed) → Unlinks areas truth old new tree handle f.file now → EditedTo areas truth old new (without_name_of now tree handle file)
   loses now new u = record {
     stands = subst (λ (x : File). StandsFor areas (with_draft truth new) (without_name_of now tree handle x)) (sym same) u.stands;
     leads = u.leads;

@@ -1,3 +1,4 @@
+pub mod Parents
 pub mod Rooms
 pub mod Edited
 pub mod Settled

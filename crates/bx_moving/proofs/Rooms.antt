@@ -3,8 +3,8 @@ use Rattle.std.proofs.Common.{◌≡◌, ℕ, ◌+◌, ◌≤◌, Bool, true, fa
 use Rattle.std.specs.Prelude.{◌≢◌, All, Ok, sum_by}
 use Rattle.std.proofs.lemmas.List.Elements.{All-append, All-filter}
 use Rattle.std.proofs.lemmas.List.Sums.{sum_by-append, sum_by-cons}
-use Rattle.bx_adding.specs.Rooms.{HasRooms, HasSpace}
-use Rattle.bx_adding.proofs.Spaces.{same_space, space_stays}
+use Rattle.bx_entries.specs.Rooms.{HasRooms, HasSpace}
+use Rattle.bx_entries.proofs.Spaces.{same_space, space_stays}
 use Rattle.bx_base.specs.declared.names.Mode.TheVariants.{Exclusive}
 use Rattle.bx_blink.specs.Hints.{Under}
 use Rattle.bx_blink.specs.Places.{IsPlaceOf}

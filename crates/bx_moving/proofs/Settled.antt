@@ -3,7 +3,7 @@ use Rattle.std.proofs.Common.{◌≡◌, ℕ, Bool, List, refl, sym, ap, subst}
 use Rattle.std.specs.Prelude.{if◌then◌else◌}
 use Rattle.bx_changes.proofs.FileChanged.{changed_is_put}
 use Rattle.bx_entries.proofs.InodePut.{fits}
-use Rattle.bx_hints.proofs.Pages.{inode_is}
+use Rattle.bx_inodes.proofs.Pages.{inode_is}
 use Rattle.bx_inodes.specs.Inodes.{IsInodeOf}
 use Rattle.bx_inodes.specs.Writing.{PutsInode}
 use Rattle.bx_layout.specs.declared.inode.Inode.{Inode}
@@ -27,7 +27,7 @@ use Rattle.bx_truth.proofs.Dirs.{file_anew}
 use Rattle.bx_truth.proofs.Put.{shown}
 use Rattle.bx_truth.proofs.Same.{chunk_is}
 use Rattle.bx_views.specs.Truths.{Held, Hints, Truth, with_draft}
-use Rattle.bx_moving.specs.Edits.{Comes, Rests, settled_inode}
+use Rattle.bx_moving.specs.Edits.{EditedTo, Rests, settled_inode}
 
 module _ (areas : ℕ) (held : Held) (hints : Hints) (truth : Truth) (old new : List Changed) (tree : Tree) (handle : ℕ) (inode : Inode) (parent : ℕ) (now : Time) (r : Rests areas held hints truth old tree)
     (f : IsInodeOf areas (with_draft truth old) tree handle inode) (puts : PutsInode old new handle (settled_inode parent now inode)) where
@@ -78,7 +78,7 @@ module _ (areas : ℕ) (held : Held) (hints : Hints) (truth : Truth) (old new : 
     entries = has.entries;
   }
 
-  pub settles : Comes areas truth old new (changed tree handle (moved_to now parent))
+  pub settles : EditedTo areas truth old new (changed tree handle (moved_to now parent))
   settles = record {
     stands = subst (λ (files : List File). StandsFor areas (with_draft truth new) (record tree { files = files })) (sym (changed_is_put tree.files handle (moved_to now parent) f.file r.is.in_order f.there f.handle_is))
         (file_anew areas (with_draft truth old) (with_draft truth new) tree handle f.file file_now after puts.block r.is f.there slots anew puts.is.has (ap (λ (i : Inode). i.tree) (sym stored_is)) f.handle_is fields

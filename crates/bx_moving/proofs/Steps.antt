@@ -13,26 +13,26 @@ use Rattle.bx_model.specs.declared.tree.Tree.{Tree}
 use Rattle.bx_records.specs.Drafts.{Changed}
 use Rattle.bx_tree_files.specs.Times.{Time}
 use Rattle.bx_views.specs.Truths.{Held, Hints, Truth}
-use Rattle.bx_moving.specs.Edits.{Comes, EditsTo, GrowsTo, IsEdited, Rests}
+use Rattle.bx_moving.specs.Edits.{EditedTo, EditsTo, GrowsTo, IsEdited, Rests}
 use Rattle.bx_moving.specs.declared.moves.Replaced.{Replaced}
-use Rattle.bx_moving.specs.Moves.{Dies, IsDying, OnOver, ended}
+use Rattle.bx_moving.specs.Moves.{Dies, IsDying, OnEdited, ended}
 
 -- what a step leaves is what the next one rests on
-pub next_rests : (areas : ℕ) (held : Held) (hints : Hints) (truth : Truth) (old new : List Changed) (tree next : Tree) → Rests areas held hints truth old tree → Comes areas truth old new next → Rests areas held hints truth new next
+pub next_rests : (areas : ℕ) (held : Held) (hints : Hints) (truth : Truth) (old new : List Changed) (tree next : Tree) → Rests areas held hints truth old tree → EditedTo areas truth old new next → Rests areas held hints truth new next
 next_rests areas held hints truth old new tree next r c = record { few = r.few; same = r.same; is = c.stands; fit = c.leads hints r.fit }
 
 -- two steps are one
-pub then_comes : (areas : ℕ) (truth : Truth) (old mid new : List Changed) (between next : Tree) → Comes areas truth old mid between → Comes areas truth mid new next → Comes areas truth old new next
+pub then_comes : (areas : ℕ) (truth : Truth) (old mid new : List Changed) (between next : Tree) → EditedTo areas truth old mid between → EditedTo areas truth mid new next → EditedTo areas truth old new next
 then_comes areas truth old mid new between next c e = record { stands = e.stands; leads = λ hints fit. e.leads hints (c.leads hints fit) }
 
-pub then_edits : (areas : ℕ) (truth : Truth) (old mid : List Changed) (between next : Tree) → Comes areas truth old mid between → (result : Result (List Changed) Stop) → EditsTo areas truth mid next result → EditsTo areas truth old next result
+pub then_edits : (areas : ℕ) (truth : Truth) (old mid : List Changed) (between next : Tree) → EditedTo areas truth old mid between → (result : Result (List Changed) Stop) → EditsTo areas truth mid next result → EditsTo areas truth old next result
 then_edits areas truth old mid between next c (Ok new) e = then_comes areas truth old mid new between next c e
 then_edits areas truth old mid between next c (Err (Need at mode)) e = tt
 then_edits areas truth old mid between next c (Err OutOfMemory) e = tt
 then_edits areas truth old mid between next c (Err (Status status)) e = e
 then_edits areas truth old mid between next c (Err (Inner blocks)) e = e
 
-pub then_grows : (areas : ℕ) (truth : Truth) (old mid : List Changed) (between next : Tree) → Comes areas truth old mid between → (result : Result (List Changed) ChangeError) → GrowsTo areas truth mid next result → GrowsTo areas truth old next result
+pub then_grows : (areas : ℕ) (truth : Truth) (old mid : List Changed) (between next : Tree) → EditedTo areas truth old mid between → (result : Result (List Changed) ChangeError) → GrowsTo areas truth mid next result → GrowsTo areas truth old next result
 then_grows areas truth old mid between next c (Ok new) e = then_comes areas truth old mid new between next c e
 then_grows areas truth old mid between next c (Err (Stopped (Need at mode))) e = tt
 then_grows areas truth old mid between next c (Err (Stopped OutOfMemory)) e = tt
@@ -65,29 +65,29 @@ pub edits_same : (areas : ℕ) (truth : Truth) (old : List Changed) (one other :
 edits_same areas truth old one other same result e = subst (λ (t : Tree). EditsTo areas truth old t result) same e
 
 -- nothing is changed
-pub nothing : (areas : ℕ) (held : Held) (hints : Hints) (truth : Truth) (draft : List Changed) (tree : Tree) → Rests areas held hints truth draft tree → Comes areas truth draft draft tree
+pub nothing : (areas : ℕ) (held : Held) (hints : Hints) (truth : Truth) (draft : List Changed) (tree : Tree) → Rests areas held hints truth draft tree → EditedTo areas truth draft draft tree
 nothing areas held hints truth draft tree r = record { stands = r.is; leads = λ hints fit. fit }
 
 -- ---- what is needed
 
 module _ (areas : ℕ) (held : Held) (hints : Hints) (draft : List Changed) (P : ℕ → Mode → Type 0) (Path : List Changed → ℕ → Mode → Type 0) (edited : IsEdited held hints areas draft) (wider : (at : ℕ) (mode : Mode) → P at mode → Path draft at mode) where
-  pub over : (T U : Type 0) (stop : Stop) → NeedsOn areas held P {T = T} (Err stop) → NeedsOn areas held (OnOver held hints areas Path) {T = U} (Err stop)
+  pub over : (T U : Type 0) (stop : Stop) → NeedsOn areas held P {T = T} (Err stop) → NeedsOn areas held (OnEdited held hints areas Path) {T = U} (Err stop)
   over T U (Need at mode) n = (n.0, n.1, record { draft = draft; edited = edited; on = wider at mode n.2 })
   over T U (Inner blocks) n = tt
   over T U (Status status) n = tt
   over T U OutOfMemory n = tt
 
-  pub over_result : {T : Type 0} (result : Result T Stop) → NeedsOn areas held P result → NeedsOn areas held (OnOver held hints areas Path) result
+  pub over_result : {T : Type 0} (result : Result T Stop) → NeedsOn areas held P result → NeedsOn areas held (OnEdited held hints areas Path) result
   over_result (Ok done) n = tt
   over_result {T = T} (Err stop) n = over T T stop n
 
-  pub over_stopped : (T : Type 0) (stop : Stop) → NeedsOn areas held P {T = T} (Err stop) → NeedsBy areas held (OnOver held hints areas Path) (Stopped stop)
+  pub over_stopped : (T : Type 0) (stop : Stop) → NeedsOn areas held P {T = T} (Err stop) → NeedsBy areas held (OnEdited held hints areas Path) (Stopped stop)
   over_stopped T (Need at mode) n = (n.0, n.1, record { draft = draft; edited = edited; on = wider at mode n.2 })
   over_stopped T (Inner blocks) n = tt
   over_stopped T (Status status) n = tt
   over_stopped T OutOfMemory n = tt
 
-  pub over_grown : {T : Type 0} (result : Result T ChangeError) → IfErr result (NeedsBy areas held P) → IfErr result (NeedsBy areas held (OnOver held hints areas Path))
+  pub over_grown : {T : Type 0} (result : Result T ChangeError) → IfErr result (NeedsBy areas held P) → IfErr result (NeedsBy areas held (OnEdited held hints areas Path))
   over_grown (Ok done) n = tt
   over_grown (Err (Stopped (Need at mode))) n = (n.0, n.1, record { draft = draft; edited = edited; on = wider at mode n.2 })
   over_grown (Err (Stopped (Inner blocks))) n = tt

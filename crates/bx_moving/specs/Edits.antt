@@ -1,7 +1,7 @@
 -- Edits of a file tree over a draft, each of one file, whose inode is read over the draft first.
 use Rattle.std.specs.Prelude.{ℕ, ◌≤◌, ◌==◌, ◌⊎◌, Bool, if◌then◌else◌, List, [], Result, Ok, Err}
-use Rattle.bx_adding.specs.Entering.{PutsInAt}
-use Rattle.bx_adding.specs.Rooms.{HasRooms}
+use Rattle.bx_entries.specs.Entering.{PutsInAt}
+use Rattle.bx_entries.specs.Rooms.{HasRooms}
 use Rattle.bx_base.specs.declared.names.Mode.{Mode}
 use Rattle.bx_base.specs.declared.names.Mode.TheVariants.{Exclusive}
 use Rattle.bx_blink.specs.Walks.{reads_with}
@@ -11,7 +11,7 @@ use Rattle.bx_dirs.specs.Changes.{OnAddPath, OnTakePath, entry_of}
 use Rattle.bx_entries.specs.Finding.{IsOwnBlock}
 use Rattle.bx_entries.specs.Removing.{OnUnlinking}
 use Rattle.bx_entries.specs.Taking.{TakesOutAt}
-use Rattle.bx_hints.specs.Fitting.{HintsFitAll}
+use Rattle.bx_inodes.specs.Fitting.{HintsFitAll}
 use Rattle.bx_inodes.specs.Inodes.{HoldsInode, LiveAt}
 use Rattle.bx_inodes.specs.Writing.{PutsInode}
 use Rattle.bx_inodes.specs.declared.stop.Stop.{Stop}
@@ -31,13 +31,13 @@ pub record Rests (areas : ℕ) (held : Held) (hints : Hints) (truth : Truth) (dr
   pub fit : HintsFitAll areas hints (with_draft truth draft)
 
 -- With another draft it stands for the next tree, and all hints that fitted still fit.
-pub record Comes (areas : ℕ) (truth : Truth) (old new : List Changed) (next : Tree) : Type 0 where
+pub record EditedTo (areas : ℕ) (truth : Truth) (old new : List Changed) (next : Tree) : Type 0 where
   pub stands : StandsFor areas (with_draft truth new) next
   pub leads : (hints : Hints) → HintsFitAll areas hints (with_draft truth old) → HintsFitAll areas hints (with_draft truth new)
 
 -- What an edit answers. It is stopped for want of a block or of memory alone.
 abbrev pub EditsTo : ℕ → Truth → List Changed → Tree → Result (List Changed) Stop → Type 0
-EditsTo areas truth old next (Ok new) = Comes areas truth old new next
+EditsTo areas truth old next (Ok new) = EditedTo areas truth old new next
 EditsTo areas truth old next (Err (Need at mode)) = Unit {0}
 EditsTo areas truth old next (Err OutOfMemory) = Unit {0}
 EditsTo areas truth old next (Err (Status status)) = ⊥
@@ -45,7 +45,7 @@ EditsTo areas truth old next (Err (Inner blocks)) = ⊥
 
 -- the same of an edit that may take blocks
 abbrev pub GrowsTo : ℕ → Truth → List Changed → Tree → Result (List Changed) ChangeError → Type 0
-GrowsTo areas truth old next (Ok new) = Comes areas truth old new next
+GrowsTo areas truth old next (Ok new) = EditedTo areas truth old new next
 GrowsTo areas truth old next (Err (Stopped (Need at mode))) = Unit {0}
 GrowsTo areas truth old next (Err (Stopped OutOfMemory)) = Unit {0}
 GrowsTo areas truth old next (Err (Stopped (Status status))) = ⊥

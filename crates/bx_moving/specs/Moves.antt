@@ -108,15 +108,15 @@ ended now tree (Some replaced) is = without_name_of now tree replaced.handle is.
 -- ---- the path
 
 -- what is on a path over a draft that edits made
-pub record OnOver (held : Held) (hints : Hints) (areas : ℕ) (Path : List Changed → ℕ → Mode → Type 0) (at : ℕ) (mode : Mode) : Type 0 where
+pub record OnEdited (held : Held) (hints : Hints) (areas : ℕ) (Path : List Changed → ℕ → Mode → Type 0) (at : ℕ) (mode : Mode) : Type 0 where
   pub draft : List Changed
   pub edited : IsEdited held hints areas draft
   pub on : Path draft at mode
 
 -- of the name that is cleared, and of the file that loses it
-abbrev pub OnClearing : Held → Hints → ℕ → ℕ → List ℕ → Option Replaced → List Changed → ℕ → Mode → Type 0
-OnClearing held hints areas target name None draft at mode = ⊥
-OnClearing held hints areas target name (Some replaced) draft at mode = OnLeaving held hints areas draft target replaced.number name at mode
+abbrev pub OnClearingName : Held → Hints → ℕ → ℕ → List ℕ → Option Replaced → List Changed → ℕ → Mode → Type 0
+OnClearingName held hints areas target name None draft at mode = ⊥
+OnClearingName held hints areas target name (Some replaced) draft at mode = OnLeaving held hints areas draft target replaced.number name at mode
 
 abbrev pub OnDying : Held → Hints → ℕ → Option Replaced → List Changed → ℕ → Mode → Type 0
 OnDying held hints areas None draft at mode = ⊥
@@ -125,7 +125,7 @@ OnDying held hints areas (Some replaced) draft at mode = OnLosing held hints are
 -- of the file that comes in, under its new name
 abbrev pub OnBringing : Held → Hints → ℕ → Moving → List ℕ → Option Replaced → List Changed → ℕ → Mode → Type 0
 OnBringing held hints areas moving name replaced draft at mode =
-    OnClearing held hints areas moving.target name replaced draft at mode ⊎ OnComing held hints areas draft moving.target name moving.handle at mode
+    OnClearingName held hints areas moving.target name replaced draft at mode ⊎ OnComing held hints areas draft moving.target name moving.handle at mode
 
 -- of its old name, of itself, and of the file that had the new one
 abbrev pub OnSending : Held → Hints → ℕ → Moving → List ℕ → Option Replaced → List Changed → ℕ → Mode → Type 0
@@ -135,4 +135,4 @@ OnSending held hints areas moving name replaced draft at mode =
 -- The path of a move: of each step, over what the steps before changed.
 abbrev pub OnMoving : Held → Hints → ℕ → Moving → List ℕ → List ℕ → Option Replaced → ℕ → Mode → Type 0
 OnMoving held hints areas moving name new_name replaced at mode =
-    OnOver held hints areas (OnBringing held hints areas moving new_name replaced) at mode ⊎ OnOver held hints areas (OnSending held hints areas moving name replaced) at mode
+    OnEdited held hints areas (OnBringing held hints areas moving new_name replaced) at mode ⊎ OnEdited held hints areas (OnSending held hints areas moving name replaced) at mode

@@ -9,10 +9,9 @@ ghost use Rattle.bx_tree_files.specs.Files.{IsNumbered};
 ghost use Rattle.bx_moving.specs.Edits.{GrowsTo, HasRoomFor, IsEdited, OnComing, Rests};
 
 use crate::edits::Place;
-use bx_adding::enter;
 use bx_base::Mode;
 use bx_changes::ChangeError;
-use bx_entries::Known;
+use bx_entries::{Known, enter};
 use bx_inodes::inode_at;
 use bx_records::Draft;
 use bx_views::View;

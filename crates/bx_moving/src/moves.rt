@@ -4,8 +4,8 @@ ghost use Rattle.std.specs.Prelude.{◌≡◌, ◌<◌, ◌≤◌, ℕ, List, []
 ghost use Rattle.bx_changes.specs.Procedures.{HoldsFirst, IfFull, IsHeldDraft, NeedsBy, NeedsOn, NeverFirst, NeverInner, Tree, Truth, parts_of};
 ghost use Rattle.bx_model.specs.Renaming.{changes_parent, renamed};
 ghost use Rattle.bx_moving.specs.declared.moves.Moving.{Moving as Move};
-ghost use Rattle.bx_moving.specs.Edits.{Comes, EditsTo, GrowsTo, HasRoomFor, IsEdited, Rests};
-ghost use Rattle.bx_moving.specs.Moves.{IsDying, IsMoving, OnBringing, OnClearing, OnDying, OnMoving, OnOver, OnSending, brought, cleared, ended, other_of};
+ghost use Rattle.bx_moving.specs.Edits.{EditedTo, EditsTo, GrowsTo, HasRoomFor, IsEdited, Rests};
+ghost use Rattle.bx_moving.specs.Moves.{IsDying, IsMoving, OnBringing, OnClearingName, OnDying, OnMoving, OnEdited, OnSending, brought, cleared, ended, other_of};
 
 use crate::edits::{Place, leave, lose};
 use crate::entries::come;
@@ -90,7 +90,7 @@ fn bring<V: View>(
     requires { length name.now ≤ 255 }
     ensures step { (truth : Truth) (tree : Tree) (old_name : List ℕ) → IsMoving areas (V.held view.now) (V.hints view.now) truth tree moving old_name name.now replaced
         → GrowsTo areas truth [] (brought now tree moving name.now replaced) result }
-    ensures need { IfErr result (NeedsBy areas (V.held view.now) (OnOver (V.held view.now) (V.hints view.now) areas (OnBringing (V.held view.now) (V.hints view.now) areas moving name.now replaced))) }
+    ensures need { IfErr result (NeedsBy areas (V.held view.now) (OnEdited (V.held view.now) (V.hints view.now) areas (OnBringing (V.held view.now) (V.hints view.now) areas moving name.now replaced))) }
     ensures inner { IfErr result NeverFirst }
     ensures full { IfErr result (IfFull (λ spare. ⊥)) }
     ensures first { IfErr result (HoldsFirst (V.held view.now)) }
@@ -126,7 +126,7 @@ fn clear<V: View>(
         → EditsTo areas truth [] (cleared now tree target name.now replaced) result }
     ensures rooms { (truth : Truth) (tree : Tree) (moving : Move) (old_name : List ℕ) → IsMoving areas (V.held view.now) (V.hints view.now) truth tree moving old_name name.now replaced → moving.target ≡ target
         → IfOk result (λ new. HasRoomFor areas (V.held view.now) truth new target name.now) }
-    ensures need { NeedsOn areas (V.held view.now) (OnClearing (V.held view.now) (V.hints view.now) areas target name.now replaced []) result }
+    ensures need { NeedsOn areas (V.held view.now) (OnClearingName (V.held view.now) (V.hints view.now) areas target name.now replaced []) result }
     ensures inner { NeverInner result }
     ensures held { IfOk result (IsHeldDraft (V.held view.now)) }
     ensures edits { IfOk result (IsEdited (V.held view.now) (V.hints view.now) areas) }
@@ -161,9 +161,9 @@ fn send<V: View>(
     requires few { length draft ≤ 6 }
     requires area { IfSome replaced (λ replaced. (parts_of replaced.handle).area < areas) }
     ensures step { (truth : Truth) (tree : Tree) (new_name : List ℕ) → (is : IsMoving areas (V.held view.now) (V.hints view.now) truth tree moving name.now new_name replaced)
-        → Comes areas truth [] draft (brought now tree moving new_name replaced) → moving.counts ≡ changes_parent is.source.file is.target.file is.moved
+        → EditedTo areas truth [] draft (brought now tree moving new_name replaced) → moving.counts ≡ changes_parent is.source.file is.target.file is.moved
         → EditsTo areas truth [] (renamed now tree is.source.file name.now is.target.file new_name is.moved (other_of tree moving is.target.names new_name replaced is.other)) result }
-    ensures need { IsEdited (V.held view.now) (V.hints view.now) areas draft → NeedsOn areas (V.held view.now) (OnOver (V.held view.now) (V.hints view.now) areas (OnSending (V.held view.now) (V.hints view.now) areas moving name.now replaced)) result }
+    ensures need { IsEdited (V.held view.now) (V.hints view.now) areas draft → NeedsOn areas (V.held view.now) (OnEdited (V.held view.now) (V.hints view.now) areas (OnSending (V.held view.now) (V.hints view.now) areas moving name.now replaced)) result }
     ensures inner { NeverInner result }
     ensures held { IsHeldDraft (V.held view.now) draft → IfOk result (IsHeldDraft (V.held view.now)) }
 {

@@ -9,6 +9,7 @@ use Rattle.bx_facts.specs.declared.register.Register as register
 use Rattle.bx_facts.specs.declared.store.Store as store
 use Rattle.bx_facts.specs.Chains.{last}
 use Rattle.bx_facts.specs.Writes.{Sent, WritesIn}
+use Rattle.bx_facts.proofs.Lists.{front_or_behind}
 use Rattle.bx_node_events.proofs.Acting as acting
 use Rattle.bx_node_events.proofs.Acting.{IsChanged, IsLive, IsOwn, Outcome, course_then, machine_then}
 use Rattle.bx_node_events.proofs.Homing as homing
@@ -18,7 +19,7 @@ use Rattle.bx_node_events.proofs.Working.{IsSending}
 use Rattle.bx_node_landings.proofs.Acked.{acked_at, rest_slot}
 use Rattle.bx_node_landings.proofs.Landed.{homes_at}
 use Rattle.bx_node_machines.specs.Machines as words
-use Rattle.bx_node_machines.specs.Machines.{Fetch, IsAbout, IsAtWork, IsDoubtIn, IsDoubtOf, IsUnseen, MachineView, Replying, Scene, Stage, act_of, is_one}
+use Rattle.bx_node_machines.specs.Machines.{Fetch, IsAbout, IsAtWork, IsDoubtIn, IsDoubtOf, IsUnseen, MachineView, Replying, Scene, Stage, act_of, is_one, number_of}
 use Rattle.bx_node_machines.specs.Nodes.{NodesStand, hinted, known_of, nothing_held, scene_of, shown}
 use Rattle.bx_node_machines.proofs.Owning as owning
 use Rattle.bx_node_sends.proofs.Sent.{with_write}
@@ -197,9 +198,29 @@ module _ {G O S T : Type 0} (g : register.Ghosts G) (o : owners.Ghosts O) (st : 
     in_log at some = ⊎_elim (λ older. inl older) (λ newest. inr (began, newest))
         (newest_or (block_in (c.slots row.slot).more.changed at) (newest_in (c.logs row.slot) at) (subst (λ (l : List Logged). IsSome (newest_in l at)) here some))
 
+    -- the logs have the record besides, which is of the call
+    logged : (slot : ℕ) (one : Logged) → Contains (with_log c.logs row.slot ((c.slots row.slot).more ∷ c.logs row.slot) slot) one → Contains (c.logs slot) one ⊎ ((one.head.call ≡ number_of call) × (point.call ≡ number_of call))
+    logged slot one has = by (eqb slot row.slot) refl
+      where
+        in_front : Contains ((c.slots row.slot).more ∷ c.logs row.slot) one → Contains (c.logs row.slot) one ⊎ ((one.head.call ≡ number_of call) × (point.call ≡ number_of call))
+        in_front in_it = ⊎_elim
+            (λ same. inr (ap (λ (l : Logged). l.head.call) (sym same) ∙ doubt.3.call ∙ doubt.2.call_is, doubt.2.numbered))
+            inl
+            (front_or_behind (c.slots row.slot).more (c.logs row.slot) one in_it)
+
+        by : (b : Bool) → eqb slot row.slot ≡ b → Contains (c.logs slot) one ⊎ ((one.head.call ≡ number_of call) × (point.call ≡ number_of call))
+        by true same =
+            let e : slot ≡ row.slot = grind (arith, nat_tests, same) in
+            subst (λ (n : ℕ). Contains (c.logs n) one ⊎ ((one.head.call ≡ number_of call) × (point.call ≡ number_of call))) (sym e)
+            (in_front (subst (λ (l : List Logged). Contains l one) here (subst (λ (n : ℕ). Contains (with_log c.logs row.slot ((c.slots row.slot).more ∷ c.logs row.slot) n) one) e has)))
+        by false differ =
+            let ne : slot ≢ row.slot = grind (arith, nat_tests, differ) in
+            inl (subst (λ (l : List Logged). Contains l one) (log_there c.logs row.slot slot ((c.slots row.slot).more ∷ c.logs row.slot) ne) has)
+
     -- Its gate is acknowledged: the tree takes the record's step, and the homes of its blocks are sent.
     pub gate_lands : (next : T) × StepOf Stands Step (act_of call point) tree next
-        × ((course : Course) × (course.register.chain ≡ c.register.chain) × NodesStand g o st Stands Step register_is owners_are new x then_letters clocks later course next)
+        × ((course : Course) × (course.register.chain ≡ c.register.chain) × NodesStand g o st Stands Step register_is owners_are new x then_letters clocks later course next
+        × ((slot : ℕ) (one : Logged) → Contains (course.logs slot) one → Contains (c.logs slot) one ⊎ ((one.head.call ≡ number_of call) × (point.call ≡ number_of call))))
     gate_lands = (
       acked.0,
       subst (λ (act : Act). StepOf Stands Step act tree acked.0) doubt.2.act_is acked.1,
@@ -219,6 +240,7 @@ module _ {G O S T : Type 0} (g : register.Ghosts G) (o : owners.Ghosts O) (st : 
               (without_only c.doubts session).here,
               away_then,
             )),
+        logged,
       ),
     )
 
@@ -273,7 +295,7 @@ module _ {G O S T : Type 0} (g : register.Ghosts G) (o : owners.Ghosts O) (st : 
 
     -- Its blocks are home, and gate 0 is sent, closed.
     pub homes_land : write.runs ≡ (writes before.log works.Closes).1
-        → (course : Course) × (course.register.chain ≡ c.register.chain) × NodesStand g o st Stands Step register_is owners_are new x then_letters clocks later course tree
+        → (course : Course) × (course.register.chain ≡ c.register.chain) × NodesStand g o st Stands Step register_is owners_are new x then_letters clocks later course tree × (course.logs ≡ c.logs)
     homes_land runs = landed.next_sends g o st Stands Step register_is owners_are old x letters clocks machines c tree node session row before stands live none_out none_sent later new then_letters write sending home_to tree changed home_own
         (acting.shown_still g o st Stands Step register_is owners_are old x letters clocks machines later c tree tree node session row before home_to stands live changed home_own (course_then c row.slot home_to) tree same
         (homes_at g o st Stands Step register_is owners_are old x known c tree session row stands.at live.allowed

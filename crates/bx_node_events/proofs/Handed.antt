@@ -152,7 +152,7 @@ module _ {G O S T : Type 0} (g : register.Ghosts G) (o : owners.Ghosts O) (st : 
     register_last : g.keeps register_then z (record c.register { letters = letters ++ last_box; proposed = with_change proposal c.register.proposed })
     register_last = offered.keeps (record c.register { letters = letters }) register_served (at.pasts.down who ∙ up)
 
-    pub finished : (later : Course) × (later.register.chain ≡ c.register.chain) × NodesStand g o st Stands Step register_then owners_then store_then z (letters ++ last_box) (heard_clocks clocks input) machines later tree
+    pub finished : (later : Course) × (later.register.chain ≡ c.register.chain) × NodesStand g o st Stands Step register_then owners_then store_then z (letters ++ last_box) (heard_clocks clocks input) machines later tree × (later.logs ≡ c.logs)
     finished = taken.takes g o st Stands Step register_heard register_then owners_are owners_then store_is store_then y z (letters ++ heard_box) (letters ++ last_box) clocks machines (lettered c (letters ++ heard_box)) tree
         who input change shift proposal at about given
         (record { each = λ s there. laws.allowed register_heard y (record c.register { letters = letters ++ heard_box }) s register_keeps there })
@@ -187,7 +187,7 @@ module _ {G O S T : Type 0} (g : register.Ghosts G) (o : owners.Ghosts O) (st : 
       by (Tick reading) there = tt
       by Synced there = tt
 
-  pub handed : (later : Course) × GrowsBy c.register.proposed c.register.chain later.register.chain × NodesStand g o st Stands Step register_then owners_then store_then z (letters ++ last_box) (heard_clocks clocks input) machines later tree
+  pub handed : (later : Course) × GrowsBy c.register.proposed c.register.chain later.register.chain × NodesStand g o st Stands Step register_then owners_then store_then z (letters ++ last_box) (heard_clocks clocks input) machines later tree × (later.logs ≡ c.logs)
   handed =
       let heard = registered g o st Stands Step laws register_is register_heard owners_are store_is x y letters box heard_box clocks machines who input c tree stands up comes register_took in
       let but = heard.2 in
@@ -195,4 +195,4 @@ module _ {G O S T : Type 0} (g : register.Ghosts G) (o : owners.Ghosts O) (st : 
       owners_took store_took offered heard.0 tree
       (loosen g o st Stands Step register_heard register_heard owners_are store_is y (known_of g o st Stands Step register_heard owners_are store_is y (letters ++ heard_box) clocks machines) (lettered heard.0 (letters ++ heard_box)) tree (λ other. omega arith) but.at)
       but.about but.given but.at.parts.register_keeps (λ other one own differ. but.told other one differ own) in
-      (all.0, subst (λ (chain : Chain). GrowsBy c.register.proposed c.register.chain chain) (sym all.1) heard.1, all.2)
+      (all.0, subst (λ (chain : Chain). GrowsBy c.register.proposed c.register.chain chain) (sym all.1) heard.1, all.2, all.3 ∙ heard.3)

@@ -31,7 +31,7 @@ use Rattle.bx_rows.specs.Words.{is_taken}
 use Rattle.bx_rows.specs.declared.session.SessionRow.{SessionRow}
 use Rattle.bx_views.specs.Attempts.{Deed}
 use Rattle.bx_views.specs.Truths.{Hints, Truth}
-use Rattle.bx_volume.specs.Overlay.{with_log}
+use Rattle.bx_volume.specs.Overlay.{Logs, with_log}
 use Rattle.bx_volume.specs.Records.{Logged, newest_in}
 use Rattle.bx_volume.proofs.Overlay.{log_here, log_there}
 use Rattle.bx_world_chains.proofs.Rows.{lives_of, taken_of}
@@ -113,8 +113,9 @@ module _ {G O S T : Type 0} (g : register.Ghosts G) (o : owners.Ghosts O) (st : 
 
   -- ---- the write of the next work is sent
 
-  abbrev pub Stood : S → List Letter → List MachineView → T → Type 0
-  Stood new then_letters later next = (course : Course) × (course.register.chain ≡ c.register.chain) × NodesStand g o st Stands Step register_is owners_are new x then_letters clocks later course next
+  abbrev pub Stood : S → List Letter → List MachineView → T → Logs → Type 0
+  Stood new then_letters later next logs =
+      (course : Course) × (course.register.chain ≡ c.register.chain) × NodesStand g o st Stands Step register_is owners_are new x then_letters clocks later course next × (course.logs ≡ logs)
 
   abbrev known_then : List MachineView → Known
   known_then later = known_of g o st Stands Step register_is owners_are old x letters clocks later
@@ -126,7 +127,7 @@ module _ {G O S T : Type 0} (g : register.Ghosts G) (o : owners.Ghosts O) (st : 
         → (IsFlying session (writes to.log to.log.work).1 (st.out_of new node) (write ∷ c.store.writes)
         → IsAtWork (st.made old).devices (st.made old).areas (SureBehind o st owners_are (st.made old) new x clocks c then_letters write)
         (scene_of g o st Stands Step register_is owners_are new x clocks.down later (with_write (course_then c row.slot to) then_letters write)) node session row.slot (machine_then before to) to.stage)
-        → Stood new then_letters later next
+        → Stood new then_letters later next to.logs
     next_sends to next changed own at doing runs work = (
       with_write (course_then c row.slot to) then_letters write,
       refl,
@@ -134,6 +135,7 @@ module _ {G O S T : Type 0} (g : register.Ghosts G) (o : owners.Ghosts O) (st : 
           (working.touches g o st Stands Step register_is owners_are old x (known_then later) (course_then c row.slot to) next session row to.log write at live.allowed live.is_row live.lives own.is_slot own.device own.count here runs c.logs c.slots)
           (λ handed. working.of_work g o st Stands Step register_is owners_are old x (known_then later) (course_then c row.slot to) next session row to.log write at live.allowed live.is_row live.lives own.is_slot own.device own.count here runs new then_letters node handed)
           none_out none_sent (λ flying. work (flying (writes to.log to.log.work).1 runs)),
+      refl,
     )
       where
         here : (with_slot c.slots row.slot to.slot row.slot).activity ≡ OfLog to.log.work
@@ -157,7 +159,7 @@ module _ {G O S T : Type 0} (g : register.Ghosts G) (o : owners.Ghosts O) (st : 
 
       -- The body of a record is acknowledged, and its gate is sent.
       pub body_lands : IsChanged machines later node (record before { log = record before.log { work = works.Opens point; out = true }; stage = words.Records call draft })
-          → write.runs ≡ (writes before.log (works.Opens point)).1 → Stood new then_letters later tree
+          → write.runs ≡ (writes before.log (works.Opens point)).1 → Stood new then_letters later tree c.logs
       body_lands changed runs = next_sends body_to tree changed own
           (acting.shown_still g o st Stands Step register_is owners_are old x letters clocks machines later c tree tree node session row before body_to stands live changed own (course_then c row.slot body_to) tree (λ block mode. refl)
           (body_at g o st Stands Step register_is owners_are old x known c tree session row stands.at live.allowed lives_it live.is_row none_sent (c.slots row.slot).more point text body_to.before was acked))
@@ -211,7 +213,7 @@ module _ {G O S T : Type 0} (g : register.Ghosts G) (o : owners.Ghosts O) (st : 
 
       -- Gate 0, closed, is acknowledged, and the other gates are sent.
       pub first_lands : IsChanged machines later node (record before { log = record before.log { count = 0; work = works.Shuts; out = true }; stage = words.Closes })
-          → write.runs ≡ (writes before.log works.Shuts).1 → Stood new then_letters later tree
+          → write.runs ≡ (writes before.log works.Shuts).1 → Stood new then_letters later tree (with_log c.logs row.slot [])
       first_lands changed runs = next_sends first_to tree changed own
           (acting.shown_still g o st Stands Step register_is owners_are old x letters clocks machines later c tree tree node session row before first_to stands live changed own (course_then c row.slot first_to) tree (λ block mode. refl)
           (first_at g o st Stands Step register_is owners_are old x known c tree session row stands.at live.allowed lives_it live.is_row none_sent (c.slots row.slot).more (c.slots row.slot).more first_to.before
@@ -260,7 +262,7 @@ module _ {G O S T : Type 0} (g : register.Ghosts G) (o : owners.Ghosts O) (st : 
     }
 
     -- The other gates, closed, are acknowledged: the log rests, and nothing is sent.
-    pub others_land : Stood old letters later tree
+    pub others_land : Stood old letters later tree c.logs
     others_land = (
       course_then c row.slot others_to,
       refl,
@@ -269,6 +271,7 @@ module _ {G O S T : Type 0} (g : register.Ghosts G) (o : owners.Ghosts O) (st : 
           (others_at g o st Stands Step register_is owners_are old x known c tree session row stands.at live.allowed lives_it live.is_row none_sent (c.slots row.slot).more (c.slots row.slot).more others_to.before was
           (ack works.Shuts (λ e. cc) is work.1 work.2 work.3)))
           (refl, ap (λ (l : Slot). l.activity) (slot_here c.slots row.slot others_to.slot), none, none_out, work.4, λ block. work.5 block ∙ sym (ap (λ (l : List Logged). newest_in l block) none)),
+      refl,
     )
       where
         work : IsAtWork (st.made old).devices (st.made old).areas Sure Before node session row.slot before words.Closes

@@ -157,6 +157,7 @@ module _ {G O S T : Type 0} (g : register.Ghosts G) (o : owners.Ghosts O) (st : 
         (subst (λ (chain : Chain). g.keeps register_heard y (record c.register { letters = letters ++ heard_box; chain = chain })) same decides.holds)
         (decided.still_at g o st Stands Step register_is register_heard owners_are store_is x y (letters ++ box) (letters ++ heard_box) clocks machines c tree stands allowed legal register_took.rises owners_lose lost.0 goes labels lives alone);
     about = decided.still_about g o st Stands Step register_is register_heard owners_are store_is x y (letters ++ box) (letters ++ heard_box) clocks machines c tree stands allowed legal register_took.rises owners_lose lost.0 goes labels lives alone;
+    single = stands.single;
     told = told;
     given = stands.given;
   }
@@ -171,15 +172,16 @@ module _ {G O S T : Type 0} (g : register.Ghosts G) (o : owners.Ghosts O) (st : 
         decision proposed law (laws.owners_grow owners_are) (laws.apart owners_are) (laws.stores_grow store_is y));
     about = decided.grown_about g o st Stands Step register_is register_heard owners_are store_is x y (letters ++ box) (letters ++ heard_box) clocks machines c tree stands allowed legal register_took.rises owners_lose lost.0 goes labels lives alone
         decision proposed law (laws.owners_grow owners_are) (laws.apart owners_are) (laws.stores_grow store_is y);
+    single = stands.single;
     told = told;
     given = decided.grown_given g o st Stands Step register_is register_heard owners_are store_is x y (letters ++ box) (letters ++ heard_box) clocks machines c tree stands allowed legal register_took.rises owners_lose lost.0 goes labels lives alone
         decision proposed law (laws.owners_grow owners_are) (laws.apart owners_are) (laws.stores_grow store_is y);
   }
 
   pub registered : (later : Course) × GrowsBy c.register.proposed c.register.chain later.register.chain
-      × StandsBut g o st Stands Step register_heard owners_are store_is y who (letters ++ heard_box) clocks machines (lettered later (letters ++ heard_box)) tree
+      × StandsBut g o st Stands Step register_heard owners_are store_is y who (letters ++ heard_box) clocks machines (lettered later (letters ++ heard_box)) tree × (later.logs ≡ c.logs)
   registered = ⊎_elim
-      (λ same. (c, inl refl, still same))
+      (λ same. (c, inl refl, still same, refl))
       (λ (one : (decision : Change) × Contains c.register.proposed decision × IsLegal (last c.register.chain) decision × (decides.chain ≡ grown c.register.chain decision)).
-      (grown_course c one.0, inr (one.0, one.1, one.2, refl), more one.0 one.1 one.2 one.3))
+      (grown_course c one.0, inr (one.0, one.1, one.2, refl), more one.0 one.1 one.2 one.3, refl))
       decides.grows

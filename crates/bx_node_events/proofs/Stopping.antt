@@ -212,6 +212,19 @@ pub but_for : {G O S T : Type 0} (g : register.Ghosts G) (o : owners.Ghosts O) (
 but_for g o st Stands Step register_is owners_are store_is x who letters clocks machines c tree stands = record {
   at = stands.at;
   about = stands.about;
+  single = stands.single;
   told = λ node session differ own. stands.told node session own;
   given = stands.given;
+}
+
+-- and they stand, where that one is no node
+pub but_none : {G O S T : Type 0} (g : register.Ghosts G) (o : owners.Ghosts O) (st : store.Ghosts S) (Stands : Truth → Hints → T → Type 0) (Step : T → Deed → T → Type 0) (register_is : G) (owners_are : O) (store_is : S) (x : Disks)
+    (who : Actor) (letters : List Letter) (clocks : Clocks) (machines : List MachineView) (c : Course) (tree : T) → ((node : ℕ) → who ≢ Node node)
+    → StandsBut g o st Stands Step register_is owners_are store_is x who letters clocks machines c tree → NodesStand g o st Stands Step register_is owners_are store_is x letters clocks machines c tree
+but_none g o st Stands Step register_is owners_are store_is x who letters clocks machines c tree none but = record {
+  at = but.at;
+  about = but.about;
+  single = but.single;
+  told = λ node session own. but.told node session (none node) own;
+  given = but.given;
 }

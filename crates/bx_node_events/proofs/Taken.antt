@@ -178,7 +178,7 @@ module _ {G O S T : Type 0} (g : register.Ghosts G) (o : owners.Ghosts O) (st : 
   holds = takes_owners.keeps may_o
 
   -- The nodes stand.
-  pub takes : (course : Course) × (course.register.chain ≡ c.register.chain) × NodesStand g o st Stands Step register_then owners_then store_then z then_letters (heard_clocks clocks input) machines course tree
+  pub takes : (course : Course) × (course.register.chain ≡ c.register.chain) × NodesStand g o st Stands Step register_then owners_then store_then z then_letters (heard_clocks clocks input) machines course tree × (course.logs ≡ c.logs)
   takes = (
     hearing.then_is (loose g) o st Stands Step register_heard register_then owners_are owners_then store_is store_then y z heard_letters then_letters clocks machines c tree who (g.knows register_heard who) input owners_change store_change proposal holds.holding at about given allowed legal up place (at.parts.store_knew who),
     refl,
@@ -192,4 +192,5 @@ module _ {G O S T : Type 0} (g : register.Ghosts G) (o : owners.Ghosts O) (st : 
         (λ node write is none own live. takes_store.done node write may_s is none own (subst (λ (chain : Chain). LivesIn (last chain) write.session) (sym at.pasts.store_chain) live))
         lives alone
         (λ other one own differ. let low = told other one own differ in let e = ap (λ (s : GlobalState). s.index) (same_knows (Node other)) in omega (arith, low, e)) (let e = ap (λ (one : GlobalState). one.index) (same_knows who) in omega (arith, e))),
+    refl,
   )

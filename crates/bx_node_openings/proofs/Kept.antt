@@ -39,7 +39,7 @@ module _ (x y : Disks) (keeps : KeepsVolume x y) where
       kept : (second : Bool) → IsSourceIn s device second → IsKept x y (member_disk device second) sector
       kept second source = keeps.each (member_disk device second) sector (inl (member_far device second)) (was.sure second source)
 
-  members_keep : (made : Made) (s : GlobalState) → IsOfStore made x s → IsOfStore made y s
+  pub members_keep : (made : Made) (s : GlobalState) → IsOfStore made x s → IsOfStore made y s
   members_keep made s was = record {
     devices = was.devices;
     labels = record {

@@ -7,7 +7,7 @@ use Rattle.std.proofs.lemmas.List.{length-replicate}
 use Rattle.bx_disk.specs.Disks.{sector_of}
 use Rattle.bx_facts.specs.Writes.{AreRuns, Asked, IsRun, Made, Writes, WritesIn}
 use Rattle.bx_facts.proofs.Lists.{front_or_behind, nothing}
-use Rattle.bx_fields.proofs.Whole.{length-padded}
+use Rattle.bx_base.proofs.Whole.{length-padded}
 use Rattle.bx_layout.specs.Blocks.{HasParts, block_text}
 use Rattle.bx_layout.specs.Labels.{gate_text, gate_word}
 use Rattle.bx_layout.specs.declared.block.Block.{Block}
@@ -166,7 +166,7 @@ module _ (made : Made) (areas : ℕ) (asked : Option Asked) (old new : Machine) 
     is_slot = is.is_slot;
     device = is.device;
     room = room_as (works.Body text point) work;
-    fits = subst (λ (s : Stage). FitsStage old.cache.areas (record old.log { work = works.Opens point; out = true }) s) (sym stage) (tt, refl, (fits_as (stages.Records pending) stage).2, subst (λ (w : Work). IsNumbered w pending.call) work (fits_as (stages.Records pending) stage).3);
+    fits = subst (λ (s : Stage). FitsStage old.cache.areas (record old.log { work = works.Opens point; out = true }) s) (sym stage) (tt, refl, (fits_as (stages.Records pending) stage).2, subst (λ (w : Work). IsNumbered w pending.call) work (fits_as (stages.Records pending) stage).3, (fits_as (stages.Records pending) stage).4);
     fetch = is.fetch;
   })
   still_ready runs said (SendsHomes pending point stage work now volume commits homes) = subst (λ (m : Machine). IsReady made areas asked m) (sym now) (record {
@@ -229,7 +229,7 @@ module _ (made : Made) (areas : ℕ) (asked : Option Asked) (old new : Machine) 
       is_slot = is.is_slot;
       device = is.device;
       room = let none = (fits_as stages.Idle idle).1 in omega (arith, none);
-      fits = (tt, refl, begins.logged.blocks, numbered);
+      fits = (tt, refl, begins.logged.blocks, numbered, (fits_as stages.Idle idle).1);
       fetch = is.fetch;
     })
 

@@ -1,3 +1,6 @@
+pub mod Answering
 pub mod Drafted
 pub mod Fitting
 pub mod LogSteps
+pub mod Order
+pub mod Trying

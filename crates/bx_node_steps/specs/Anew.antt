@@ -2,6 +2,7 @@
 use Rattle.std.specs.Prelude.{◌≡◌, ℕ, ◌||◌, Bool, false, true, List, [], Option, Some, None, option_map}
 use Rattle.bx_facts.specs.Chains.{number_in}
 use Rattle.bx_node_steps.specs.Logging.{WaitsOn}
+use Rattle.bx_node_steps.specs.declared.machine.Fetch.{Fetch}
 use Rattle.bx_node_steps.specs.declared.machine.Fetch.TheVariants as fetches
 use Rattle.bx_node_steps.specs.declared.machine.Machine.{Machine}
 use Rattle.bx_node_steps.specs.declared.machine.Stage.{Stage}
@@ -37,15 +38,22 @@ waits_again work (stages.Records pending) = option_map (left_over (is_opening wo
 waits_again work stages.Homes = None
 waits_again work stages.Closes = None
 
--- A node begins anew under the session of a row, or under none: it has nothing but its calls and hints.
-pub record BeginsAnew (row : Option SessionRow) (old new : Machine) : Type 0 where
+-- a read that is still out counts for nothing
+abbrev pub left_read : Bool → Fetch
+left_read false = fetches.Nothing
+left_read true = fetches.Dropped
+
+-- A node begins anew under the session of a row, or under none, while a read of it is out or not: it has nothing but its calls and hints; its clock and a tidy that is under way go on.
+pub record BeginsAnew (row : Option SessionRow) (reads : Bool) (old new : Machine) : Type 0 where
   pub only : new ≡ record {
     session = number_in row;
     cache = record old.cache { kept = [] };
     log = first_log old.cache.devices row;
     stage = stages.Idle;
-    fetch = fetches.Nothing;
+    fetch = left_read reads;
     calls = new.calls;
     mark = None;
+    ticks = old.ticks;
+    tidy = old.tidy;
   }
   pub calls : WaitsOn (waits_again old.log.work old.stage) old.calls.items new.calls.items

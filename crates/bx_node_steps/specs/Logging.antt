@@ -38,10 +38,10 @@ IsNumbered (works.Opens point) call = point.call ≡ number_of (replying call)
 IsNumbered works.Closes call = Unit {0}
 IsNumbered works.Shuts call = Unit {0}
 
--- What a log does goes with what it is for: where nothing, it rests and has no records; nor has it any once gate 0 is closed.
+-- What a log does goes with what it is for: where nothing, it rests and has no records; nor has it any while one is written, or once gate 0 is closed.
 abbrev pub FitsStage : ℕ → LogView → Stage → Type 0
 FitsStage areas log stages.Idle = (log.work ≡ works.Idle) × (log.count ≡ 0)
-FitsStage areas log (stages.Records pending) = IsOfRecord log.work × (log.out ≡ true) × AreBlocks areas pending.draft × IsNumbered log.work pending.call
+FitsStage areas log (stages.Records pending) = IsOfRecord log.work × (log.out ≡ true) × AreBlocks areas pending.draft × IsNumbered log.work pending.call × (log.count ≡ 0)
 FitsStage areas log stages.Homes = (log.work ≡ works.Idle) × (0 < log.count)
 FitsStage areas log stages.Closes = IsOfClosing log.work × (log.out ≡ true) × (log.work ≡ works.Shuts → log.count ≡ 0)
 

@@ -15,11 +15,16 @@ use std::alloc::Global;
 use std::mem;
 
 impl Machine {
-    /// Begins anew under the session of a row, or under none.
-    pub fn begin_anew(&mut self, alloc: Global, row: Option<SessionRow>) -> Result<(), OutOfMemory>
+    /// Begins anew under the session of a row, or under none, while a read of it is still out or not.
+    pub fn begin_anew(
+        &mut self,
+        alloc: Global,
+        row: Option<SessionRow>,
+        reads: bool,
+    ) -> Result<(), OutOfMemory>
         requires fits { FitsStage self.old.cache.areas self.old.log self.old.stage }
         requires slot { IfSome row (λ row. row.slot < 8) }
-        ensures { OnOk result (BeginsAnew row self.old self.new) }
+        ensures { OnOk result (BeginsAnew row reads self.old self.new) }
     {
         let call = self.leave_record()?;
         wait_on(&mut self.calls, call)?;
@@ -27,7 +32,11 @@ impl Machine {
         self.session = row.map(|row| row.number);
         self.cache.forget();
         self.log = Log::new(alloc, slot, self.cache.device_of(slot));
-        self.fetch = Fetch::Nothing;
+        self.fetch = if reads {
+            Fetch::Dropped
+        } else {
+            Fetch::Nothing
+        };
         self.mark = None;
         Ok(())
     }

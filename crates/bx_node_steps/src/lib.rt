@@ -4,12 +4,14 @@
 
 mod anew;
 mod blocks;
+mod calls;
 mod logs;
 mod machine;
 mod marks;
 mod recording;
+mod tidies;
 
 pub use logs::LogStep;
-pub use machine::{Fetch, Machine, Mark, Pending, Stage};
+pub use machine::{Fetch, Machine, Mark, Pending, Stage, Tidy};
 pub use marks::waits_since;
-pub use recording::{Recording, asked_by};
+pub use recording::{Recording, asked_by, tidying};

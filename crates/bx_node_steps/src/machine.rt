@@ -57,6 +57,15 @@ pub struct Mark {
     pub last: CallNo,
 }
 
+/// A tidy that is under way: an area of the volume is cleaned of dead files.
+#[derive(Clone, Copy, Debug)]
+pub struct Tidy {
+    /// How many ticks had come when it began, which tells the area.
+    pub tick: u64,
+    /// Whether it rests until the next tick, as the node was asked for a block.
+    pub rests: bool,
+}
+
 /// What a node has.
 #[derive(Drop)]
 pub struct Machine {
@@ -74,6 +83,10 @@ pub struct Machine {
     pub calls: Vec<Waiting>,
     /// Since when the first block is asked back.
     pub mark: Option<Mark>,
+    /// How many ticks came.
+    pub ticks: u64,
+    /// The tidy that is under way.
+    pub tidy: Option<Tidy>,
 }
 
 impl Machine {
@@ -85,6 +98,7 @@ impl Machine {
         ensures log { result.log ≡ closed_log 0 0 }
         ensures idle { (result.stage ≡ Idle) × (result.fetch ≡ Nothing) }
         ensures calls { (result.calls.items ≡ []) × (result.mark ≡ None) }
+        ensures tidy { (result.ticks ≡ 0) × (result.tidy ≡ None) }
     {
         Machine {
             session: None,
@@ -94,6 +108,8 @@ impl Machine {
             fetch: Fetch::Nothing,
             calls: Vec::new(alloc),
             mark: None,
+            ticks: 0,
+            tidy: None,
         }
     }
 }

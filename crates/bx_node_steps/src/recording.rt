@@ -4,13 +4,14 @@ ghost use Rattle.std.specs.Prelude.{◌≡◌, ℕ, ◌+◌, ◌<◌, ◌≤◌,
 ghost use Rattle.bx_node_cache.specs.Kept.{held_in};
 ghost use Rattle.bx_node_tries.specs.Tries.{IsChange};
 ghost use Rattle.bx_node_steps.specs.Logging.{IsRecordingOf, Begins, FitsStage, IsPlace, IsPutBack, WaitsOn};
+ghost use Rattle.bx_node_steps.specs.Tidying.{tidying};
 ghost use Rattle.bx_node_steps.specs.declared.machine.Stage.TheVariants.{Idle};
 ghost use Rattle.bx_views.specs.Attempts.{IsHeldDraft};
 
 use crate::machine::{Machine, Pending, Stage};
 use bx_base::{OutOfMemory, Point};
 use bx_node_tries::{Begun, Waiting};
-use bx_records::Runs;
+use bx_records::{Draft, Runs};
 use bx_redo::Move;
 use bx_views::Attempt;
 
@@ -62,6 +63,22 @@ pub fn asked_by(begun: Begun, moment: u64) -> Recording
             },
         },
         Attempt::Need(_) | Attempt::Answer(_) => unreachable!(),
+    }
+}
+
+/// The record of the blocks that a tidy changes, at a moment in milliseconds. It is of no call.
+pub fn tidying(draft: Draft, moment: u64) -> Recording
+    ensures { result ≡ tidying draft moment }
+{
+    Recording {
+        waits: None,
+        pending: Pending { call: None, draft },
+        point: Point {
+            call: 0,
+            moment,
+            spare: ENOUGH,
+            made: 0,
+        },
     }
 }
 

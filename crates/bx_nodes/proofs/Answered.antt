@@ -1,5 +1,5 @@
 -- Calls are answered over what stands.
-use Rattle.std.proofs.Common.{◌≡◌, ℕ, List, refl, sym, subst}
+use Rattle.std.proofs.Common.{inl, ◌≡◌, ℕ, List, refl, sym, subst}
 use Rattle.bx_disk.specs.Disks.{Disks}
 use Rattle.bx_facts.specs.declared.register.Register as register
 use Rattle.bx_facts.specs.declared.store.Store as store
@@ -27,6 +27,7 @@ module _ {G O S T : Type 0} (g : register.Ghosts G) (o : owners.Ghosts O) (st : 
     next = led.last;
     leads = led.leads;
     chain = refl;
+    logged = λ slot one has. inl has;
     stands = subst (λ (machines : List MachineView). NodesStand g o st Stands Step register_is owners_are store_is x letters clocks machines c led.last) (sym same)
         (answered g o st Stands Step register_is owners_are store_is x letters clocks old c tree led.last led.all stands);
   }

@@ -1,5 +1,5 @@
--- A node begins the record of a call: the nodes stand with it under way.
-use Rattle.std.proofs.Common.{◌≡◌, ◌∙◌, ℕ, Bool, true, false, List, [], ◌∷◌, ◌++◌, Some, None, IsSome, refl, sym, ap, subst, arith}
+-- A node begins a record: the nodes stand with it under way.
+use Rattle.std.proofs.Common.{inl, ◌≡◌, ◌∙◌, ℕ, Bool, true, false, List, [], ◌∷◌, ◌++◌, Some, None, IsSome, refl, sym, ap, subst, arith}
 use Rattle.std.specs.Prelude.{◌==◌, if◌then◌else◌, slice_get, slice_set}
 use Rattle.std.specs.List.{AllByRecursion}
 use Rattle.std.proofs.lemmas.Bool.Decides.{nat_tests}
@@ -16,7 +16,6 @@ use Rattle.bx_node_events.proofs.Handing.{IsTaken, OwnersLaws, RegisterLaws, Sto
 use Rattle.bx_node_events.proofs.Leased.{leased_course}
 use Rattle.bx_node_machines.specs.Machines.{act_of, number_of}
 use Rattle.bx_node_machines.specs.Nodes.{NodesStand}
-use Rattle.bx_node_tries.specs.declared.round.Begun.{Begun}
 use Rattle.bx_node_tries.specs.declared.round.Waiting.{Waiting}
 use Rattle.bx_node_steps.specs.Logging.{IsRecordingOf, Begins}
 use Rattle.bx_node_steps.specs.Seen.{replying, seen, stage_of, view_of}
@@ -25,6 +24,7 @@ use Rattle.bx_node_steps.specs.declared.machine.Machine.{Machine}
 use Rattle.bx_node_steps.specs.declared.machine.Stage.TheVariants as stages
 use Rattle.bx_node_steps.specs.declared.recording.Recording.{Recording}
 use Rattle.bx_nodes.proofs.Stepping as stepping
+use Rattle.bx_nodes.proofs.Told.{told_as}
 use Rattle.bx_owners.specs.declared.owners.Owners as owners
 use Rattle.bx_places.specs.Places.{IsBlock}
 use Rattle.bx_post.specs.declared.packets.Letter.{Letter}
@@ -65,7 +65,7 @@ one_block areas (first ∷ draft) all at some = by (first.0 == at) refl (one_blo
 
 -- what an attempt gives, its record does
 module _ {T : Type 0} (Stands : Truth → Hints → T → Type 0) (Step : T → Deed → T → Type 0) (free moment : ℕ) (call : Waiting) (truth : Truth) (tree : T) where
-  works : (attempt : Attempt) (recording : Recording) → IsRecordingOf moment call attempt recording → Gives Stands Step free call.client call.message moment truth tree attempt
+  pub works : (attempt : Attempt) (recording : Recording) → IsRecordingOf moment call attempt recording → Gives Stands Step free call.client call.message moment truth tree attempt
       → Works Stands Step (act_of (replying recording.pending.call) recording.point) recording.pending.draft truth tree
   works (attempts.Need wants) recording asks gives = absurd asks
   works (attempts.Change draft done) recording asks gives =
@@ -81,14 +81,13 @@ module _ {G O S T : Type 0} (g : register.Ghosts G) (o : owners.Ghosts O) (st : 
     (up : clocks.down (Node node) ≡ false) (own : o.own owners_are node ≡ Some session) (ends : o.end_of owners_are node ≡ Some until) (lives : LivesIn (last c.register.chain) session)
     (there : slice_get items node ≡ Some before) (mark : before.session ≡ Some session) (none_out : st.out_of old node ≡ None)
     (register_laws : RegisterLaws g register_is) (owners_laws : OwnersLaws o owners_are) (store_laws : StoreLaws st old)
-    (free : Truth → ℕ) (areas moment : ℕ) (path : ℕ → List ℕ → Held → Hints → ℕ → Mode → Type 0) (begun : Begun) (recording : Recording) (runs : KindAndRuns)
-    (idle : before.stage ≡ stages.Idle)
-    (fair : IsFair areas (held_in before.cache.kept) (path begun.call.client begun.call.message (held_in before.cache.kept) (hint_in before.cache.hinted)) begun.attempt)
-    (gives : (truth : Truth) (tree : T) → IsTruth (held_in before.cache.kept) truth → Stands truth (hint_in before.cache.hinted) tree → Gives Stands Step (free truth) begun.call.client begun.call.message moment truth tree begun.attempt)
-    (asks : IsRecordingOf moment begun.call begun.attempt recording) (begins : Begins recording before after runs)
+    (recording : Recording) (runs : KindAndRuns) (idle : before.stage ≡ stages.Idle)
+    (held : IsHeldDraft (held_in before.cache.kept) recording.pending.draft) (of_call : recording.point.call ≡ number_of (replying recording.pending.call))
+    (does : (truth : Truth) (tree : T) → IsTruth (held_in before.cache.kept) truth → Stands truth (hint_in before.cache.hinted) tree → Works Stands Step (act_of (replying recording.pending.call) recording.point) recording.pending.draft truth tree)
+    (begins : Begins recording before after runs)
     (taken : IsTaken st old new node box box_then (record { session = session; until = until; runs = runs.1 })) (made_devices : before.cache.devices ≡ (st.made old).devices) (made_areas : before.cache.areas ≡ (st.made old).areas) where
-  pub begun_there : Turned Step (NodesStand g o st Stands Step register_is owners_are new x (letters ++ box_then) clocks (seen (slice_set items node after))) c tree []
-  begun_there =
+  pub sent_there : Turned Step (NodesStand g o st Stands Step register_is owners_are new x (letters ++ box_then) clocks (seen (slice_set items node after))) c tree []
+  sent_there =
       let row = stepping.row g o st Stands Step register_is owners_are old new x letters box box_then clocks items c tree node session until before after stands up own ends lives there mark none_out register_laws owners_laws store_laws in
       let goes = begins_at g o st Stands Step register_is owners_are old x (letters ++ box) clocks (seen items) (seen (slice_set items node after))
       (leased_course (stepping.quiet_course g o st Stands Step register_is owners_are old new x letters box box_then clocks items c tree node session until before after stands up own ends lives there mark none_out register_laws owners_laws store_laws) session until)
@@ -103,13 +102,13 @@ module _ {G O S T : Type 0} (g : register.Ghosts G) (o : owners.Ghosts O) (st : 
       runs taken made_devices made_areas)
       (stepping.changes g o st Stands Step register_is owners_are old new x letters box box_then clocks items c tree node session until before after stands up own ends lives there mark none_out register_laws owners_laws store_laws
       _ (ap view_of begins.only))
-      (held_draft moment areas (held_in before.cache.kept) (path begun.call.client begun.call.message (held_in before.cache.kept) (hint_in before.cache.hinted)) begun.call begun.attempt recording asks fair)
+      held
       logged
       (λ block some. one_block (st.made old).areas recording.pending.draft logged.blocks block some)
-      (numbered moment begun.call begun.attempt recording asks)
-      (λ other t truth agrees. works Stands Step (free other) moment begun.call other t begun.attempt recording asks (gives other t truth agrees))
+      of_call
+      does
       (ap (λ (r : KindAndRuns). r.1) begins.asks) in
-      record { later = goes.0; next = tree; leads = refl; chain = goes.1; stands = goes.2 }
+      record { later = goes.0; next = tree; leads = refl; chain = goes.1; logged = told_as c.logs c.logs goes.0.logs [] goes.3 (λ slot one has. inl has); stands = goes.2 }
     where
       logged : IsLogged (st.made old).areas (record_of recording.point recording.pending.draft)
       logged = subst (λ (a : ℕ). IsLogged a (record_of recording.point recording.pending.draft)) made_areas begins.logged

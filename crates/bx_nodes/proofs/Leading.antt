@@ -1,12 +1,14 @@
 -- Answers that lead from tree to tree, and further.
-use Rattle.std.proofs.Common.{◌∙◌, List, [], ◌∷◌, ◌++◌, sym, subst}
+use Rattle.std.proofs.Common.{◌∙◌, inl, ℕ, List, [], ◌∷◌, ◌++◌, Contains, refl, sym, subst}
 use Rattle.std.specs.Prelude.{reverse}
-use Rattle.std.proofs.lemmas.List.{reverse-append}
+use Rattle.std.proofs.lemmas.List.{append-nil, reverse-append}
 use Rattle.bx_node_tries.specs.Tries.{LeadsBack}
 use Rattle.bx_node_tries.specs.declared.round.Said.{Said}
 use Rattle.bx_nodes.specs.Asks.{Later}
-use Rattle.bx_nodes.specs.Turns.{Turned}
+use Rattle.bx_nodes.specs.Turns.{IsOldOrTold, Turned}
+use Rattle.bx_nodes.proofs.Told.{told_as, told_from, told_on}
 use Rattle.bx_views.specs.Attempts.{Deed}
+use Rattle.bx_volume.specs.Records.{Logged}
 use Rattle.bx_world_standing.specs.Standing.{Course}
 
 leads_on : {T : Type 0} (Step : T → Deed → T → Type 0) (first middle last : T) (later earlier : List Said) → LeadsBack Step first earlier middle → LeadsBack Step middle later last → LeadsBack Step first (later ++ earlier) last
@@ -21,18 +23,19 @@ turned_on Step Stands Stands_then c tree said more one two = record {
   next = two.next;
   leads = subst (λ (l : List Said). LeadsBack Step tree l two.next) (sym (reverse-append said more)) (leads_on Step tree one.next two.next (reverse more) (reverse said) one.leads two.leads);
   chain = two.chain ∙ one.chain;
+  logged = told_on c.logs one.later.logs two.later.logs said more one.logged two.logged;
   stands = two.stands;
 }
 
 -- a turn behind what was asked for or given up, by the same engine
 pub later_turned : {T : Type 0} (Step : T → Deed → T → Type 0) (Stands : Course → Type 0) (Stands_then : Course → T → Type 0) (c : Course) (tree : T) (said : List Said) → (one : Later Stands c)
     → Turned Step Stands_then one.later tree said → Turned Step Stands_then c tree said
-later_turned Step Stands Stands_then c tree said one two = record { later = two.later; next = two.next; leads = two.leads; chain = two.chain ∙ one.chain; stands = two.stands }
+later_turned Step Stands Stands_then c tree said one two = record { later = two.later; next = two.next; leads = two.leads; chain = two.chain ∙ one.chain; logged = told_from c.logs one.later.logs two.later.logs said one.logs two.logged; stands = two.stands }
 
 -- and what is asked for behind a turn
 pub turned_later : {T : Type 0} (Step : T → Deed → T → Type 0) (Stands Stands_then : Course → T → Type 0) (c : Course) (tree : T) (said : List Said) → (one : Turned Step Stands c tree said)
     → Later (λ later. Stands_then later one.next) one.later → Turned Step Stands_then c tree said
-turned_later Step Stands Stands_then c tree said one two = record { later = two.later; next = one.next; leads = one.leads; chain = two.chain ∙ one.chain; stands = two.stands }
+turned_later Step Stands Stands_then c tree said one two = record { later = two.later; next = one.next; leads = one.leads; chain = two.chain ∙ one.chain; logged = told_as c.logs one.later.logs two.later.logs said two.logs one.logged; stands = two.stands }
 
 -- and what says nothing behind it
 pub turned_still : {T : Type 0} (Step : T → Deed → T → Type 0) (Stands Stands_then : Course → T → Type 0) (c : Course) (tree : T) (said : List Said) → (one : Turned Step Stands c tree said)
@@ -42,10 +45,15 @@ turned_still Step Stands Stands_then c tree said one two = record {
   next = two.next;
   leads = subst (λ t. LeadsBack Step tree (reverse said) t) (sym two.leads) one.leads;
   chain = two.chain ∙ one.chain;
+  logged = subst (λ (l : List Said). (slot : ℕ) (record_is : Logged) → Contains (two.later.logs slot) record_is → IsOldOrTold c.logs l slot record_is) (append-nil said) (told_on c.logs one.later.logs two.later.logs said [] one.logged two.logged);
   stands = two.stands;
 }
+
+-- nothing was said, and what stands stands for the same
+pub turned_none : {T : Type 0} (Step : T → Deed → T → Type 0) (Stands_then : Course → T → Type 0) (c : Course) (tree : T) → Stands_then c tree → Turned Step Stands_then c tree []
+turned_none Step Stands_then c tree stands = record { later = c; next = tree; leads = refl; chain = refl; logged = λ slot one has. inl has; stands = stands }
 
 -- a turn for what stands then
 pub turned_as : {T : Type 0} (Step : T → Deed → T → Type 0) (Stands Stands_then : Course → T → Type 0) (c : Course) (tree : T) (said : List Said) → ((later : Course) (next : T) → Stands later next → Stands_then later next)
     → Turned Step Stands c tree said → Turned Step Stands_then c tree said
-turned_as Step Stands Stands_then c tree said leads one = record { later = one.later; next = one.next; leads = one.leads; chain = one.chain; stands = leads one.later one.next one.stands }
+turned_as Step Stands Stands_then c tree said leads one = record { later = one.later; next = one.next; leads = one.leads; chain = one.chain; logged = one.logged; stands = leads one.later one.next one.stands }

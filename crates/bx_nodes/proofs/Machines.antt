@@ -79,6 +79,14 @@ pub ok_so : {T E : Type 0} (P : Type 0) (r : Result T E) → P → OnOk r P
 ok_so P (Ok x) p = p
 ok_so P (Err e) p = tt
 
+pub each_ok : {A T E : Type 0} (P : A → Type 0) (r : Result T E) → ((a : A) → OnOk r (P a)) → OnOk r ((a : A) → P a)
+each_ok P (Ok x) p = p
+each_ok P (Err e) p = tt
+
+pub on_each : {T E : Type 0} (P Q : Type 0) (r : Result T E) → (P → OnOk r Q) → OnOk r (P → Q)
+on_each P Q (Ok x) leads = leads
+on_each P Q (Err e) leads = tt
+
 -- A node of which only what it has of blocks changed rests as before, under the same session.
 pub rests_then : (old new : Option Machine) → (old ≡ None → ⊥) → IfSome old (λ a. IfSome new (OnlyHolds a)) → IfSome old (λ machine. machine.stage ≡ Idle) → IfSome new (λ machine. machine.stage ≡ Idle)
 rests_then None new some only rests = absurd (some refl)
@@ -113,6 +121,10 @@ pub if_all : (found : Option Machine) (P : Machine → Type 0) → ((a : Machine
 if_all None P leads = tt
 if_all (Some a) P leads = leads a
 
+pub if_later : (old new : Option Machine) (P : Machine → Type 0) → IfSome new P → IfSome old (λ a. IfSome new P)
+if_later None new P p = tt
+if_later (Some a) new P p = p
+
 pub if_self : (found : Option Machine) (Q : Machine → Machine → Type 0) → ((a : Machine) → Q a a) → IfSome found (λ a. IfSome found (Q a))
 if_self None Q leads = tt
 if_self (Some a) Q leads = leads a
@@ -127,6 +139,11 @@ pub if_both : (old new : Option Machine) (P Q : Machine → Machine → Type 0) 
 if_both None new P Q leads p = tt
 if_both (Some a) None P Q leads p = tt
 if_both (Some a) (Some b) P Q leads p = leads a b p
+
+pub if_and : (old new : Option Machine) (P Q : Machine → Machine → Type 0) → IfSome old (λ a. IfSome new (P a)) → IfSome old (λ a. IfSome new (Q a)) → IfSome old (λ a. IfSome new (λ b. P a b × Q a b))
+if_and None new P Q p q = tt
+if_and (Some a) None P Q p q = tt
+if_and (Some a) (Some b) P Q p q = (p, q)
 
 -- What is said of a machine before, between and then.
 pub if_between : (old middle new : Option Machine) (P Q R : Machine → Machine → Type 0) → (middle ≡ None → ⊥) → ((a b c : Machine) → P a b → Q b c → R a c) → IfSome old (λ a. IfSome middle (P a)) → IfSome middle (λ a. IfSome new (Q a))
@@ -158,6 +175,9 @@ was_there Holds found before is holds = subst (λ (m : Option Machine). IfSome m
 
 pub of_there : (Holds : Machine → Type 0) (found : Option Machine) (before : Machine) → found ≡ Some before → IfSome found Holds → Holds before
 of_there Holds found before is holds = subst (λ (m : Option Machine). IfSome m Holds) is holds
+
+pub both_there : (Says : Machine → Machine → Type 0) (old new : Option Machine) (before after : Machine) → old ≡ Some before → new ≡ Some after → Says before after → IfSome old (λ a. IfSome new (Says a))
+both_there Says old new before after was is says = was_there (λ (m : Machine). IfSome new (Says m)) old before was (was_there (Says before) new after is says)
 
 -- What follows of what was found follows where it was.
 pub if_some : {A : Type 0} (found : Option A) (P Q : A → Type 0) → ((a : A) → P a → Q a) → IfSome found P → IfSome found Q

@@ -1,4 +1,4 @@
--- A node notes since when it is asked for what: all else stands as it did.
+-- A node notes since when it is asked for what, or how many ticks came, or what its tidy does: all else stands as it did.
 use Rattle.std.proofs.Common.{◌≡◌, ◌∙◌, ⊎_elim, inl, inr, ℕ, List, Option, Some, IfSome, sym, ap, subst}
 use Rattle.std.specs.Prelude.{slice_get}
 use Rattle.std.specs.List.{AllByRecursion}
@@ -6,14 +6,16 @@ use Rattle.std.proofs.lemmas.List.Elements.{All-from_recursion, All-weaker, recu
 use Rattle.bx_base.specs.declared.names.Actor.TheVariants.{Node}
 use Rattle.bx_base.specs.declared.names.Mode.{Mode}
 use Rattle.bx_disk.specs.Disks.{Disks}
+use Rattle.bx_facts.specs.Writes.{Asked, Made, Sent}
 use Rattle.bx_facts.specs.declared.register.Register as register
 use Rattle.bx_facts.specs.declared.store.Store as store
 use Rattle.bx_node_machines.specs.Machines.{MachineView}
 use Rattle.bx_node_machines.specs.Nodes.{NodesStand}
-use Rattle.bx_node_steps.specs.Ready.{WasReady}
+use Rattle.bx_node_steps.specs.Ready.{IsReady, WasReady}
 use Rattle.bx_node_steps.specs.Seen.{seen}
 use Rattle.bx_node_steps.specs.declared.machine.Machine.{Machine}
 use Rattle.bx_node_steps.specs.declared.machine.Mark.{Mark}
+use Rattle.bx_node_steps.specs.declared.machine.Tidy.{Tidy}
 use Rattle.bx_nodes.specs.Asks.{IsAsking}
 use Rattle.bx_nodes.specs.Standing.{Asking, HasLease, Stand}
 use Rattle.bx_nodes.specs.Turns.{Waits}
@@ -25,6 +27,52 @@ use Rattle.bx_views.specs.declared.engine.Engine as engine
 use Rattle.bx_world_standing.specs.Parts.{Clocks}
 use Rattle.bx_world_standing.specs.Standing.{Course}
 
+-- ---- a machine of which only these change
+
+pub able_as : (made : Made) (areas : ℕ) (asked : Option Asked) (machine : Machine) (mark : Option Mark) (ticks : ℕ) (tidy : Option Tidy) → IsReady made areas asked machine → IsReady made areas asked (record machine { mark = mark; ticks = ticks; tidy = tidy })
+able_as made areas asked machine mark ticks tidy is = record {
+  volume = is.volume;
+  engine = is.engine;
+  devices = is.devices;
+  areas = is.areas;
+  is_slot = is.is_slot;
+  device = is.device;
+  room = is.room;
+  fits = is.fits;
+  fetch = is.fetch;
+}
+
+pub was_able_as : (made : Made) (areas : ℕ) (asked : Option Asked) (machine : Machine) (mark : Option Mark) (ticks : ℕ) (tidy : Option Tidy) → WasReady made areas asked machine → WasReady made areas asked (record machine { mark = mark; ticks = ticks; tidy = tidy })
+was_able_as made areas asked machine mark ticks tidy stood = record { before = stood.before; ready = able_as made areas stood.before machine mark ticks tidy stood.ready; stays = stood.stays }
+
+-- what is wanted is asked for then
+module _ (IsAsked IsAsked_then : ℕ → Type 0) (on : (at : ℕ) → IsAsked at → IsAsked_then at) where
+  pub one_on : (wants : List (ℕ × Mode)) → AllByRecursion (λ wanted. IsAsked wanted.0) wants → AllByRecursion (λ wanted. IsAsked_then wanted.0) wants
+  one_on wants all = recursion_from_All (λ (wanted : ℕ × Mode). IsAsked_then wanted.0) wants
+      (All-weaker (λ (wanted : ℕ × Mode). IsAsked wanted.0) (λ (wanted : ℕ × Mode). IsAsked_then wanted.0) (λ wanted asked. on wanted.0 asked) wants (All-from_recursion (λ (wanted : ℕ × Mode). IsAsked wanted.0) wants all))
+
+  pub each_on : (needs : List (List (ℕ × Mode))) → AllByRecursion (AllByRecursion (λ wanted. IsAsked wanted.0)) needs → AllByRecursion (AllByRecursion (λ wanted. IsAsked_then wanted.0)) needs
+  each_on needs all = recursion_from_All (AllByRecursion (λ (wanted : ℕ × Mode). IsAsked_then wanted.0)) needs
+      (All-weaker (AllByRecursion (λ (wanted : ℕ × Mode). IsAsked wanted.0)) (AllByRecursion (λ (wanted : ℕ × Mode). IsAsked_then wanted.0)) one_on needs (All-from_recursion (AllByRecursion (λ (wanted : ℕ × Mode). IsAsked wanted.0)) needs all))
+
+-- what it waits for, where the same is asked for
+module _ {O E T : Type 0} (o : owners.Ghosts O) (e : engine.Ghosts E T) (engine_is : E) (node moment session : ℕ) (out : Option Sent) (IsAsked IsAsked_then : ℕ → Type 0) (on : (at : ℕ) → IsAsked at → IsAsked_then at) where
+  pub waits_as : (machine : Machine) (mark : Option Mark) (ticks : ℕ) (tidy : Option Tidy) → Waits o e engine_is node moment session out IsAsked machine
+      → Waits o e engine_is node moment session out IsAsked_then (record machine { mark = mark; ticks = ticks; tidy = tidy })
+  waits_as machine mark ticks tidy stood = record {
+    owners_are = stood.owners_are;
+    middle = stood.middle;
+    given = stood.given;
+    newest = stood.newest;
+    noted = stood.noted;
+    needs = stood.needs;
+    causes = stood.causes;
+    asking = ⊎_elim (λ some. inl some) (λ all. inr (each_on IsAsked IsAsked_then on stood.needs all)) stood.asking;
+    keeps = stood.keeps;
+  }
+
+-- ---- nodes
+
 module _ {G O S E T : Type 0} (g : register.Ghosts G) (o : owners.Ghosts O) (st : store.Ghosts S) (e : engine.Ghosts E T) (old new : Nodes G O S E T)
     (same : (new.register ≡ old.register) × (new.owners ≡ old.owners) × (new.store ≡ old.store) × (new.engine ≡ old.engine)) where
   pub stands_noted : (x : Disks) (letters : List Letter) (clocks : Clocks) (c : Course) (tree : T) → seen new.machines.items ≡ seen old.machines.items → Stand g o st e old x letters clocks c tree → Stand g o st e new x letters clocks c tree
@@ -35,7 +83,8 @@ module _ {G O S E T : Type 0} (g : register.Ghosts G) (o : owners.Ghosts O) (st 
       (subst (λ w. NodesStand g o st (e.stands old.engine) (e.step old.engine) new.register w old.store x letters clocks (seen old.machines.items) c tree) (sym same.1)
       (subst (λ r. NodesStand g o st (e.stands old.engine) (e.step old.engine) r old.owners old.store x letters clocks (seen old.machines.items) c tree) (sym same.0) stands))))
 
-  module _ (node : ℕ) (machine : Machine) (mark : Option Mark) (was : slice_get old.machines.items node ≡ Some machine) (is : slice_get new.machines.items node ≡ Some (record machine { mark = mark })) where
+  module _ (node : ℕ) (machine : Machine) (mark : Option Mark) (ticks : ℕ) (tidy : Option Tidy) (was : slice_get old.machines.items node ≡ Some machine)
+      (is : slice_get new.machines.items node ≡ Some (record machine { mark = mark; ticks = ticks; tidy = tidy })) where
     pub lease_noted : (reading : ℕ) (lease : Lease) → HasLease o st old node reading lease → HasLease o st new node reading lease
     lease_noted reading lease has = record {
       is_own = ap (λ w. o.own w node) same.1 ∙ has.is_own;
@@ -54,48 +103,16 @@ module _ {G O S E T : Type 0} (g : register.Ghosts G) (o : owners.Ghosts O) (st 
     pub ready_noted : IfSome (slice_get old.machines.items node) (WasReady (st.made old.store) (e.areas old.engine) (st.asked old.store node)) → IfSome (slice_get new.machines.items node) (WasReady (st.made new.store) (e.areas new.engine) (st.asked new.store node))
     ready_noted ready =
         let stood = subst (λ (m : Option Machine). IfSome m (WasReady (st.made old.store) (e.areas old.engine) (st.asked old.store node))) was ready in
-        let marked : WasReady (st.made old.store) (e.areas old.engine) (st.asked old.store node) (record machine { mark = mark }) = record {
-          before = stood.before;
-          ready = record {
-            volume = stood.ready.volume;
-            engine = stood.ready.engine;
-            devices = stood.ready.devices;
-            areas = stood.ready.areas;
-            is_slot = stood.ready.is_slot;
-            device = stood.ready.device;
-            room = stood.ready.room;
-            fits = stood.ready.fits;
-            fetch = stood.ready.fetch;
-          };
-          stays = stood.stays;
-        } in
+        let marked = was_able_as (st.made old.store) (e.areas old.engine) (st.asked old.store node) machine mark ticks tidy stood in
         subst (λ (m : Option Machine). IfSome m (WasReady (st.made new.store) (e.areas new.engine) (st.asked new.store node))) (sym is)
-        (subst (λ en. WasReady (st.made new.store) (e.areas en) (st.asked new.store node) (record machine { mark = mark })) (sym same.3)
-        (subst (λ s. WasReady (st.made s) (e.areas old.engine) (st.asked s node) (record machine { mark = mark })) (sym same.2) marked))
+        (subst (λ en. WasReady (st.made new.store) (e.areas en) (st.asked new.store node) (record machine { mark = mark; ticks = ticks; tidy = tidy })) (sym same.3)
+        (subst (λ s. WasReady (st.made s) (e.areas old.engine) (st.asked s node) (record machine { mark = mark; ticks = ticks; tidy = tidy })) (sym same.2) marked))
 
     pub waits_noted : (moment session : ℕ) → IfSome (slice_get old.machines.items node) (Waits o e old.engine node moment session (st.out_of old.store node) (Asking g o old node))
         → IfSome (slice_get new.machines.items node) (Waits o e new.engine node moment session (st.out_of new.store node) (Asking g o new node))
     waits_noted moment session waits =
         let stood = subst (λ (m : Option Machine). IfSome m (Waits o e old.engine node moment session (st.out_of old.store node) (Asking g o old node))) was waits in
-        let marked : Waits o e old.engine node moment session (st.out_of old.store node) (Asking g o new node) (record machine { mark = mark }) = record {
-          owners_are = stood.owners_are;
-          middle = stood.middle;
-          given = stood.given;
-          newest = stood.newest;
-          noted = stood.noted;
-          needs = stood.needs;
-          causes = stood.causes;
-          asking = ⊎_elim (λ some. inl some) (λ all. inr (each stood.needs all)) stood.asking;
-          keeps = stood.keeps;
-        } in
+        let marked = waits_as o e old.engine node moment session (st.out_of old.store node) (Asking g o old node) (Asking g o new node) asking_noted machine mark ticks tidy stood in
         subst (λ (m : Option Machine). IfSome m (Waits o e new.engine node moment session (st.out_of new.store node) (Asking g o new node))) (sym is)
-        (subst (λ en. Waits o e en node moment session (st.out_of new.store node) (Asking g o new node) (record machine { mark = mark })) (sym same.3)
-        (subst (λ s. Waits o e old.engine node moment session (st.out_of s node) (Asking g o new node) (record machine { mark = mark })) (sym same.2) marked))
-      where
-        one : (wants : List (ℕ × Mode)) → AllByRecursion (λ wanted. Asking g o old node wanted.0) wants → AllByRecursion (λ wanted. Asking g o new node wanted.0) wants
-        one wants all = recursion_from_All (λ (wanted : ℕ × Mode). Asking g o new node wanted.0) wants
-            (All-weaker (λ (wanted : ℕ × Mode). Asking g o old node wanted.0) (λ (wanted : ℕ × Mode). Asking g o new node wanted.0) (λ wanted asked. asking_noted wanted.0 asked) wants (All-from_recursion (λ (wanted : ℕ × Mode). Asking g o old node wanted.0) wants all))
-
-        each : (needs : List (List (ℕ × Mode))) → AllByRecursion (AllByRecursion (λ wanted. Asking g o old node wanted.0)) needs → AllByRecursion (AllByRecursion (λ wanted. Asking g o new node wanted.0)) needs
-        each needs all = recursion_from_All (AllByRecursion (λ (wanted : ℕ × Mode). Asking g o new node wanted.0)) needs
-            (All-weaker (AllByRecursion (λ (wanted : ℕ × Mode). Asking g o old node wanted.0)) (AllByRecursion (λ (wanted : ℕ × Mode). Asking g o new node wanted.0)) one needs (All-from_recursion (AllByRecursion (λ (wanted : ℕ × Mode). Asking g o old node wanted.0)) needs all))
+        (subst (λ en. Waits o e en node moment session (st.out_of new.store node) (Asking g o new node) (record machine { mark = mark; ticks = ticks; tidy = tidy })) (sym same.3)
+        (subst (λ s. Waits o e old.engine node moment session (st.out_of s node) (Asking g o new node) (record machine { mark = mark; ticks = ticks; tidy = tidy })) (sym same.2) marked))

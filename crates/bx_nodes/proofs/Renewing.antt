@@ -2,7 +2,7 @@
 use Rattle.std.proofs.Common.{◌≡◌, ◌≢◌, inl, inr, ◌∙◌, ℕ, ◌<◌, Bool, true, false, List, [], ◌∷◌, eqb, Option, Some, None, IfSome, refl, sym, ap, subst, arith}
 use mathlib.Core.Logic.{∥∥₁_elim}
 use Rattle.std.specs.Option.{option_eq}
-use Rattle.std.specs.Prelude.{◌==◌, slice_get, slice_set}
+use Rattle.std.specs.Prelude.{◌==◌, ◌&&◌, is_some, slice_get, slice_set}
 use Rattle.std.proofs.Math.Bridge.{le_prop}
 use Rattle.std.proofs.lemmas.Bool.Decides.{nat_tests}
 use Rattle.bx_base.specs.declared.names.Actor.TheVariants.{Node}
@@ -17,10 +17,10 @@ use Rattle.bx_global.specs.declared.state.GlobalState.{GlobalState}
 use Rattle.bx_global.proofs.Rising.{index_rises}
 use Rattle.bx_node_cache.specs.Kept.{away_in, held_in, hint_in}
 use Rattle.bx_node_cache.specs.declared.cache.Kept.{Kept}
-use Rattle.bx_node_machines.specs.Machines.{MachineView, is_one}
+use Rattle.bx_node_machines.specs.Machines.{MachineView, is_one, is_under}
 use Rattle.bx_node_machines.specs.Nodes.{NodesStand}
 use Rattle.bx_node_machines.proofs.Renewed.{IsNew, renewed}
-use Rattle.bx_node_steps.specs.Anew.{BeginsAnew, first_log}
+use Rattle.bx_node_steps.specs.Anew.{BeginsAnew, first_log, left_read}
 use Rattle.bx_nodes.specs.Renewing.{Anew, Renews, Stays, own_row as its_row}
 use Rattle.bx_node_steps.specs.Seen.{fetch_of, seen, stage_of, view_of}
 use Rattle.bx_node_steps.specs.declared.machine.Machine.{Machine}
@@ -38,7 +38,7 @@ use Rattle.bx_world_chains.proofs.Chains.{entitled_last, index_most}
 use Rattle.bx_world_chains.proofs.Rows.{all_row, has_of, lives_of, number_is}
 use Rattle.bx_world_chains.proofs.Sessions.{IsOwnRow, own_row}
 use Rattle.bx_world_standing.specs.Parts.{Clocks}
-use Rattle.bx_world_standing.specs.Standing.{Course}
+use Rattle.bx_world_standing.specs.Standing.{Course, own_up}
 use Rattle.bx_world_standing.proofs.Owns.{own_is}
 
 -- ---- states and their rows
@@ -99,12 +99,12 @@ other_session (Some a) (Some b) is = λ e. let f : a ≡ b = cc in grind (arith,
 pub is_its_own : (machine : Machine) (own told : Option ℕ) (answer : Bool) → told ≡ own → answer ≡ option_eq eqb machine.session told → answer ≡ true → machine.session ≡ own
 is_its_own machine own told answer same tested true_is = same_session machine.session told (sym tested ∙ true_is) ∙ same
 
-pub renews_of : (found : Option Machine) (first before after : Machine) (own told : Option ℕ) (known state : GlobalState) (row : Option SessionRow) (answer : Bool) → found ≡ Some first → found ≡ Some before → told ≡ own → state ≡ known
-    → row ≡ its_row told state → answer ≡ option_eq eqb first.session told → answer ≡ false → BeginsAnew row before after → Renews own known before after
-renews_of found first before after own told known state row answer one two same same_state row_is tested false_is begins =
+pub renews_of : (found : Option Machine) (first before after : Machine) (own told : Option ℕ) (known state : GlobalState) (row : Option SessionRow) (reads answer : Bool) → found ≡ Some first → found ≡ Some before → told ≡ own → state ≡ known
+    → row ≡ its_row told state → answer ≡ option_eq eqb first.session told → answer ≡ false → BeginsAnew row reads before after → Renews own known reads before after
+renews_of found first before after own told known state row reads answer one two same same_state row_is tested false_is begins =
     let e : first ≡ before = one_machine first before found one two in
     Anew (λ is. other_session first.session told (sym tested ∙ false_is) (ap (λ (m : Machine). m.session) e ∙ is ∙ sym same))
-    (subst (λ (r : Option SessionRow). BeginsAnew r before after) (row_is ∙ ap (λ (o : Option ℕ). its_row o state) same ∙ ap (λ (s : GlobalState). its_row own s) same_state) begins)
+    (subst (λ (r : Option SessionRow). BeginsAnew r reads before after) (row_is ∙ ap (λ (o : Option ℕ). its_row o state) same ∙ ap (λ (s : GlobalState). its_row own s) same_state) begins)
   where
     one_machine : (a b : Machine) (o : Option Machine) → o ≡ Some a → o ≡ Some b → a ≡ b
     one_machine a b o p q = cc
@@ -119,7 +119,7 @@ low_slot s (Some session) allowed = by (row_in s.sessions session) refl
     by (Some row) is = ∥∥₁_elim allowed (λ a b. le_prop a b) (λ (all : IsAllowed s). (all_row (IsSession s.term_end) s.sessions session row all.each_session is).slot)
 
 -- What a node has that begins anew, by the row of its session.
-module _ (devices : ℕ) (row : Option SessionRow) (before after : Machine) (begins : BeginsAnew row before after) (same : before.cache.devices ≡ devices) where
+module _ (devices : ℕ) (row : Option SessionRow) (reads : Bool) (before after : Machine) (begins : BeginsAnew row reads before after) (same : before.cache.devices ≡ devices) where
   none_kept : after.cache.kept ≡ []
   none_kept = ap (λ (m : Machine). m.cache.kept) begins.only
 
@@ -129,14 +129,14 @@ module _ (devices : ℕ) (row : Option SessionRow) (before after : Machine) (beg
   pub same_hints : (view_of after).hints ≡ (view_of before).hints
   same_hints = ap (λ (m : Machine). hint_in m.cache.hinted) begins.only
 
-  pub is_new : (its : SessionRow) (slot : ℕ) → row ≡ Some its → slot ≡ its.slot → IsNew devices slot (view_of after)
-  is_new its slot is at = record {
+  pub is_new : (its : SessionRow) (slot : ℕ) → row ≡ Some its → slot ≡ its.slot → reads ≡ false → IsNew devices slot (view_of after)
+  is_new its slot is at none = record {
     shows = shows_none;
     home = λ at. ap (λ (kept : List (ℕ × Kept)). away_in kept at) none_kept;
     log = ap (λ (m : Machine). m.log) begins.only ∙ ap (λ (r : Option SessionRow). first_log before.cache.devices r) is
         ∙ ap (λ (d : ℕ). closed_log its.slot (log_device its.slot d)) same ∙ ap (λ (s : ℕ). closed_log s (log_device s devices)) (sym at);
     stage = ap (λ (m : Machine). stage_of m.stage) begins.only;
-    fetch = ap (λ (m : Machine). fetch_of m.fetch) begins.only;
+    fetch = ap (λ (m : Machine). fetch_of m.fetch) begins.only ∙ ap (λ (b : Bool). fetch_of (left_read b)) none;
   }
 
 module _ {G O S T : Type 0} (g : register.Ghosts G) (o : owners.Ghosts O) (st : store.Ghosts S) (Stands : Truth → Hints → T → Type 0) (Step : T → Deed → T → Type 0)
@@ -145,7 +145,7 @@ module _ {G O S T : Type 0} (g : register.Ghosts G) (o : owners.Ghosts O) (st : 
     (allowed : AreAllowed c.register.chain) (legal : AreLegal c.register.chain.first c.register.chain.changes) (place : IsPlace c.register.chain (g.knows register_is (Node node)))
     (opened : (session : ℕ) → o.own owners_are node ≡ Some session → session < (last c.register.chain).next_session)
     (there : slice_get items node ≡ Some before) (volume : before.cache.devices ≡ (st.made store_is).devices)
-    (renews : Renews (o.own owners_are node) (g.knows register_is (Node node)) before after) where
+    (renews : Renews (o.own owners_are node) (g.knows register_is (Node node)) (is_some (st.asked store_is node)) before after) where
   abbrev known : GlobalState
   known = g.knows register_is (Node node)
 
@@ -169,7 +169,20 @@ module _ {G O S T : Type 0} (g : register.Ghosts G) (o : owners.Ghosts O) (st : 
       let it = own_known session is in
       ap number_in it.is ∙ ap Some (number_is known.sessions session it.row it.is)
 
-  by_renewing : Renews own known before after
+  abbrev reads : Bool
+  reads = is_some (st.asked store_is node)
+
+  -- Under a live session of its own that is new to it no read of it is out.
+  none_read : (session : ℕ) (row : SessionRow) → own ≡ Some session → before.session ≢ own → row_in (last c.register.chain).sessions session ≡ Some row → row.dead ≡ 0 → reads ≡ false
+  none_read session row is other has lives =
+      let mine = own_is clocks.down (o.own owners_are) node session up is in
+      let apart : is_under (slice_get (seen items) node) (own_up clocks.down (o.own owners_are) node) session ≡ false =
+      ap (λ (m : Option MachineView). is_under m (own_up clocks.down (o.own owners_are) node) session) (seen_there items node before there)
+      ∙ ap (λ (b : Bool). b && is_one (own_up clocks.down (o.own owners_are) node) (Some session)) (not_one before.session (Some session) (λ e. other (e ∙ sym is))) in
+      let fresh = stands.about.fresh node session row (inr mine) (λ one is_own. stands.single node one session mine is_own) has lives apart in
+      ap is_some (fresh.unasked mine)
+
+  by_renewing : Renews own known reads before after
       → NodesStand g o st Stands Step register_is owners_are store_is x letters clocks (seen (slice_set items node after)) c tree × (after.session ≡ own)
   by_renewing (Stays mine same) = (
     subst (λ (l : List MachineView). NodesStand g o st Stands Step register_is owners_are store_is x letters clocks l c tree) (sym (seen_same items node before after there (ap view_of same))) stands,
@@ -180,11 +193,11 @@ module _ {G O S T : Type 0} (g : register.Ghosts G) (o : owners.Ghosts O) (st : 
       let later = slice_set items node after in (
         renewed g o st Stands Step register_is owners_are store_is x letters clocks (seen items) (seen later) c tree node (view_of before) (view_of after) stands up opened
             (seen_there items node before there) (seen_there later node after (set_here items node after before there)) (λ one ne. seen_others items later one (set_there items node one after ne))
-            (not_one before.session own other) takes (same_hints (st.made store_is).devices (its_row own known) before after begins volume) (shows_none (st.made store_is).devices (its_row own known) before after begins volume)
+            (not_one before.session own other) takes (same_hints (st.made store_is).devices (its_row own known) reads before after begins volume) (shows_none (st.made store_is).devices (its_row own known) reads before after begins volume)
             (λ session row is has lives.
             let it = own_known session is in
-            is_new (st.made store_is).devices (its_row own known) before after begins volume it.row row.slot (ap (λ (s : Option ℕ). its_row s known) is ∙ it.is)
-            (same_slot c.register.chain known session it.row row allowed legal place it.is it.lives has lives)),
+            is_new (st.made store_is).devices (its_row own known) reads before after begins volume it.row row.slot (ap (λ (s : Option ℕ). its_row s known) is ∙ it.is)
+            (same_slot c.register.chain known session it.row row allowed legal place it.is it.lives has lives) (none_read session row is other has lives)),
         takes,
       )
 

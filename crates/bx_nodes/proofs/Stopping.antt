@@ -51,11 +51,11 @@ emptied (Node n) old new empties same = by (slice_get old n) refl (slice_get new
 
     by : (was : Option Machine) → slice_get old n ≡ was → (now : Option Machine) → slice_get new n ≡ now → (new ≡ old) ⊎ IsSeenEmpty (Node n) old new
     by None none now is = inl (same (λ node e. ap (λ (i : ℕ). slice_get old i) (sym (number node e)) ∙ none))
-    by (Some before) was None none = absurd (subst (λ (m : Option Machine). IsSomeAnd m (HasNothing before)) none
-        (subst (λ (m : Option Machine). IfSome m (λ one. IsSomeAnd (slice_get new n) (HasNothing one))) was (empties.empty n refl)))
+    by (Some before) was None none = absurd (subst (λ (m : Option Machine). IsSomeAnd m (HasNothing before.cache.devices before.cache.areas)) none
+        (subst (λ (m : Option Machine). IfSome m (λ one. IsSomeAnd (slice_get new n) (HasNothing one.cache.devices one.cache.areas))) was (empties.empty n refl)))
     by (Some before) was (Some after) is =
-        let has : HasNothing before after = subst (λ (m : Option Machine). IsSomeAnd m (HasNothing before)) is
-        (subst (λ (m : Option Machine). IfSome m (λ one. IsSomeAnd (slice_get new n) (HasNothing one))) was (empties.empty n refl)) in
+        let has : HasNothing before.cache.devices before.cache.areas after = subst (λ (m : Option Machine). IsSomeAnd m (HasNothing before.cache.devices before.cache.areas)) is
+        (subst (λ (m : Option Machine). IfSome m (λ one. IsSomeAnd (slice_get new n) (HasNothing one.cache.devices one.cache.areas))) was (empties.empty n refl)) in
         inr (record {
           node = n;
           machine = view_of after;
@@ -98,6 +98,7 @@ module _ {G O S T : Type 0} (g : register.Ghosts G) (o : owners.Ghosts O) (st : 
     later = record c { register = register_crashed c.register who; owners = owners_crashed c.owners who; store = store_crashed c.store who };
     chain = refl;
     knew = refl;
+    logs = refl;
     stands = empty_stands register_then owners_then store_then x letters (with_down clocks who) old new _ tree who (here who true clocks.down) empties same
         (stops g o st Stands Step laws register_is register_then owners_are owners_then store_is store_then x letters clocks (seen old) c tree who stands register_stops owners_stop store_stops);
   }

@@ -58,7 +58,7 @@ all_go moment calls old new (MoreGo before call first middle last all goes) =
 tested : (areas at : ℕ) → is_block areas at ≡ true → IsBlock areas at
 tested areas at is = record { area = grind (arith, nat_tests, is); slot = grind (arith, nat_tests, is) }
 
-one_needs : (areas made : ℕ) (held : Held) (path : ℕ → Mode → Type 0) (wants : List (ℕ × Mode)) → areas ≡ made → IsFairNeed areas held path wants → AllByRecursion (λ wanted. IsBlock made wanted.0) wants
+pub one_needs : (areas made : ℕ) (held : Held) (path : ℕ → Mode → Type 0) (wants : List (ℕ × Mode)) → areas ≡ made → IsFairNeed areas held path wants → AllByRecursion (λ wanted. IsBlock made wanted.0) wants
 one_needs areas made held path wants same fair = recursion_from_All (λ (wanted : ℕ × Mode). IsBlock made wanted.0) wants
     (All-weaker (Contains wants) (λ (wanted : ℕ × Mode). IsBlock made wanted.0) (λ wanted has. subst (λ (n : ℕ). IsBlock n wanted.0) same (tested areas wanted.0 (fair.each wanted.0 wanted.1 has).0)) wants (All-contains_itself wants))
 
@@ -169,7 +169,7 @@ rest_there own until out out_then (Some a) None said some_own some steps none = 
 rest_there own until out out_then (Some a) (Some b) said some_own some steps none = steps_rest own until out out_then a b said some_own steps none
 
 -- A step of the log is one under the same session.
-steps_under : (own : Option ℕ) (until : ℕ) (out out_then : Option Sent) (old new : Machine) (said : Option Said) → StepsLog own until out out_then old new said → new.session ≡ old.session
+pub steps_under : (own : Option ℕ) (until : ℕ) (out out_then : Option Sent) (old new : Machine) (said : Option Said) → StepsLog own until out out_then old new said → new.session ≡ old.session
 steps_under own until (Some write) out_then old new said steps = ap (λ (m : Machine). m.session) steps.0
 steps_under own until None out_then old new said (runs, goes, sent) = by runs said goes
   where
@@ -188,7 +188,7 @@ under_there own until out out_then (Some a) None said session some steps mine = 
 under_there own until out out_then (Some a) (Some b) said session some steps mine = steps_under own until out out_then a b said steps ∙ mine
 
 -- and so is what has come of a read
-takes_under : (answer : Option (List ℕ)) (asked : Option Asked) (old new : Machine) → TakesAnswer answer asked old new → new.session ≡ old.session
+pub takes_under : (answer : Option (List ℕ)) (asked : Option Asked) (old new : Machine) → TakesAnswer answer asked old new → new.session ≡ old.session
 takes_under None None old new takes = ap (λ (m : Machine). m.session) takes
 takes_under None (Some asks) old new takes = ap (λ (m : Machine). m.session) takes
 takes_under (Some bytes) asked old new takes = ap (λ (m : Machine). m.session) takes.only

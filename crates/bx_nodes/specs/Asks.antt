@@ -61,9 +61,10 @@ KeepsUnwanted wants old new = (at : ℕ) → (kept_in new.cache.kept at ≡ kept
 abbrev pub KeepsUnneeded : List (List (ℕ × Mode)) → Machine → Machine → Type 0
 KeepsUnneeded needs old new = (at : ℕ) → (kept_in new.cache.kept at ≡ kept_in old.cache.kept at) ⊎ ((wants : List (ℕ × Mode)) × Contains needs wants × ((mode : Mode) × Contains wants (at, mode)))
 
--- There is a later course, of the same chain, in which nobody was told anything more, and what stands stands for it.
+-- There is a later course, of the same chain and logs, in which nobody was told anything more, and what stands stands for it.
 pub record Later (Stands_then : Course → Type 0) (c : Course) : Type 0 where
   pub later : Course
   pub chain : later.register.chain ≡ c.register.chain
   pub knew : later.store.told.knew ≡ c.store.told.knew
+  pub logs : later.logs ≡ c.logs
   pub stands : Stands_then later

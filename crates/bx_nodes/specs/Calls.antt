@@ -1,13 +1,17 @@
--- The calls that wait at a node.
-use Rattle.std.specs.Prelude.{◌≡◌, ◌≤◌, List, [], ◌∷◌, ◌++◌}
-use Rattle.std.specs.List.{AllByRecursion}
+-- A call that comes to a node.
+use Rattle.std.specs.Prelude.{◌≡◌, ◌⊎◌, ◌↔◌, ◌<◌, [], ◌∷◌, ◌++◌}
 use Rattle.bx_node_tries.specs.declared.round.Waiting.{Waiting}
+use Rattle.bx_node_steps.specs.Calls.{AreApart, CallOf, WaitsAt, call_of}
 use Rattle.bx_node_steps.specs.declared.machine.Machine.{Machine}
 
--- the oldest stands first: none is newer than one behind it
-abbrev pub AreInOrder : List Waiting → Type 0
-AreInOrder [] = Unit {0}
-AreInOrder (call ∷ calls) = AllByRecursion (λ (one : Waiting). call.number ≤ one.number) calls × AreInOrder calls
+-- it is newer than each that waits
+abbrev pub IsNewest : Waiting → Machine → Type 0
+IsNewest call machine = (other : CallOf) → WaitsAt machine other → other.number < call.number
+
+-- It waits then, and so do those that waited.
+pub record AddsCall (call : Waiting) (old new : Machine) : Type 0 where
+  pub each : (other : CallOf) → WaitsAt new other ↔ (WaitsAt old other ⊎ (call_of call ≡ other))
+  pub apart : AreApart new
 
 -- A call is put behind those that wait.
 pub record WaitsBehind (call : Waiting) (old new : Machine) : Type 0 where

@@ -1,10 +1,13 @@
 pub mod Asks
 pub mod Calls
+pub mod Cleaning
 pub mod Going
+pub mod Opening
 pub mod Renewing
 pub mod Sending
 pub mod Standing
 pub mod Starting
 pub mod Stopping
 pub mod Taking
+pub mod Tells
 pub mod Turns

@@ -15,19 +15,21 @@ use Rattle.bx_world_standing.specs.Parts.{Clocks}
 abbrev pub with_down : Clocks → Actor → Clocks
 with_down clocks who = record clocks { down = put_at who true clocks.down }
 
--- A node of the same volume that has nothing: no session, blocks, hints or calls; its log rests, and it reads nothing.
-pub record HasNothing (old new : Machine) : Type 0 where
-  pub session : new.session ≡ None
-  pub cache : new.cache ≡ record { devices = old.cache.devices; areas = old.cache.areas; kept = []; hinted = [] }
-  pub log : new.log ≡ closed_log 0 0
-  pub idle : new.stage ≡ stages.Idle
-  pub reads : new.fetch ≡ fetches.Nothing
-  pub calls : new.calls.items ≡ []
-  pub mark : new.mark ≡ None
+-- A node of a volume of so many devices and areas that has nothing: no session, blocks, hints or calls; its log rests, it reads nothing, no tick came, and no tidy is under way.
+pub record HasNothing (devices areas : ℕ) (machine : Machine) : Type 0 where
+  pub session : machine.session ≡ None
+  pub cache : machine.cache ≡ record { devices = devices; areas = areas; kept = []; hinted = [] }
+  pub log : machine.log ≡ closed_log 0 0
+  pub idle : machine.stage ≡ stages.Idle
+  pub reads : machine.fetch ≡ fetches.Nothing
+  pub calls : machine.calls.items ≡ []
+  pub mark : machine.mark ≡ None
+  pub ticks : machine.ticks ≡ 0
+  pub tidy : machine.tidy ≡ None
 
 -- A machine that stopped, where it is a node, has nothing; all other nodes are as they were.
 pub record Empties (who : Actor) (old new : List Machine) : Type 0 where
-  pub empty : (node : ℕ) → who ≡ Node node → IfSome (slice_get old node) (λ before. IsSomeAnd (slice_get new node) (HasNothing before))
+  pub empty : (node : ℕ) → who ≡ Node node → IfSome (slice_get old node) (λ before. IsSomeAnd (slice_get new node) (HasNothing before.cache.devices before.cache.areas))
   pub others : (node : ℕ) → who ≢ Node node → slice_get new node ≡ slice_get old node
   pub count : length new ≡ length old
 

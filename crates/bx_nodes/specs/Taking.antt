@@ -18,10 +18,11 @@ pub record Proposes (offer : Option Change) (Holds_then : Option Change → Type
   pub is_offered : (change : Change) → proposal ≡ Some change → offer ≡ Some change
   pub holds : Holds_then proposal
 
--- There is a later course, whose chain is as it was or grew by a change that was proposed before, and what stands stands for it.
+-- There is a later course, whose chain is as it was or grew by a change that was proposed before, and whose logs are as they were; and what stands stands for it.
 pub record Hears (Stands_then : Course → Type 0) (c : Course) : Type 0 where
   pub later : Course
   pub grows : GrowsBy c.register.proposed c.register.chain later.register.chain
+  pub logs : later.logs ≡ c.logs
   pub stands : Stands_then later
 
 -- What owners and store hand back: the owners' change, or else the store's, is offered, and then this is said of it.

@@ -2,9 +2,11 @@
 use Rattle.std.specs.Prelude.{◌≡◌, ◌≢◌, ◌⊎◌, ℕ, false, true, All, Contains, List, Option, None, Some, IfSome, IsSome, reverse, slice_get}
 use Rattle.std.specs.List.{AllByRecursion}
 use Rattle.bx_base.specs.declared.names.Mode.{Mode}
+use Rattle.bx_facts.specs.declared.store.Store as store
 use Rattle.bx_facts.specs.Holds.{first_of}
 use Rattle.bx_facts.specs.Writes.{Sent}
 use Rattle.bx_node_cache.specs.Kept.{held_in, hint_in}
+use Rattle.bx_node_steps.specs.Calls.{IsAnswered}
 use Rattle.bx_node_steps.specs.Gives.{MayKeep, since}
 use Rattle.bx_node_steps.specs.declared.machine.Machine.{Machine}
 use Rattle.bx_node_tries.specs.Tries.{LeadsBack, Tried, is_attempted, is_newer}
@@ -15,19 +17,30 @@ use Rattle.bx_owners.specs.declared.owners.Owners as owners
 use Rattle.bx_views.specs.declared.attempt.Attempt.TheVariants.{Need}
 use Rattle.bx_views.specs.declared.engine.Engine as engine
 use Rattle.bx_views.specs.Attempts.{Deed}
+use Rattle.bx_volume.specs.Overlay.{Logs}
+use Rattle.bx_volume.specs.Records.{Logged}
 use Rattle.bx_world_standing.specs.Standing.{Course}
 
--- The answers lead to a next tree, for which what stands stands; nothing was decided meanwhile.
+-- A record in a log was in it before; or it is of no call; or its call is answered.
+abbrev pub IsOldOrTold : Logs → List Said → ℕ → Logged → Type 0
+IsOldOrTold logs said slot one = Contains (logs slot) one ⊎ ((one.head.call ≡ 0) ⊎ IsAnswered said one.head.call)
+
+-- The answers lead to a next tree, for which what stands stands; nothing was decided meanwhile, and what the logs have besides is of calls that are answered.
 pub record Turned {T : Type 0} (Step : T → Deed → T → Type 0) (Stands_then : Course → T → Type 0) (c : Course) (tree : T) (said : List Said) : Type 0 where
   pub later : Course
   pub next : T
   pub leads : LeadsBack Step tree (reverse said) next
   pub chain : later.register.chain ≡ c.register.chain
+  pub logged : (slot : ℕ) (one : Logged) → Contains (later.logs slot) one → IsOldOrTold c.logs said slot one
   pub stands : Stands_then later next
 
 -- All machines but one are as they were.
 pub record OnlyMachine (node : ℕ) (old new : List Machine) : Type 0 where
   pub others : (other : ℕ) → other ≢ node → slice_get new other ≡ slice_get old other
+
+-- For all nodes but one the store is as it was: their sessions, and what of them is out.
+abbrev pub OnlyStore : {S : Type 0} → store.Ghosts S → ℕ → S → S → Type 0
+OnlyStore st node old new = (other : ℕ) → other ≢ node → (st.own new other ≡ st.own old other) × (st.out_of new other ≡ st.out_of old other) × (st.asked new other ≡ st.asked old other)
 
 -- The newest call that waited when a block was seen that is asked back, where one is.
 abbrev pub newest_of : Option (ℕ × ℕ) → Machine → Option ℕ

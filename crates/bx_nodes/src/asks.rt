@@ -61,6 +61,7 @@ impl<G: Register, O: Owners, S: Store, E: Engine> Nodes<G, O, S, E> {
         ensures only { OnOk result (OfBoth self.old self.new node OnlyHolds) }
         ensures parts { (self.new.register ≡ self.old.register) × (self.new.engine ≡ self.old.engine) × (S.made self.new.store ≡ S.made self.old.store) }
         ensures own { (other : ℕ) → (O.own self.new.owners other ≡ O.own self.old.owners other) × (O.end_of self.new.owners other ≡ O.end_of self.old.owners other) × (S.own self.new.store other ≡ S.own self.old.store other) × (S.out_of self.new.store other ≡ S.out_of self.old.store other) }
+        ensures elsewhere { (other : ℕ) → other ≢ node → S.asked self.new.store other ≡ S.asked self.old.store other }
         ensures others { OnlyMachine node self.old.machines.items self.new.machines.items }
         ensures count { length self.new.machines.items ≡ length self.old.machines.items }
     {
@@ -99,6 +100,7 @@ impl<G: Register, O: Owners, S: Store, E: Engine> Nodes<G, O, S, E> {
         ensures only { OnOk result (OfBoth self.old self.new node OnlyHolds) }
         ensures parts { (self.new.register ≡ self.old.register) × (self.new.engine ≡ self.old.engine) × (S.made self.new.store ≡ S.made self.old.store) }
         ensures own { (other : ℕ) → (O.own self.new.owners other ≡ O.own self.old.owners other) × (O.end_of self.new.owners other ≡ O.end_of self.old.owners other) × (S.own self.new.store other ≡ S.own self.old.store other) × (S.out_of self.new.store other ≡ S.out_of self.old.store other) }
+        ensures elsewhere { (other : ℕ) → other ≢ node → S.asked self.new.store other ≡ S.asked self.old.store other }
         ensures others { OnlyMachine node self.old.machines.items self.new.machines.items }
         ensures count { length self.new.machines.items ≡ length self.old.machines.items }
     {
@@ -109,8 +111,8 @@ impl<G: Register, O: Owners, S: Store, E: Engine> Nodes<G, O, S, E> {
         self.ask_all(node, rest, out)
     }
 
-    /// Does something about each of the blocks that one call needs, in their order.
-    fn ask_each(
+    /// Does something about each of the blocks that one call needs, or a tidy, in their order.
+    pub(crate) fn ask_each(
         &mut self,
         node: u32,
         wants: &[(u64, Mode)],
@@ -133,6 +135,7 @@ impl<G: Register, O: Owners, S: Store, E: Engine> Nodes<G, O, S, E> {
         ensures only { OnOk result (OfBoth self.old self.new node OnlyHolds) }
         ensures parts { (self.new.register ≡ self.old.register) × (self.new.engine ≡ self.old.engine) × (S.made self.new.store ≡ S.made self.old.store) }
         ensures own { (other : ℕ) → (O.own self.new.owners other ≡ O.own self.old.owners other) × (O.end_of self.new.owners other ≡ O.end_of self.old.owners other) × (S.own self.new.store other ≡ S.own self.old.store other) × (S.out_of self.new.store other ≡ S.out_of self.old.store other) }
+        ensures elsewhere { (other : ℕ) → other ≢ node → S.asked self.new.store other ≡ S.asked self.old.store other }
         ensures others { OnlyMachine node self.old.machines.items self.new.machines.items }
         ensures count { length self.new.machines.items ≡ length self.old.machines.items }
     {
@@ -187,6 +190,7 @@ impl<G: Register, O: Owners, S: Store, E: Engine> Nodes<G, O, S, E> {
         ensures ready { OnOk result (Ready S.Store E.Engine self.new node) }
         ensures parts { (self.new.register ≡ self.old.register) × (self.new.engine ≡ self.old.engine) × (self.new.owners ≡ self.old.owners) × (S.made self.new.store ≡ S.made self.old.store) }
         ensures own { (other : ℕ) → (S.own self.new.store other ≡ S.own self.old.store other) × (S.out_of self.new.store other ≡ S.out_of self.old.store other) }
+        ensures elsewhere { (other : ℕ) → other ≢ node → S.asked self.new.store other ≡ S.asked self.old.store other }
         ensures others { OnlyMachine node self.old.machines.items self.new.machines.items }
         ensures count { length self.new.machines.items ≡ length self.old.machines.items }
     {
@@ -253,6 +257,7 @@ impl<G: Register, O: Owners, S: Store, E: Engine> Nodes<G, O, S, E> {
         ensures ready { OnOk result (Ready S.Store E.Engine self.new node) }
         ensures parts { (self.new.register ≡ self.old.register) × (self.new.engine ≡ self.old.engine) × (self.new.owners ≡ self.old.owners) × (S.made self.new.store ≡ S.made self.old.store) }
         ensures own { (other : ℕ) → (S.own self.new.store other ≡ S.own self.old.store other) × (S.out_of self.new.store other ≡ S.out_of self.old.store other) }
+        ensures elsewhere { (other : ℕ) → other ≢ node → S.asked self.new.store other ≡ S.asked self.old.store other }
         ensures others { OnlyMachine node self.old.machines.items self.new.machines.items }
         ensures count { length self.new.machines.items ≡ length self.old.machines.items }
     {

@@ -1,11 +1,10 @@
 //! Calls that come.
 
-ghost use Rattle.std.specs.Prelude.{◌≡◌, ◌<◌, ◌≤◌, length, IfSome, List, OnOk, slice_get, ℕ};
+ghost use Rattle.std.specs.Prelude.{◌≡◌, ◌<◌, length, IfSome, List, OnOk, slice_get};
 ghost use Rattle.bx_disk.specs.Disks.{Disks};
-ghost use Rattle.bx_nodes.specs.Calls.{AreInOrder, WaitsBehind};
-ghost use Rattle.bx_node_steps.specs.Gives.{newest};
-ghost use Rattle.bx_nodes.specs.Renewing.{IsSound};
-ghost use Rattle.bx_nodes.specs.Standing.{OfBoth, OfNode, Stand};
+ghost use Rattle.bx_node_steps.specs.Calls.{AreApart};
+ghost use Rattle.bx_nodes.specs.Calls.{AddsCall, IsNewest, WaitsBehind};
+ghost use Rattle.bx_nodes.specs.Standing.{BeReady, OfBoth, Stand};
 ghost use Rattle.bx_node_steps.specs.Seen.{seen};
 ghost use Rattle.bx_nodes.specs.Turns.{OnlyMachine};
 ghost use Rattle.bx_post.specs.declared.packets.Letter.{Letter};
@@ -24,12 +23,11 @@ impl<G: Register, O: Owners, S: Store, E: Engine> Nodes<G, O, S, E> {
     pub fn call(&mut self, node: u32, call: Waiting) -> Result<(), OutOfMemory>
         requires there { node < length self.old.machines.items }
         ensures waits { OnOk result (OfBoth self.old self.new node (WaitsBehind call)) }
-        ensures order { OfNode self.old node (λ old. newest old.calls.items ≤ call.number → AreInOrder old.calls.items → OnOk result (OfNode self.new node (λ new. AreInOrder new.calls.items))) }
+        ensures adds { OnOk result (OfBoth self.old self.new node (λ old new. IsNewest call old → AreApart old → AddsCall call old new)) }
         ensures stands { (x : Disks) (letters : List Letter) (clocks : Clocks) (c : Course) (tree : E.Tree)
             → Stand G.Register O.Owners S.Store E.Engine self.old x letters clocks c tree
             → OnOk result (Stand G.Register O.Owners S.Store E.Engine self.new x letters clocks c tree) }
-        ensures sound { OfNode self.old node (IsSound (S.made self.old.store) (E.areas self.old.engine) (O.own self.old.owners node) (S.asked self.old.store node))
-            → OnOk result (OfNode self.new node (IsSound (S.made self.new.store) (E.areas self.new.engine) (O.own self.new.owners node) (S.asked self.new.store node))) }
+        ensures ready { BeReady S.Store E.Engine self.old node → OnOk result (BeReady S.Store E.Engine self.new node) }
         ensures seen { seen self.new.machines.items ≡ seen self.old.machines.items }
         ensures parts { (self.new.register ≡ self.old.register) × (self.new.owners ≡ self.old.owners) × (self.new.store ≡ self.old.store) × (self.new.engine ≡ self.old.engine) }
         ensures others { OnlyMachine node self.old.machines.items self.new.machines.items }

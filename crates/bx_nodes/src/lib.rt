@@ -12,8 +12,10 @@ mod renew;
 mod sends;
 mod stops;
 mod takes;
+mod tells;
+mod tidies;
 mod turns;
 
 pub use answers::Attempted;
-pub use nodes::Nodes;
+pub use nodes::{Nodes, first_machines};
 pub use turns::Lease;

@@ -1,7 +1,14 @@
 //! All nodes.
 
-ghost use Rattle.std.specs.Prelude.{◌≡◌};
+ghost use Rattle.std.specs.Prelude.{◌≡◌, ℕ, IfOk, IfSome, length, slice_get};
+ghost use Rattle.bx_node_openings.specs.Opening.{HaveNothing};
+ghost use Rattle.bx_node_steps.specs.Seen.{seen};
+ghost use Rattle.bx_nodes.specs.Opening.{IsFirst};
+ghost use Rattle.bx_nodes.specs.Standing.{BeReady};
+ghost use Rattle.bx_nodes.specs.Stopping.{HasNothing};
+ghost use Rattle.bx_places.specs.Places.{IsVolume};
 
+use bx_base::OutOfMemory;
 use bx_facts::{Register, Store};
 use bx_node_steps::Machine;
 use bx_owners::Owners;
@@ -31,6 +38,8 @@ impl<G: Register, O: Owners, S: Store, E: Engine> Nodes<G, O, S, E> {
     ) -> Nodes<G, O, S, E>
         ensures machines { result.machines ≡ machines }
         ensures parts { (result.register ≡ register) × (result.owners ≡ owners) × (result.store ≡ store) × (result.engine ≡ engine) }
+        ensures ready { (node : ℕ) → IsVolume (S.made store).devices (S.made store).areas → E.areas engine ≡ (S.made store).areas → S.asked store node ≡ None
+            → IfSome (slice_get machines.items node) (HasNothing (S.made store).devices (S.made store).areas) → BeReady S.Store E.Engine result node }
     {
         Nodes {
             alloc,
@@ -41,4 +50,23 @@ impl<G: Register, O: Owners, S: Store, E: Engine> Nodes<G, O, S, E> {
             machines,
         }
     }
+}
+
+/// So many nodes of a volume of so many devices and areas that have nothing yet.
+pub fn first_machines(
+    alloc: Global,
+    devices: u32,
+    areas: u16,
+    count: u32,
+) -> Result<Vec<Machine>, OutOfMemory>
+    requires volume { IsVolume devices areas }
+    ensures count { IfOk result (λ machines. length machines.items ≡ count) }
+    ensures first { (node : ℕ) → IfOk result (λ machines. IfSome (slice_get machines.items node) (IsFirst devices areas)) }
+    ensures seen { IfOk result (λ machines. HaveNothing (seen machines.items)) }
+{
+    let mut machines = Vec::new(alloc);
+    for _ in 0..count {
+        machines.push(Machine::new(alloc, devices, areas))?;
+    }
+    Ok(machines)
 }

@@ -5,20 +5,22 @@ ghost use Rattle.bx_base.specs.declared.names.Actor.TheVariants.{Node};
 ghost use Rattle.bx_disk.specs.Disks.{Disks};
 ghost use Rattle.bx_facts.specs.Chains.{LivesIn, last};
 ghost use Rattle.bx_node_cache.specs.Kept.{held_in, hint_in};
+ghost use Rattle.bx_node_machines.specs.Machines.{number_of};
 ghost use Rattle.bx_node_tries.specs.Tries.{IsToBegin};
-ghost use Rattle.bx_nodes.specs.Sending.{BeginsBy, StepsLog};
+ghost use Rattle.bx_nodes.specs.Sending.{BeginsBy, SendsBody, StepsLog, WorksOver};
 ghost use Rattle.bx_nodes.specs.Standing.{IsUnder, OfBoth, OfNode, Ready, Rests, Stand};
-ghost use Rattle.bx_node_steps.specs.Seen.{seen};
+ghost use Rattle.bx_node_steps.specs.Seen.{replying, seen};
 ghost use Rattle.bx_nodes.specs.Turns.{OnlyMachine, Turned};
 ghost use Rattle.bx_node_steps.specs.declared.machine.Stage.TheVariants.{Idle};
 ghost use Rattle.bx_post.specs.declared.packets.Letter.{Letter};
+ghost use Rattle.bx_views.specs.Attempts.{IsHeldDraft};
 ghost use Rattle.bx_world_standing.specs.Parts.{Clocks};
 ghost use Rattle.bx_world_standing.specs.Standing.{Course};
 
 use crate::nodes::Nodes;
 use bx_base::OutOfMemory;
 use bx_facts::{Outbox, Register, Store};
-use bx_node_steps::{LogStep, asked_by};
+use bx_node_steps::{LogStep, Recording, asked_by};
 use bx_node_tries::{Begun, Said};
 use bx_owners::Owners;
 use bx_views::Engine;
@@ -52,7 +54,37 @@ impl<G: Register, O: Owners, S: Store, E: Engine> Nodes<G, O, S, E> {
         ensures others { OnlyMachine node self.old.machines.items self.new.machines.items }
         ensures count { length self.new.machines.items ≡ length self.old.machines.items }
     {
-        let recording = asked_by(begun, moment);
+        self.send(node, until, asked_by(begun, moment), out)
+    }
+
+    /// Begins a record, where the node's log rests: its body is sent, which members take until the lease ends.
+    pub(crate) fn send(
+        &mut self,
+        node: u32,
+        until: u64,
+        recording: Recording,
+        out: &mut Outbox,
+    ) -> Result<(), OutOfMemory>
+        requires there { node < length self.old.machines.items }
+        requires none_out { S.out_of self.old.store node ≡ None }
+        requires ready { Ready S.Store E.Engine self.old node }
+        requires session { IsSome (S.own self.old.store node) }
+        requires idle { Rests self.old node }
+        requires held { OfNode self.old node (λ machine. IsHeldDraft (held_in machine.cache.kept) recording.pending.draft) }
+        requires numbered { recording.point.call ≡ number_of (replying recording.pending.call) }
+        ensures stands { (x : Disks) (letters : List Letter) (clocks : Clocks) (c : Course) (tree : E.Tree) (session : ℕ) → clocks.down (Node node) ≡ false
+            → Stand G.Register O.Owners S.Store E.Engine self.old x (letters ++ out.old) clocks c tree
+            → O.own self.old.owners node ≡ Some session → O.end_of self.old.owners node ≡ Some until → LivesIn (last c.register.chain) session → IsUnder self.old node session
+            → OfNode self.old node (WorksOver E.Engine self.old.engine recording)
+            → OnOk result (Turned (E.step self.old.engine) (Stand G.Register O.Owners S.Store E.Engine self.new x (letters ++ out.new) clocks) c tree []) }
+        ensures sends { OnOk result (OfBoth self.old self.new node (SendsBody recording (S.own self.old.store node) until (S.out_of self.new.store node))) }
+        ensures ready { OnOk result (Ready S.Store E.Engine self.new node) }
+        ensures store { (other : ℕ) → (S.own self.new.store other ≡ S.own self.old.store other) × (S.asked self.new.store other ≡ S.asked self.old.store other) × (S.answer self.new.store other ≡ S.answer self.old.store other) }
+        ensures elsewhere { (other : ℕ) → other ≢ node → S.out_of self.new.store other ≡ S.out_of self.old.store other }
+        ensures parts { (self.new.register ≡ self.old.register) × (self.new.owners ≡ self.old.owners) × (self.new.engine ≡ self.old.engine) × (S.made self.new.store ≡ S.made self.old.store) }
+        ensures others { OnlyMachine node self.old.machines.items self.new.machines.items }
+        ensures count { length self.new.machines.items ≡ length self.old.machines.items }
+    {
         let runs = self.machines[node as usize].begin(recording)?;
         self.store.write(node, &runs, until, out)?;
         Ok(())

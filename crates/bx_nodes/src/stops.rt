@@ -1,6 +1,6 @@
 //! Machines that stop, and start again.
 
-ghost use Rattle.std.specs.Prelude.{◌≡◌, ◌≢◌, ◌⊎◌, ℕ, List, None, slice_get, ◌++◌, ◌+◌, ◌<◌, ◌≤◌, OnOk, IsErrOf, false, true};
+ghost use Rattle.std.specs.Prelude.{◌≡◌, ◌≢◌, ◌⊎◌, ℕ, IfSome, List, None, slice_get, ◌++◌, ◌+◌, ◌<◌, ◌≤◌, OnOk, IsErrOf, false, true};
 ghost use Rattle.bx_base.specs.declared.names.Actor.{Actor};
 ghost use Rattle.bx_base.specs.declared.names.Actor.TheVariants.{Node, Member};
 ghost use Rattle.bx_disk.specs.Disks.{Disks};
@@ -10,7 +10,8 @@ ghost use Rattle.bx_facts.specs.Machines.{OnlyAt, OnlyFactsAt, IsMachine, disk_o
 ghost use Rattle.bx_facts.specs.Writes.{store_room};
 ghost use Rattle.bx_facts.specs.declared.input.FactError.TheVariants.{Disk as DiskFails};
 ghost use Rattle.bx_nodes.specs.Asks.{Later};
-ghost use Rattle.bx_nodes.specs.Standing.{Stand, StandBut};
+ghost use Rattle.bx_node_steps.specs.Calls.{AreApart};
+ghost use Rattle.bx_nodes.specs.Standing.{OfNode, Stand, StandBut};
 ghost use Rattle.bx_nodes.specs.Starting.{MayStart, Starts, with_boot, with_try};
 ghost use Rattle.bx_nodes.specs.Stopping.{Empties, IsDown, with_down};
 ghost use Rattle.bx_places.specs.Places.{replica_sectors};
@@ -38,6 +39,7 @@ impl<G: Register, O: Owners, S: Store, E: Engine> Nodes<G, O, S, E> {
             → StandBut G.Register O.Owners S.Store E.Engine self.old x who letters clocks c tree
             → Later (λ later. Stand G.Register O.Owners S.Store E.Engine self.new x letters (with_down clocks who) later tree) c }
         ensures empties { Empties who self.old.machines.items self.new.machines.items }
+        ensures apart { (node : ℕ) → OfNode self.old node AreApart → OfNode self.new node AreApart }
         ensures down { IsDown G.Register S.Store self.new.register self.new.store who }
         ensures ended { (node : ℕ) → who ≡ Node node → (O.own self.new.owners node ≡ None) ⊎ (O.own self.new.owners node ≡ O.own self.old.owners node) }
         ensures own { (node : ℕ) → who ≢ Node node → (O.own self.new.owners node ≡ O.own self.old.owners node) × (O.end_of self.new.owners node ≡ O.end_of self.old.owners node) × (S.own self.new.store node ≡ S.own self.old.store node) }
@@ -77,6 +79,7 @@ impl<G: Register, O: Owners, S: Store, E: Engine> Nodes<G, O, S, E> {
             → Stand G.Register O.Owners S.Store E.Engine self.old (R.state rack.old) (letters ++ out.old) clocks c tree
             → IsErrOf result DiskFails → Starts (λ later. Stand G.Register O.Owners S.Store E.Engine self.new (R.state rack.new) (letters ++ out.old) (with_try clocks boot reading) later tree) c }
         ensures empties { Empties who self.old.machines.items self.new.machines.items }
+        ensures apart { (node : ℕ) → OfNode self.old node AreApart → OfNode self.new node AreApart }
         ensures none { O.is_separate → S.is_separate → (node : ℕ) → who ≡ Node node → OnOk result ((O.own self.new.owners node ≡ None) × (S.own self.new.store node ≡ None) × (S.out_of self.new.store node ≡ None) × (S.asked self.new.store node ≡ None)) }
         ensures own { (node : ℕ) → who ≢ Node node → (O.own self.new.owners node ≡ O.own self.old.owners node) × (O.end_of self.new.owners node ≡ O.end_of self.old.owners node) × (S.own self.new.store node ≡ S.own self.old.store node) }
         ensures out { (node : ℕ) → who ≢ Node node → (S.out_of self.new.store node ≡ S.out_of self.old.store node) × (S.asked self.new.store node ≡ S.asked self.old.store node) × (S.answer self.new.store node ≡ S.answer self.old.store node) }

@@ -1,18 +1,20 @@
 //! What machines are handed.
 
-ghost use Rattle.std.specs.Prelude.{◌≡◌, ◌≢◌, ◌⊎◌, ℕ, ◌++◌, ◌≤◌, false, List, IfSome, OnOk, IsErrOf};
+ghost use Rattle.std.specs.Prelude.{◌≡◌, ◌≢◌, ◌⊎◌, ℕ, ◌++◌, ◌≤◌, false, List, IfSome, OnOk, IsErrOf, slice_get};
 ghost use Rattle.bx_base.specs.declared.names.Actor.{Actor};
 ghost use Rattle.bx_base.specs.declared.names.Actor.TheVariants.{Node};
 ghost use Rattle.bx_disk.specs.Disks.{Disks};
+ghost use Rattle.bx_disk.specs.Counts.{NoneRose};
 ghost use Rattle.bx_disk.specs.Kept.{Counted};
 ghost use Rattle.bx_facts.specs.Chains.{with_change};
-ghost use Rattle.bx_facts.specs.Disks.{HasRoom, NeedsNoMore};
+ghost use Rattle.bx_facts.specs.Disks.{HasRoom, NeedsNoMore, SameLabels};
 ghost use Rattle.bx_facts.specs.Inputs.{IsComing, IsRegisters, IsSteady, SendsOnly};
 ghost use Rattle.bx_facts.specs.Machines.{IsMachine, OnlyAt};
 ghost use Rattle.bx_facts.specs.Pasts.{RegisterPast, register_with};
-ghost use Rattle.bx_facts.specs.declared.input.FactError.TheVariants.{Disk as DiskFails};
+ghost use Rattle.bx_facts.specs.declared.input.FactError.TheVariants.{Disk as DiskFails, OutOfMemory as MemoryFails};
 ghost use Rattle.bx_global.specs.Table.{IsLegal};
-ghost use Rattle.bx_nodes.specs.Standing.{Stand, StandBut};
+ghost use Rattle.bx_node_steps.specs.Calls.{AreApart};
+ghost use Rattle.bx_nodes.specs.Standing.{BeReady, OfNode, Stand, StandBut};
 ghost use Rattle.bx_nodes.specs.Stopping.{Empties, IsDown, with_down};
 ghost use Rattle.bx_nodes.specs.Taking.{Hears, Offers, Proposes, with_reading};
 ghost use Rattle.bx_post.specs.declared.packets.Letter.{Letter};
@@ -30,7 +32,8 @@ use bx_views::Engine;
 
 impl<G: Register, O: Owners, S: Store, E: Engine> Nodes<G, O, S, E> {
     /// Hands an input to a machine that is up: to its register, and with the state that it knows by now to the owners and the store. The change that one of
-    /// these hands back is proposed, the owners' first. At a disk fault the machine stops, and nothing in the box is sent. For want of memory it isn't used again.
+    /// these hands back is proposed, the owners' first. At a disk fault the machine stops, and nothing in the box is sent. For want of memory, which
+    /// hides no fault, it isn't used again.
     pub fn take<R: Rack>(
         &mut self,
         rack: &mut R,
@@ -48,6 +51,8 @@ impl<G: Register, O: Owners, S: Store, E: Engine> Nodes<G, O, S, E> {
             → IsErrOf result DiskFails → Hears (λ later. Stand G.Register O.Owners S.Store E.Engine self.new (R.state rack.new) (letters ++ out.old) (with_down (with_reading clocks input.now) at) later tree) c }
         ensures offers { OnOk result (Offers (O.hands self.old.owners (G.knows self.new.register at) at input.now) (S.hands self.old.store (G.knows self.new.register at) at input.now) (λ one. (G.is_busy self.old.register at ⊎ G.is_busy self.new.register at) ⊎ (IsLegal (G.knows self.new.register at) one → ⊥))) }
         ensures steps { OnOk result (S.steps self.old.store (G.knows self.new.register at) at input.now self.new.store) }
+        ensures ready { (node : ℕ) → BeReady S.Store E.Engine self.old node → OnOk result (BeReady S.Store E.Engine self.new node) }
+        ensures apart { (node : ℕ) → OfNode self.old node AreApart → OfNode self.new node AreApart }
         ensures machines { (IsErrOf result DiskFails → ⊥) → self.new.machines ≡ self.old.machines }
         ensures empties { IsErrOf result DiskFails → Empties at self.old.machines.items self.new.machines.items }
         ensures down { IsErrOf result DiskFails → IsDown G.Register S.Store self.new.register self.new.store at }
@@ -57,6 +62,8 @@ impl<G: Register, O: Owners, S: Store, E: Engine> Nodes<G, O, S, E> {
         ensures own { (node : ℕ) → at ≢ Node node → (O.own self.new.owners node ≡ O.own self.old.owners node) × (S.own self.new.store node ≡ S.own self.old.store node) }
         ensures needs { NeedsNoMore (G.needs self.old.register) (G.needs self.new.register) × NeedsNoMore (S.needs self.old.store) (S.needs self.new.store) }
         ensures made { (G.made self.new.register ≡ G.made self.old.register) × (G.nodes self.new.register ≡ G.nodes self.old.register) × (O.nodes self.new.owners ≡ O.nodes self.old.owners) × (S.made self.new.store ≡ S.made self.old.store) }
+        ensures labels { R.tells rack.old → SameLabels (R.state rack.old) (R.state rack.new) }
+        ensures memory { IsErrOf result MemoryFails → NoneRose (R.faults rack.old) (R.faults rack.new) (R.faults_of rack.old) (R.faults_of rack.new) }
         ensures rack { Counted R.Rack rack.old rack.new result DiskFails }
     {
         let taken = self.hand(rack, at, input, out);
@@ -66,8 +73,9 @@ impl<G: Register, O: Owners, S: Store, E: Engine> Nodes<G, O, S, E> {
         taken
     }
 
-    /// Hands the input to register, owners and store, and offers what comes back. At a disk fault the machine is to stop.
-    fn hand<R: Rack>(
+    /// Hands the input to register, owners and store, and offers what comes back. At a disk fault nothing in the box is to be sent, and whoever calls says what stops. For want of
+    /// memory, which hides no fault, it isn't used again.
+    pub fn hand<R: Rack>(
         &mut self,
         rack: &mut R,
         at: Actor,
@@ -84,12 +92,16 @@ impl<G: Register, O: Owners, S: Store, E: Engine> Nodes<G, O, S, E> {
             → IsErrOf result DiskFails → Hears (λ later. StandBut G.Register O.Owners S.Store E.Engine self.new (R.state rack.new) at (letters ++ out.old) (with_reading clocks input.now) later tree) c }
         ensures offers { OnOk result (Offers (O.hands self.old.owners (G.knows self.new.register at) at input.now) (S.hands self.old.store (G.knows self.new.register at) at input.now) (λ one. (G.is_busy self.old.register at ⊎ G.is_busy self.new.register at) ⊎ (IsLegal (G.knows self.new.register at) one → ⊥))) }
         ensures steps { OnOk result (S.steps self.old.store (G.knows self.new.register at) at input.now self.new.store) }
+        ensures ready { (node : ℕ) → BeReady S.Store E.Engine self.old node → OnOk result (BeReady S.Store E.Engine self.new node) }
+        ensures ready_faulted { (node : ℕ) → BeReady S.Store E.Engine self.old node → IsErrOf result DiskFails → BeReady S.Store E.Engine self.new node }
         ensures machines { (self.new.machines ≡ self.old.machines) × (self.new.engine ≡ self.old.engine) }
         ensures knows { OnlyAt at (G.knows self.old.register) (G.knows self.new.register) }
         ensures rises { (who : Actor) → (G.knows self.old.register who).index ≤ (G.knows self.new.register who).index }
         ensures own { (node : ℕ) → at ≢ Node node → (O.own self.new.owners node ≡ O.own self.old.owners node) × (S.own self.new.store node ≡ S.own self.old.store node) }
         ensures needs { NeedsNoMore (G.needs self.old.register) (G.needs self.new.register) × NeedsNoMore (S.needs self.old.store) (S.needs self.new.store) }
         ensures made { (G.made self.new.register ≡ G.made self.old.register) × (G.nodes self.new.register ≡ G.nodes self.old.register) × (O.nodes self.new.owners ≡ O.nodes self.old.owners) × (S.made self.new.store ≡ S.made self.old.store) }
+        ensures labels { R.tells rack.old → SameLabels (R.state rack.old) (R.state rack.new) }
+        ensures memory { IsErrOf result MemoryFails → NoneRose (R.faults rack.old) (R.faults rack.new) (R.faults_of rack.old) (R.faults_of rack.new) }
         ensures rack { Counted R.Rack rack.old rack.new result DiskFails }
     {
         self.register.take(rack, at, input, out)?;

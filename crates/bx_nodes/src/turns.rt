@@ -5,8 +5,12 @@ ghost use Rattle.bx_base.specs.declared.names.Actor.TheVariants.{Node};
 ghost use Rattle.bx_disk.specs.Disks.{Disks};
 ghost use Rattle.bx_facts.specs.Chains.{LivesIn, last};
 ghost use Rattle.bx_facts.specs.Holds.{first_of};
-ghost use Rattle.bx_nodes.specs.Standing.{Asking, BeReady, HasLease, IsUnder, OfNode, Ready, Rests, Stand};
-ghost use Rattle.bx_nodes.specs.Turns.{OnlyMachine, Turned, Waits, newest_of};
+ghost use Rattle.bx_node_steps.specs.Calls.{AnswersCalls, AreApart};
+ghost use Rattle.bx_node_steps.specs.Gives.{marked};
+ghost use Rattle.bx_node_steps.specs.Tidying.{TidyGoes};
+ghost use Rattle.bx_nodes.specs.Cleaning.{CleansArea, IsHeldUp};
+ghost use Rattle.bx_nodes.specs.Standing.{Asking, BeReady, HasLease, IsUnder, OfBoth, OfNode, Ready, Rests, Stand};
+ghost use Rattle.bx_nodes.specs.Turns.{OnlyMachine, OnlyStore, Turned, Waits, newest_of};
 ghost use Rattle.bx_post.specs.declared.packets.Letter.{Letter};
 ghost use Rattle.bx_world_standing.specs.Parts.{Clocks};
 ghost use Rattle.bx_world_standing.specs.Standing.{Course};
@@ -31,7 +35,8 @@ pub struct Lease {
 
 impl<G: Register, O: Owners, S: Store, E: Engine> Nodes<G, O, S, E> {
     /// A node's turn, at a reading in milliseconds. Where its lease is valid it takes in what it has read, and its log goes on; where that rests it gives back what
-    /// it is asked for, its calls are attempted, and one begins a record, or what they need is asked for. Says the answers, in the order in which the calls acted.
+    /// it is asked for, its calls are attempted, and one begins a record, or what they need is asked for; and where no call waits, a tidy that is under way goes on.
+    /// Says the answers, in the order in which the calls acted.
     pub fn turn(
         &mut self,
         node: u32,
@@ -45,6 +50,18 @@ impl<G: Register, O: Owners, S: Store, E: Engine> Nodes<G, O, S, E> {
             → Stand G.Register O.Owners S.Store E.Engine self.old x (letters ++ out.old) clocks c tree
             → IfOk result (λ said. Turned (E.step self.old.engine) (Stand G.Register O.Owners S.Store E.Engine self.new x (letters ++ out.new) clocks) c tree said.items) }
         ensures waits { (lease : Lease) → HasLease O.Owners S.Store self.old node reading lease → OnOk result (OfNode self.new node (Waits O.Owners E.Engine self.new.engine node reading lease.session (S.out_of self.new.store node) (Asking G.Register O.Owners self.new node))) }
+        ensures answers { IfOk result (λ said. OfBoth self.old self.new node (λ old new. AreApart old → AnswersCalls reading old new said.items)) }
+        ensures notes { OnOk result (OfNode self.new node (λ machine. machine.mark ≡ marked (first_of (O.asks self.new.owners node)) machine)) }
+        ensures session { OnOk result (OfBoth self.old self.new node (λ old new. new.session ≡ old.session)) }
+        ensures tidies { OnOk result (OfBoth self.old self.new node TidyGoes) }
+        ensures cleans { (x : Disks) (letters : List Letter) (clocks : Clocks) (c later : Course) (tree next : E.Tree) → clocks.down (Node node) ≡ false → clocks.greatest ≤ reading + 500
+            → Stand G.Register O.Owners S.Store E.Engine self.old x (letters ++ out.old) clocks c tree → later.register.chain ≡ c.register.chain → Stand G.Register O.Owners S.Store E.Engine self.new x (letters ++ out.new) clocks later next
+            → OnOk result (OfBoth self.old self.new node (λ old new. CleansArea (E.is_clean self.old.engine later.truth) (S.made self.old.store).areas old.tidy new.tidy)) }
+        ensures held_up { (x : Disks) (letters : List Letter) (clocks : Clocks) (c : Course) (tree : E.Tree) (lease : Lease) → clocks.down (Node node) ≡ false → clocks.greatest ≤ reading + 500
+            → Stand G.Register O.Owners S.Store E.Engine self.old x (letters ++ out.old) clocks c tree → HasLease O.Owners S.Store self.old node reading lease
+            → OnOk result (OfNode self.new node (IsHeldUp E.Engine self.new.engine (S.out_of self.new.store node) (Asking G.Register O.Owners self.new node))) }
+        ensures own { (other : ℕ) → (O.own self.new.owners other ≡ O.own self.old.owners other) × (O.end_of self.new.owners other ≡ O.end_of self.old.owners other) }
+        ensures elsewhere { OnlyStore S.Store node self.old.store self.new.store }
         ensures ready { OnOk result (BeReady S.Store E.Engine self.new node) }
         ensures parts { (self.new.register ≡ self.old.register) × (self.new.engine ≡ self.old.engine) × (S.made self.new.store ≡ S.made self.old.store) }
         ensures others { OnlyMachine node self.old.machines.items self.new.machines.items }
@@ -65,6 +82,17 @@ impl<G: Register, O: Owners, S: Store, E: Engine> Nodes<G, O, S, E> {
             → Stand G.Register O.Owners S.Store E.Engine self.old x (letters ++ out.old) clocks c tree
             → IfOk result (λ said. Turned (E.step self.old.engine) (Stand G.Register O.Owners S.Store E.Engine self.new x (letters ++ out.new) clocks) c tree said.items) }
         ensures waits { (lease : Lease) → HasLease O.Owners S.Store self.old node reading lease → OnOk result (OfNode self.new node (Waits O.Owners E.Engine self.new.engine node reading lease.session (S.out_of self.new.store node) (Asking G.Register O.Owners self.new node))) }
+        ensures answers { IfOk result (λ said. OfBoth self.old self.new node (λ old new. AreApart old → AnswersCalls reading old new said.items)) }
+        ensures session { OnOk result (OfBoth self.old self.new node (λ old new. new.session ≡ old.session)) }
+        ensures tidies { OnOk result (OfBoth self.old self.new node TidyGoes) }
+        ensures cleans { (x : Disks) (letters : List Letter) (clocks : Clocks) (c later : Course) (tree next : E.Tree) → clocks.down (Node node) ≡ false → clocks.greatest ≤ reading + 500
+            → Stand G.Register O.Owners S.Store E.Engine self.old x (letters ++ out.old) clocks c tree → later.register.chain ≡ c.register.chain → Stand G.Register O.Owners S.Store E.Engine self.new x (letters ++ out.new) clocks later next
+            → OnOk result (OfBoth self.old self.new node (λ old new. CleansArea (E.is_clean self.old.engine later.truth) (S.made self.old.store).areas old.tidy new.tidy)) }
+        ensures held_up { (x : Disks) (letters : List Letter) (clocks : Clocks) (c : Course) (tree : E.Tree) (lease : Lease) → clocks.down (Node node) ≡ false → clocks.greatest ≤ reading + 500
+            → Stand G.Register O.Owners S.Store E.Engine self.old x (letters ++ out.old) clocks c tree → HasLease O.Owners S.Store self.old node reading lease
+            → OnOk result (OfNode self.new node (IsHeldUp E.Engine self.new.engine (S.out_of self.new.store node) (Asking G.Register O.Owners self.new node))) }
+        ensures own { (other : ℕ) → (O.own self.new.owners other ≡ O.own self.old.owners other) × (O.end_of self.new.owners other ≡ O.end_of self.old.owners other) }
+        ensures elsewhere { OnlyStore S.Store node self.old.store self.new.store }
         ensures ready { OnOk result (BeReady S.Store E.Engine self.new node) }
         ensures parts { (self.new.register ≡ self.old.register) × (self.new.engine ≡ self.old.engine) × (S.made self.new.store ≡ S.made self.old.store) }
         ensures others { OnlyMachine node self.old.machines.items self.new.machines.items }
@@ -79,7 +107,7 @@ impl<G: Register, O: Owners, S: Store, E: Engine> Nodes<G, O, S, E> {
         together(acked, answers)
     }
 
-    /// The attempts of a turn: where its log rests and no write of it is out the node works on; else it only answers.
+    /// The attempts of a turn: where its log rests and no write of it is out the node works on, and goes on with a tidy behind that; else it only answers.
     fn attempt_turn(
         &mut self,
         node: u32,
@@ -96,16 +124,29 @@ impl<G: Register, O: Owners, S: Store, E: Engine> Nodes<G, O, S, E> {
             → O.own self.old.owners node ≡ Some session → O.end_of self.old.owners node ≡ Some lease.until → LivesIn (last c.register.chain) session → IsUnder self.old node session
             → IfOk result (λ said. Turned (E.step self.old.engine) (Stand G.Register O.Owners S.Store E.Engine self.new x (letters ++ out.new) clocks) c tree said.items) }
         ensures waits { OnOk result (OfNode self.new node (Waits O.Owners E.Engine self.new.engine node reading lease.session (S.out_of self.new.store node) (Asking G.Register O.Owners self.new node))) }
+        ensures answers { IfOk result (λ said. OfBoth self.old self.new node (λ old new. AreApart old → AnswersCalls reading old new said.items)) }
+        ensures session { OnOk result (OfBoth self.old self.new node (λ old new. new.session ≡ old.session)) }
+        ensures tidies { OnOk result (OfBoth self.old self.new node TidyGoes) }
+        ensures cleans { (x : Disks) (letters : List Letter) (clocks : Clocks) (c : Course) (tree : E.Tree) (session : ℕ) → clocks.down (Node node) ≡ false → Stand G.Register O.Owners S.Store E.Engine self.new x letters clocks c tree
+            → O.own self.old.owners node ≡ Some session → LivesIn (last c.register.chain) session → IsUnder self.old node session
+            → OnOk result (OfBoth self.old self.new node (λ old new. CleansArea (E.is_clean self.old.engine c.truth) (S.made self.old.store).areas old.tidy new.tidy)) }
+        ensures held_up { (x : Disks) (letters : List Letter) (clocks : Clocks) (c : Course) (tree : E.Tree) (session : ℕ) → clocks.down (Node node) ≡ false → Stand G.Register O.Owners S.Store E.Engine self.old x (letters ++ out.old) clocks c tree
+            → O.own self.old.owners node ≡ Some session → O.end_of self.old.owners node ≡ Some lease.until → LivesIn (last c.register.chain) session → IsUnder self.old node session
+            → OnOk result (OfNode self.new node (IsHeldUp E.Engine self.new.engine (S.out_of self.new.store node) (Asking G.Register O.Owners self.new node))) }
+        ensures own { (other : ℕ) → (O.own self.new.owners other ≡ O.own self.old.owners other) × (O.end_of self.new.owners other ≡ O.end_of self.old.owners other) }
+        ensures elsewhere { OnlyStore S.Store node self.old.store self.new.store }
         ensures ready { OnOk result (Ready S.Store E.Engine self.new node) }
         ensures parts { (self.new.register ≡ self.old.register) × (self.new.engine ≡ self.old.engine) × (S.made self.new.store ≡ S.made self.old.store) }
         ensures others { OnlyMachine node self.old.machines.items self.new.machines.items }
         ensures count { length self.new.machines.items ≡ length self.old.machines.items }
     {
-        if self.store.done(node) {
-            return self.rounds(node, lease, reading, out);
+        if !self.store.done(node) {
+            let attempted = self.attempt(node as usize, reading, None, false)?;
+            return Ok(attempted.said);
         }
-        let attempted = self.attempt(node as usize, reading, None, false)?;
-        Ok(attempted.said)
+        let said = self.rounds(node, lease, reading, out)?;
+        self.tidy(node, lease, reading, out)?;
+        Ok(said)
     }
 
     /// Gives back what the node is asked for, and attempts its calls; again, where one was answered and a block is kept for calls that waited. Then one begins a
@@ -127,6 +168,12 @@ impl<G: Register, O: Owners, S: Store, E: Engine> Nodes<G, O, S, E> {
             → O.own self.old.owners node ≡ Some session → O.end_of self.old.owners node ≡ Some lease.until → LivesIn (last c.register.chain) session → IsUnder self.old node session
             → IfOk result (λ said. Turned (E.step self.old.engine) (Stand G.Register O.Owners S.Store E.Engine self.new x (letters ++ out.new) clocks) c tree said.items) }
         ensures waits { OnOk result (OfNode self.new node (Waits O.Owners E.Engine self.new.engine node reading lease.session (S.out_of self.new.store node) (Asking G.Register O.Owners self.new node))) }
+        ensures answers { IfOk result (λ said. OfBoth self.old self.new node (λ old new. AreApart old → AnswersCalls reading old new said.items)) }
+        ensures session { OnOk result (OfBoth self.old self.new node (λ old new. new.session ≡ old.session)) }
+        ensures tidy { OnOk result (OfBoth self.old self.new node (λ old new. new.tidy ≡ old.tidy)) }
+        ensures store { S.own self.new.store node ≡ S.own self.old.store node }
+        ensures own { (other : ℕ) → (O.own self.new.owners other ≡ O.own self.old.owners other) × (O.end_of self.new.owners other ≡ O.end_of self.old.owners other) }
+        ensures elsewhere { OnlyStore S.Store node self.old.store self.new.store }
         ensures ready { OnOk result (Ready S.Store E.Engine self.new node) }
         ensures parts { (self.new.register ≡ self.old.register) × (self.new.engine ≡ self.old.engine) × (S.made self.new.store ≡ S.made self.old.store) }
         ensures others { OnlyMachine node self.old.machines.items self.new.machines.items }

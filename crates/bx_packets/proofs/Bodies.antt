@@ -4,10 +4,10 @@ use Rattle.std.specs.Int.{w32, w64, to_be_bytes}
 use Rattle.std.proofs.lemmas.Bool.{lt-ltb, ltb-true}
 use Rattle.std.proofs.lemmas.List.{append-nil}
 use Rattle.bx_base.specs.Bytes.{IsBytes}
-use Rattle.bx_fields.specs.declared.error.ReadError.{ReadError}
-use Rattle.bx_fields.specs.declared.error.ReadError.TheVariants as errors
-use Rattle.bx_fields.specs.Reading.{Fails}
-use Rattle.bx_fields.proofs.Fields.{IsField, field32, field64, then_field, as_field, tested_field}
+use Rattle.bx_base.specs.declared.error.ReadError.{ReadError}
+use Rattle.bx_base.specs.declared.error.ReadError.TheVariants as errors
+use Rattle.bx_base.specs.Reading.{Fails}
+use Rattle.bx_base.proofs.Fields.{IsField, field32, field64, then_field, as_field, tested_field}
 use Rattle.bx_global.specs.declared.state.GlobalState.{GlobalState}
 use Rattle.bx_global.specs.Allowed.{Fits}
 use Rattle.bx_global.specs.Bytes.{Spells, state_text}

@@ -1,8 +1,8 @@
 -- A field at the front of bytes, and what is behind it: what is read is what stands there, and where nothing is read nothing stands.
 use Rattle.std.proofs.Common.{◌≡◌, ℕ, List, ◌++◌, Option, Some, None, sym, ap, ◌∙◌}
 use Rattle.std.proofs.lemmas.Option.{some_pair_parts}
-use Rattle.bx_fields.specs.Reading.{Reader}
-use Rattle.bx_fields.proofs.Fields.{IsField}
+use Rattle.bx_base.specs.Reading.{Reader}
+use Rattle.bx_base.proofs.Fields.{IsField}
 
 -- what was read, where this stands at the front
 pub head_same : {X : Type 0} {read : Reader X} {text : X → List ℕ} {Fits : X → Type 0} → IsField read text Fits → (bytes rest more : List ℕ) (x y : X)

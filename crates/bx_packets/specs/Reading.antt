@@ -1,9 +1,9 @@
 -- Reading the parts of bodies.
 use Rattle.std.specs.Prelude.{◌≡◌, ℕ, Bool, nat_lt, List, ◌++◌}
 use Rattle.std.specs.Int.{w32, w64}
-use Rattle.bx_fields.specs.Reading.{Reader, number_at, then_at, as_at, tested_at}
-use Rattle.bx_fields.specs.declared.error.ReadError.{ReadError}
-use Rattle.bx_fields.specs.declared.error.ReadError.TheVariants as errors
+use Rattle.bx_base.specs.Reading.{Reader, number_at, then_at, as_at, tested_at}
+use Rattle.bx_base.specs.declared.error.ReadError.{ReadError}
+use Rattle.bx_base.specs.declared.error.ReadError.TheVariants as errors
 use Rattle.bx_global.specs.declared.state.GlobalState.{GlobalState}
 use Rattle.bx_global.specs.Allowed.{Fits}
 use Rattle.bx_global.specs.Bytes.{state_text}

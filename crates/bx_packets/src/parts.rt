@@ -1,11 +1,11 @@
 //! Parts of bodies, read from bytes.
 
 ghost use Rattle.std.specs.Prelude.{◌≡◌, MatchResult};
-ghost use Rattle.bx_fields.specs.Reading.{Gives};
+ghost use Rattle.bx_base.specs.Reading.{Gives};
 ghost use Rattle.bx_packets.specs.Reading.{NoPromise, NoProposal, NoRefusal, NoState, NoVote, SpellsPromise, SpellsProposal, SpellsRefusal, SpellsState, SpellsVote, marks_at, refusal_at, vote_at};
 
 use crate::message::Promise;
-use bx_fields::{ReadError, all_of, u32_at, u64_at};
+use bx_base::{ReadError, all_of, u32_at, u64_at};
 use bx_global::{Ballot, GlobalState};
 use bx_rows::ballot_of;
 use std::alloc::Global;

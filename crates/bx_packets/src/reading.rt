@@ -7,8 +7,7 @@ ghost use Rattle.bx_packets.specs.declared.message.Message.{Message};
 
 use crate::message::Message;
 use crate::parts::{promise_in, proposal_in, refusal_in, state_in, vote_in};
-use bx_base::OutOfMemory;
-use bx_fields::ReadError;
+use bx_base::{OutOfMemory, ReadError};
 use std::alloc::Global;
 
 impl Message {

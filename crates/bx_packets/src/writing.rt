@@ -6,8 +6,7 @@ ghost use Rattle.bx_rows.specs.Spelling.{ballot_text};
 ghost use Rattle.bx_packets.specs.Messages.{HasCountsIn, body_text, marks_text, promise_text, refusal_text, vote_text};
 
 use crate::message::{Message, Promise};
-use bx_base::{OutOfMemory, Raw};
-use bx_fields::{push, push_u32, push_u64};
+use bx_base::{OutOfMemory, Raw, push, push_u32, push_u64};
 use bx_global::{Ballot, GlobalState};
 use bx_rows::push_ballot;
 use std::alloc::Global;

@@ -11,8 +11,8 @@ use Rattle.bx_page.specs.Spelling.{high_len, entry_bytes, numbers}
 use Rattle.bx_page.specs.Reading.{lengths_at, entry_at, high_of, high_at, numbers_at, contents_at}
 use Rattle.bx_page.proofs.Written.{front}
 use Rattle.bx_base.specs.Bytes.{IsBytes}
-use Rattle.bx_fields.specs.Reading.{◌>>=◌, number_at, bytes_at, list_at}
-use Rattle.bx_fields.proofs.Fields.{IsField, Takes, Takes-then, bind_some, guard_some, some_is, field16, field64, bytes_field, list_field}
+use Rattle.bx_base.specs.Reading.{◌>>=◌, number_at, bytes_at, list_at}
+use Rattle.bx_base.proofs.Fields.{IsField, Takes, Takes-then, bind_some, guard_some, some_is, field16, field64, bytes_field, list_field}
 
 -- ---- entries
 

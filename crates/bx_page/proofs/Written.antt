@@ -8,8 +8,8 @@ use Rattle.std.proofs.lemmas.List.Concat.{flat_map-cons}
 use Rattle.std.proofs.lemmas.List.Sums.{sum_by-cons}
 use Rattle.bx_page.specs.declared.entry.Entry.{Entry}
 use Rattle.bx_page.specs.Contents.{Contents, entry_size, high_bytes, size}
-use Rattle.bx_fields.specs.Writing.{Writes}
-use Rattle.bx_fields.proofs.Written.{writes_then, padded_written}
+use Rattle.bx_base.specs.Writing.{Writes}
+use Rattle.bx_base.proofs.Written.{writes_then, padded_written}
 use Rattle.bx_page.specs.Spelling.{numbers, high_len, entry_bytes, page_bytes}
 
 pub length-entry_bytes : (e : Entry) → length (entry_bytes e) ≡ entry_size e

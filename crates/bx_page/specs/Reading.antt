@@ -2,7 +2,7 @@
 use Rattle.std.specs.Prelude.{ℕ, ◌+◌, List, Option, Some, None, nat_lt, ◌==◌, ◌||◌, if◌then◌else◌}
 use Rattle.std.specs.Int.{w16, w64}
 use Rattle.bx_page.specs.declared.entry.Entry.{Entry}
-use Rattle.bx_fields.specs.Reading.{◌>>=◌, number_at, bytes_at, list_at}
+use Rattle.bx_base.specs.Reading.{◌>>=◌, number_at, bytes_at, list_at}
 use Rattle.bx_page.specs.Contents.{Contents}
 
 -- the lengths of a key and its value, within their limits

@@ -1,7 +1,7 @@
 //! Reading a page from bytes.
 
 ghost use Rattle.std.specs.Prelude.{◌≡◌, IfOk, IfSome, IfNone};
-ghost use Rattle.bx_fields.specs.Reading.{Gives, list_at};
+ghost use Rattle.bx_base.specs.Reading.{Gives, list_at};
 ghost use Rattle.bx_page.specs.Reading.{lengths_at, entry_at, high_of, high_at, numbers_at, contents_at};
 ghost use Rattle.bx_page.specs.Parts.{seen};
 ghost use Rattle.bx_page.specs.Contents.{Contents};
@@ -11,8 +11,7 @@ use crate::checks::are_fit;
 use crate::entry::Entry;
 use crate::page::{Page, SIZE};
 use crate::writing::NO_HIGH;
-use bx_base::{OutOfMemory, Raw};
-use bx_fields::{ReadError, before_zeros, front_at, u16_at, u64_at};
+use bx_base::{OutOfMemory, Raw, ReadError, before_zeros, front_at, u16_at, u64_at};
 use std::alloc::Global;
 
 /// The most bytes of a key.

@@ -4,13 +4,12 @@ ghost use Rattle.std.specs.Prelude.{◌≡◌, ◌+◌, ◌≤◌, ◌^◌, ◌<
 ghost use Rattle.std.specs.List.{flat_map};
 ghost use Rattle.std.specs.Int.{w16, to_be_bytes};
 ghost use Rattle.bx_page.specs.Contents.{IsEntry, entry_size, high_bytes};
-ghost use Rattle.bx_fields.specs.Writing.{Writes};
+ghost use Rattle.bx_base.specs.Writing.{Writes};
 ghost use Rattle.bx_page.specs.Spelling.{high_len, entry_bytes, page_bytes};
 
 use crate::entry::{Entry, LENGTHS};
 use crate::page::Page;
-use bx_base::Raw;
-use bx_fields::{clear_from, put, put_u16, put_u64};
+use bx_base::{Raw, clear_from, put, put_u16, put_u64};
 
 /// The length of a high key where there is none.
 pub(crate) const NO_HIGH: u16 = 65535;

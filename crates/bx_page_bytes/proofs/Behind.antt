@@ -1,12 +1,12 @@
 -- What is behind the entries of a page, by the list of the entries.
 use Rattle.std.proofs.Common.{◌≡◌, ℕ, zero, suc, ◌-◌, ◌+◌, ◌<◌, ◌≤◌, Bool, true, false, cond, ◌&&◌, List, [], ◌∷◌, length, Option, Some, None, refl, sym, ap, ◌∙◌, arith}
 use Rattle.std.proofs.lemmas.Option.{some_pair_parts}
-use Rattle.bx_fields.specs.declared.error.ReadError.{ReadError}
-use Rattle.bx_fields.specs.declared.error.ReadError.TheVariants.{Malformed}
-use Rattle.bx_fields.specs.Reading.{◌>>=◌, Fails, list_at}
+use Rattle.bx_base.specs.declared.error.ReadError.{ReadError}
+use Rattle.bx_base.specs.declared.error.ReadError.TheVariants.{Malformed}
+use Rattle.bx_base.specs.Reading.{◌>>=◌, Fails, list_at}
 use Rattle.bx_page.specs.declared.entry.Entry.{Entry}
 use Rattle.bx_page.specs.Reading.{entry_at}
-use Rattle.bx_fields.proofs.Fields.{bind_some}
+use Rattle.bx_base.proofs.Fields.{bind_some}
 use Rattle.bx_page_bytes.specs.Entries.{entries_in, with_others}
 use Rattle.bx_page_bytes.specs.Checks.{follows, fits_level, ends_below, rest_behind}
 

@@ -1,8 +1,8 @@
 -- The entries that stand in bytes, one by one.
 use Rattle.std.proofs.Common.{◌≡◌, ℕ, suc, ◌-◌, List, [], ◌∷◌, length, Some, None, refl, sym, ap, ◌∙◌, arith}
-use Rattle.bx_fields.specs.declared.error.ReadError.{ReadError}
-use Rattle.bx_fields.specs.declared.error.ReadError.TheVariants.{Malformed}
-use Rattle.bx_fields.specs.Reading.{Fails}
+use Rattle.bx_base.specs.declared.error.ReadError.{ReadError}
+use Rattle.bx_base.specs.declared.error.ReadError.TheVariants.{Malformed}
+use Rattle.bx_base.specs.Reading.{Fails}
 use Rattle.bx_page.specs.declared.entry.Entry.{Entry}
 use Rattle.bx_page.specs.Reading.{entry_at}
 use Rattle.bx_page_bytes.specs.Entries.{entries_in}

@@ -4,10 +4,10 @@ use Rattle.std.specs.Prelude.{replicate}
 use Rattle.std.proofs.lemmas.List.{length-append, length-replicate}
 use Rattle.std.proofs.lemmas.Option.{some_pair_parts}
 use Rattle.bx_base.specs.Bytes.{IsBytes}
-use Rattle.bx_fields.specs.declared.error.ReadError.{ReadError}
-use Rattle.bx_fields.specs.declared.error.ReadError.TheVariants.{Malformed}
-use Rattle.bx_fields.specs.Reading.{◌>>=◌, Fails, list_at}
-use Rattle.bx_fields.proofs.Fields.{bind_some}
+use Rattle.bx_base.specs.declared.error.ReadError.{ReadError}
+use Rattle.bx_base.specs.declared.error.ReadError.TheVariants.{Malformed}
+use Rattle.bx_base.specs.Reading.{◌>>=◌, Fails, list_at}
+use Rattle.bx_base.proofs.Fields.{bind_some}
 use Rattle.bx_page.specs.declared.entry.Entry.{Entry}
 use Rattle.bx_page.specs.Contents.{Contents, size, IsPage}
 use Rattle.bx_page.specs.Spelling.{Spells}

@@ -8,8 +8,8 @@ use Rattle.std.proofs.lemmas.List.Concat.{flat_map-cons}
 use Rattle.std.proofs.lemmas.List.Elements.{All-append, All-cons, All-head, All-tail, All-filter}
 use Rattle.std.proofs.lemmas.List.Kept.{AllPairs-cons}
 use Rattle.std.proofs.lemmas.List.Sums.{sum_by-cons, sum_by-append}
-use Rattle.bx_fields.specs.Writing.{Writes}
-use Rattle.bx_fields.proofs.Written.{writes_then}
+use Rattle.bx_base.specs.Writing.{Writes}
+use Rattle.bx_base.proofs.Written.{writes_then}
 use Rattle.bx_page.specs.declared.entry.Entry.{Entry}
 use Rattle.bx_page.specs.Keys.{is_below, IsBelow}
 use Rattle.bx_page.specs.Contents.{Contents, IsEntry, IsPage, Rises, entry_size, high_bytes, size, value_of, below, above, with_entry, with_value, without_key}

@@ -1,6 +1,6 @@
 -- Whether the entries that stand in bytes are those of a page.
 use Rattle.std.specs.Prelude.{ℕ, zero, suc, Bool, true, ◌==◌, ◌||◌, ◌&&◌, if◌then◌else◌, List, length, Option, Some, None}
-use Rattle.bx_fields.specs.Reading.{◌>>=◌}
+use Rattle.bx_base.specs.Reading.{◌>>=◌}
 use Rattle.bx_page.specs.Keys.{is_below}
 use Rattle.bx_page.specs.Reading.{entry_at}
 

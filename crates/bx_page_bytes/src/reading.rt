@@ -2,14 +2,14 @@
 
 ghost use Rattle.std.specs.Prelude.{◌≡◌, ◌≤◌, ◌↔◌, IfErr, IsTrue, length, replicate};
 ghost use Rattle.std.specs.Option.{option_copied};
-ghost use Rattle.bx_fields.specs.Reading.{Gives};
-ghost use Rattle.bx_fields.specs.declared.error.ReadError.TheVariants.{Malformed};
+ghost use Rattle.bx_base.specs.Reading.{Gives};
+ghost use Rattle.bx_base.specs.declared.error.ReadError.TheVariants.{Malformed};
 ghost use Rattle.bx_page.specs.Reading.{lengths_at, entry_at, high_of, high_at, numbers_at};
 ghost use Rattle.bx_page_bytes.specs.Checks.{follows, fits_level, ends_below, rest_behind};
 
 use crate::entries::EntryBytes;
 use crate::page::SIZE;
-use bx_fields::{ReadError, front_at, u16_at, u64_at};
+use bx_base::{ReadError, front_at, u16_at, u64_at};
 
 /// The most bytes of a key.
 const MOST_KEY: usize = 256;

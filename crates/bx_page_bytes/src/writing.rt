@@ -3,7 +3,7 @@
 ghost use Rattle.std.specs.Prelude.{◌≡◌, ◌+◌, ◌≤◌, ◌↔◌, ◌<◌, IsTrue, IsSome, IfSome, None, length, sum_by};
 ghost use Rattle.std.specs.List.{flat_map};
 ghost use Rattle.std.specs.Option.{option_copied};
-ghost use Rattle.bx_fields.specs.Writing.{Writes};
+ghost use Rattle.bx_base.specs.Writing.{Writes};
 ghost use Rattle.bx_page.specs.Keys.{IsBelow};
 ghost use Rattle.bx_page.specs.Contents.{IsEntry, Rises, entry_size, high_bytes, size, value_of, below, above, with_value, without_key};
 ghost use Rattle.bx_page.specs.Spelling.{Spells, entry_bytes};
@@ -11,7 +11,7 @@ ghost use Rattle.bx_page_bytes.specs.Pages.{head_bytes};
 
 use crate::entries::Entries;
 use crate::page::{PageBytes, SIZE};
-use bx_fields::{clear_from, put, put_u16, put_u64};
+use bx_base::{clear_from, put, put_u16, put_u64};
 use std::cmp::Ordering;
 
 /// What an entry takes beside its key and its value: their lengths.

@@ -8,11 +8,12 @@ ghost use Rattle.bx_base.specs.declared.names.Actor.TheVariants.{Replica as OfRe
 ghost use Rattle.bx_calls.specs.Calls.{LeavesOnly};
 ghost use Rattle.bx_cell.specs.Images.{EachSure};
 ghost use Rattle.bx_disk.specs.Disks.{Disks};
+ghost use Rattle.bx_disk.specs.Counts.{NoneRose};
 ghost use Rattle.bx_disk.specs.Kept.{CountedOn};
 ghost use Rattle.bx_facts.specs.Chains.{IsPlace};
 ghost use Rattle.bx_facts.specs.Inputs.{IsComing, IsRegisters, SendsOnly};
 ghost use Rattle.bx_facts.specs.Pasts.{Decides, RegisterPast, proposing, register_failed, register_restarted, register_with};
-ghost use Rattle.bx_facts.specs.declared.input.FactError.TheVariants.{Disk as DiskFails};
+ghost use Rattle.bx_facts.specs.declared.input.FactError.TheVariants.{Disk as DiskFails, OutOfMemory as MemoryFails};
 ghost use Rattle.bx_facts.specs.declared.input.ProposeError.TheVariants.{NotLegal, Busy};
 ghost use Rattle.bx_global.specs.Table.{IsLegal};
 ghost use Rattle.bx_places.specs.Places.{replica_sectors};
@@ -80,6 +81,7 @@ impl Replica {
         ensures halves { AreHalves self.new.acceptor self.new.proposer }
         ensures stays { IsSame self.old.acceptor self.new.acceptor self.old.proposer self.new.proposer }
         ensures disks { R.tells rack.old → Writes (R.state rack.old) (R.state rack.new) (R.moment rack.old) (R.moment rack.new) (R.left_since rack.old) (R.left_since rack.new) self.old.acceptor.replica }
+        ensures memory { IsErrOf result MemoryFails → NoneRose (R.faults rack.old) (R.faults rack.new) (R.faults_of rack.old) (R.faults_of rack.new) }
         ensures rack { CountedOn R.Rack rack.old rack.new self.old.acceptor.replica result DiskFails }
     {
         self.acceptor.take(rack, input, out)?;

@@ -6,13 +6,14 @@ ghost use Rattle.bx_base.specs.declared.names.Actor.{Actor};
 ghost use Rattle.bx_base.specs.declared.names.Actor.TheVariants.{Replica};
 ghost use Rattle.bx_calls.specs.Calls.{LeavesOnly};
 ghost use Rattle.bx_disk.specs.Disks.{Disks};
+ghost use Rattle.bx_disk.specs.Counts.{NoneRose};
 ghost use Rattle.bx_disk.specs.Kept.{Counted};
 ghost use Rattle.bx_facts.specs.Chains.{IsAboveBoots, IsNext, last, most_boot};
 ghost use Rattle.bx_facts.specs.Disks.{HasRoom, NeedsAt, NeedsNoMore, OnlyDiskOf, ReadsOnly, SameDisks, SameLabels, SameMembers, wanted_by};
 ghost use Rattle.bx_facts.specs.Inputs.{IsRegisters, SendsOnly};
 ghost use Rattle.bx_facts.specs.Machines.{IsMachine, OnlyAt, OnlyFactsAt, disk_of};
 ghost use Rattle.bx_facts.specs.Pasts.{Decides, MayHear, RegisterPast, found_register, opening_register, proposing, register_crashed, register_failed, register_restarted, register_with};
-ghost use Rattle.bx_facts.specs.declared.input.FactError.TheVariants.{Disk as DiskFails};
+ghost use Rattle.bx_facts.specs.declared.input.FactError.TheVariants.{Disk as DiskFails, OutOfMemory as MemoryFails};
 ghost use Rattle.bx_facts.specs.declared.input.OpenError.TheVariants.{Disk as OpenFails, NoLabel, NoMajority, Spent};
 ghost use Rattle.bx_facts.specs.declared.input.ProposeError.TheVariants.{NotLegal, Busy};
 ghost use Rattle.bx_global.specs.Allowed.{IsAllowed};
@@ -31,8 +32,7 @@ use bx_disk::Rack;
 use bx_facts::{FactError, Input, OpenError, Outbox, ProposeError};
 use bx_global::{Change, GlobalState};
 use bx_paxos_found::{Origins, find};
-use bx_paxos_machines::{Machine, place_of};
-use bx_paxos_making::{begin_anew, make_all};
+use bx_paxos_machines::{Machine, begin_anew, make_all, place_of};
 use std::alloc::Global;
 use std::marker::Model;
 
@@ -204,7 +204,7 @@ impl Paxos {
         self.machines[place].crash();
     }
 
-    /// Does one event of a machine. At a disk fault what is in the box isn't sent. For want of memory it isn't used again.
+    /// Does one event of a machine. At a disk fault what is in the box isn't sent. For want of memory it isn't used again, and no disk failed.
     pub fn take<R: Rack>(
         &mut self,
         rack: &mut R,
@@ -229,6 +229,7 @@ impl Paxos {
         ensures made { (self.new.made ≡ self.old.made) × (self.new.nodes ≡ self.old.nodes) }
         ensures members { R.tells rack.old → SameMembers (R.state rack.old) (R.state rack.new) × SameLabels (R.state rack.old) (R.state rack.new) }
         ensures disks { R.tells rack.old → OnlyDiskOf at (R.state rack.old) (R.state rack.new) }
+        ensures memory { IsErrOf result MemoryFails → NoneRose (R.faults rack.old) (R.faults rack.new) (R.faults_of rack.old) (R.faults_of rack.new) }
         ensures rack { Counted R.Rack rack.old rack.new result DiskFails }
     {
         let place = place_of(&self.machines, &at);

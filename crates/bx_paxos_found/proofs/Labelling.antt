@@ -8,7 +8,7 @@ use Rattle.std.proofs.lemmas.Slice.Eq.{bytes_eq-Decides}
 use Rattle.bx_disk.specs.Disks.{Disks, Image}
 use Rattle.bx_facts.specs.Disks.{SameDisks}
 use Rattle.bx_facts.specs.Labelled.{IsFirstLabel, IsLabelled, IsOwnLabel, IsWhole, label_on}
-use Rattle.bx_fields.specs.Writing.{padded}
+use Rattle.bx_base.specs.Writing.{padded}
 use Rattle.bx_layout.proofs.LabelFields.{areas_in, devices_in, disk_in, same_label, volume_in}
 use Rattle.bx_layout.specs.Labels.{IsLabel, SpellsLabel, label_text}
 use Rattle.bx_layout.specs.declared.label.Label.{Label}

@@ -6,3 +6,4 @@ pub mod Places
 pub mod Steps
 pub mod Telling
 pub mod Voting
+pub mod Lists

@@ -1,10 +1,13 @@
-//! The machines of a register of three replicas: each alone, how one is found in a list, and what a register keeps of all of them.
+//! The machines of a register of three replicas: each alone, how one is found in a list, how they are made and begin, and what a register keeps of
+//! all of them.
 #![tactic(auto)]
 
 mod finding;
 mod laws;
 mod machine;
+mod making;
 
 pub use finding::place_of;
 pub use laws::{other_disks_and_letters, what_a_register_tells};
 pub use machine::Machine;
+pub use making::{begin_anew, make_all};

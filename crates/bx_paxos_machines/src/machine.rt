@@ -5,12 +5,13 @@ ghost use Rattle.bx_acceptor.specs.Starting.{StartsWith};
 ghost use Rattle.bx_acceptor.specs.declared.origin.Origin.TheVariants.{Made};
 ghost use Rattle.bx_calls.specs.Calls.{KeepsAll, LeavesOnly};
 ghost use Rattle.bx_disk.specs.Disks.{Disks};
+ghost use Rattle.bx_disk.specs.Counts.{NoneRose};
 ghost use Rattle.bx_disk.specs.Kept.{Counted};
 ghost use Rattle.bx_facts.specs.Chains.{IsNext, last};
 ghost use Rattle.bx_facts.specs.Disks.{OnlyDiskOf, ReadsOnly, SameDisks, SameLabels, SameMembers};
 ghost use Rattle.bx_facts.specs.Inputs.{IsComing, IsRegisters, SendsOnly};
 ghost use Rattle.bx_facts.specs.Pasts.{Decides, RegisterPast, proposing, register_failed, register_restarted, register_with};
-ghost use Rattle.bx_facts.specs.declared.input.FactError.TheVariants.{Disk as DiskFails};
+ghost use Rattle.bx_facts.specs.declared.input.FactError.TheVariants.{Disk as DiskFails, OutOfMemory as MemoryFails};
 ghost use Rattle.bx_facts.specs.declared.input.ProposeError.TheVariants.{NotLegal, Busy};
 ghost use Rattle.bx_global.specs.Table.{IsLegal};
 ghost use Rattle.bx_global.specs.Allowed.{IsAllowed};
@@ -116,6 +117,7 @@ impl Machine {
         ensures name { name_of self.new ≡ name_of self.old }
         ensures disks { R.tells rack.old → OnlyDiskOf (name_of self.old) (R.state rack.old) (R.state rack.new) }
         ensures members { R.tells rack.old → SameMembers (R.state rack.old) (R.state rack.new) × SameLabels (R.state rack.old) (R.state rack.new) }
+        ensures memory { IsErrOf result MemoryFails → NoneRose (R.faults rack.old) (R.faults rack.new) (R.faults_of rack.old) (R.faults_of rack.new) }
         ensures rack { Counted R.Rack rack.old rack.new result DiskFails }
     {
         match self {

@@ -1,8 +1,8 @@
 //! Laws of places.
 
 ghost use Rattle.std.specs.Prelude.{◌≡◌, ◌≢◌, ℕ, ◌+◌, ◌*◌, ◌<◌, ◌≤◌};
-ghost use Rattle.bx_handles.specs.declared.chunk_handle.ChunkHandle.{ChunkHandle};
-ghost use Rattle.bx_handles.specs.Handles.{block_of};
+ghost use Rattle.bx_places.specs.declared.chunk_handle.ChunkHandle.{ChunkHandle};
+ghost use Rattle.bx_places.specs.Handles.{block_of};
 ghost use Rattle.bx_places.specs.Places.{AreApart, LieIn, StandsInArea, IsVolume, IsBlock, block_area, block_slot, area_device, area_start, block_place, log_device, log_start, gate_place, body_place, member_sectors, disk_sectors};
 
 /// Each block of a volume stands in its area's sectors, on the area's device; and the area on the disks of its members.

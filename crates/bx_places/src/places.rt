@@ -4,8 +4,8 @@
 ghost use Rattle.std.specs.Prelude.{◌≡◌, ◌↔◌, ◌<◌, IsTrue};
 ghost use Rattle.bx_places.specs.Places.{IsVolume, IsBlock, is_block, block_place, log_start, gate_place, body_place, member_sectors, disk_sectors, disk_count};
 
+use crate::AREA_NUMBERS;
 use crate::sizes::{BLOCK_SECTORS, REPLICA_SECTORS, SLOTS};
-use bx_handles::AREA_NUMBERS;
 
 /// The sector of a device where its first area begins.
 const AREAS_AT: u64 = 9345;

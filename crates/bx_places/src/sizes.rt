@@ -1,6 +1,6 @@
 //! How big things are.
 
-use bx_handles::OWN_SLOT;
+use crate::OWN_SLOT;
 
 /// How many bytes a sector has.
 pub const SECTOR: usize = 512;

@@ -1,5 +1,5 @@
 mod Asking
-mod Beginning
+pub mod Beginning
 mod Granting
 mod Keeping
 mod Machines

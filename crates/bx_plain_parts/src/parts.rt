@@ -2,6 +2,7 @@
 
 ghost use Rattle.std.specs.Prelude.{◌≡◌, ◌≤◌, IfOk, OnOk, false};
 ghost use Rattle.bx_disk.specs.Disks.{Disks};
+ghost use Rattle.bx_format.specs.Formats.{HasSizes, IsFormatted};
 ghost use Rattle.bx_format.specs.Kept.{FailsAnew};
 ghost use Rattle.bx_node_openings.specs.Opening.{AreNew};
 ghost use Rattle.bx_node_openings.specs.Resting.{VolumeRests};
@@ -49,6 +50,7 @@ impl PlainParts {
         requires sizes { IsVolume shape.devices shape.areas }
         ensures new { (x : Disks) → IfOk result (λ parts. AreNew ⟦<PlainRegister as Register>⟧ ⟦<PlainOwners as Owners>⟧ ⟦<PlainStore as Store>⟧ parts.register parts.owners parts.store x (plain_state shape.nodes shape.devices)) }
         ensures made { IfOk result (λ parts. ⟦<PlainStore as Store>⟧.made parts.store ≡ made_by volume shape) }
+        ensures register { IfOk result (λ parts. (⟦<PlainRegister as Register>⟧.nodes parts.register ≡ shape.nodes) × (⟦<PlainRegister as Register>⟧.made parts.register ≡ plain_state shape.nodes shape.devices)) }
     {
         let state = endless(alloc, shape.nodes, shape.devices)?;
         let store = PlainStore::new(
@@ -78,7 +80,10 @@ impl PlainParts {
         requires sizes { IsVolume shape.devices shape.areas }
         ensures new { (x : Disks) → IfOk result (λ parts. AreNew ⟦<PlainRegister as Register>⟧ ⟦<PlainOwners as Owners>⟧ ⟦<PlainStore as Store>⟧ parts.register parts.owners parts.store x (plain_state shape.nodes shape.devices)) }
         ensures made { IfOk result (λ parts. ⟦<PlainStore as Store>⟧.made parts.store ≡ made_by volume shape) }
+        ensures register { IfOk result (λ parts. (⟦<PlainRegister as Register>⟧.nodes parts.register ≡ shape.nodes) × (⟦<PlainRegister as Register>⟧.made parts.register ≡ plain_state shape.nodes shape.devices)) }
         ensures rests { R.tells rack.old → OnOk result (VolumeRests (made_by volume shape) (R.state rack.new) (plain_state shape.nodes shape.devices) (devices_of (R.state rack.new).reads (λ device sector. false)) opening_truth) }
+        ensures formatted { R.tells rack.old → OnOk result (IsFormatted (R.state rack.new) (record { volume = volume; disk = 0; devices = shape.devices; areas = shape.areas })) }
+        ensures sizes { OnOk result (HasSizes (R.state rack.new).sizes shape.devices shape.areas) }
         ensures rack { FailsAnew R.Rack rack.old rack.new result }
     {
         format(alloc, rack, volume, shape.devices, shape.areas)?;

@@ -1,3 +1,5 @@
+pub mod Lanes
+pub mod Machines
 pub mod Posts
 pub mod Rising
 pub mod Slots

@@ -1,5 +1,6 @@
 -- All packets of a run: letters, each with whether it is pending. A packet's number is its place, counted from 1.
 use Rattle.std.specs.Prelude.{ℕ, ◌+◌, Bool, true, false, ◌==◌, ltb, ◌&&◌, List, [], ◌∷◌, Option, Some, None, if◌then◌else◌}
+use Rattle.bx_base.specs.declared.names.Actor.{Actor}
 use Rattle.bx_post.specs.declared.packets.Letter.{Letter}
 use Rattle.bx_post.specs.declared.packets.Packet.{Packet}
 
@@ -35,3 +36,12 @@ settled_from first number (posted ∷ rest) = (if first == number then record po
 abbrev pub next_from : ℕ → ℕ → List Posted → Option ℕ
 next_from first after [] = None
 next_from first after (posted ∷ rest) = if posted.waits && ltb after first then Some first else next_from (first + 1) after rest
+
+-- a letter passes a test of its sender, its receiver and its kind
+abbrev pub passes : (Actor → Actor → ℕ → Bool) → Letter → Bool
+passes test letter = test letter.from letter.to letter.kind
+
+-- the least number whose packet is pending and passes a test
+abbrev pub passing_from : (Actor → Actor → ℕ → Bool) → ℕ → List Posted → Option ℕ
+passing_from test first [] = None
+passing_from test first (posted ∷ rest) = if posted.waits && passes test posted.letter then Some first else passing_from test (first + 1) rest

@@ -2,11 +2,14 @@
 
 ghost use Rattle.std.specs.Prelude.{◌≡◌, ◌≢◌, true, false, slice_get, ◌++◌, [], map, filter, length, OnOk, OnErr};
 ghost use Rattle.std.specs.Option.{option_copied};
-ghost use Rattle.bx_post.specs.Posts.{fresh, is_waiting, next_from, packet_from, settled_from};
+ghost use Rattle.bx_post.specs.Lanes.{AreLanes, IsWhole, lane_to};
+ghost use Rattle.bx_post.specs.Posts.{fresh, is_waiting, next_from, packet_from, passing_from, settled_from};
 ghost use Rattle.bx_post.specs.Slots.{AreNumbered, IsKept, count_from, posted, slot_waits};
 
+use crate::lanes::{Lane, cut_back, drop_number, file_all, number_lanes, soonest};
 use crate::packets::{Letter, Outbox, Packet};
-use crate::search::place_above;
+use crate::passes::Passes;
+use crate::search::{place_above, stands_at};
 use bx_base::OutOfMemory;
 use std::alloc::Global;
 use std::collections::VecDeque;
@@ -25,18 +28,20 @@ pub(crate) struct Slot {
 pub struct Post {
     slots: Vec<Slot>,
     waiting: VecDeque<u64>,
+    lanes: Vec<Lane>,
 }
 
 impl Model for Post {
     ghost use Rattle.std.specs.Prelude.{List};
     ghost use Rattle.bx_post.specs.Posts.{Posted};
-    ghost use Rattle.bx_post.specs.Slots.{IsKept, posted};
+    ghost use Rattle.bx_post.specs.Lanes.{IsWhole};
+    ghost use Rattle.bx_post.specs.Slots.{posted};
 
     ghost Value = { List Posted };
 
     ghost view = { λ post. posted post.slots.items };
 
-    ghost invariant = { λ post. IsKept post.slots.items post.waiting.items };
+    ghost invariant = { λ post. IsWhole post.slots.items post.waiting.items post.lanes.items };
 }
 
 impl Post {
@@ -47,6 +52,7 @@ impl Post {
         Post {
             slots: Vec::new(alloc),
             waiting: VecDeque::new(alloc),
+            lanes: Vec::new(alloc),
         }
     }
 
@@ -55,12 +61,19 @@ impl Post {
         ensures ok { OnOk result (self.new ≡ self.old ++ map fresh out) }
         ensures err { OnErr result (self.new ≡ self.old) }
     {
-        put_behind(
+        let count = self.slots.len() as u64;
+        let sent = file_and_put(
             alloc,
             &mut self.slots,
             &mut self.waiting,
+            &mut self.lanes,
             out.into_letters(),
-        )
+        );
+        if sent.is_err() {
+            cut_back(&mut self.lanes, count);
+            return Err(OutOfMemory);
+        }
+        Ok(())
     }
 
     /// The packet with a number; `None` exactly where no packet has it.
@@ -81,12 +94,16 @@ impl Post {
         ensures { self.new ≡ settled_from 1 number self.old }
     {
         cross_out(&mut self.slots, &mut self.waiting, number);
+        if number > 0 {
+            drop_number(&mut self.lanes, number);
+        }
     }
 
     /// Drops the packets that aren't pending, and numbers the others from 1 in their order. It takes no memory.
     pub fn forget(&mut self)
         ensures { self.new ≡ filter is_waiting self.old }
     {
+        number_lanes(&mut self.lanes, &self.waiting);
         close_up(&mut self.slots, &mut self.waiting);
     }
 
@@ -98,6 +115,17 @@ impl Post {
         let place = place_above(&self.waiting, after);
         number_at(&self.waiting, place)
     }
+
+    /// The least number whose packet is pending and passes; `None` exactly where there is none. Where the least that is pending passes it takes
+    /// one step, and else one for each sender, receiver and kind that ever was, however many packets are pending. It takes no memory.
+    pub fn next<P: Passes>(&self, gate: &P) -> Option<u64>
+        ensures { result ≡ passing_from (P.passes gate.now) 1 self.now }
+    {
+        if first_passes(&self.slots, &self.waiting, gate) {
+            return number_at(&self.waiting, 0);
+        }
+        soonest(self.lanes.as_slice(), gate)
+    }
 }
 
 /// The slot at a place, counted from 0.
@@ -105,6 +133,37 @@ fn slot_at(slots: &Vec<Slot>, at: usize) -> Option<&Slot>
     ensures { option_copied result ≡ slice_get slots.now.items at }
 {
     slots.get(at)
+}
+
+/// Whether the least number that is pending is that of a packet which passes.
+fn first_passes<P: Passes>(slots: &Vec<Slot>, waiting: &VecDeque<u64>, gate: &P) -> bool
+    requires { IsKept slots.now.items waiting.now.items }
+    ensures { result ≡ true → slice_get waiting.now.items 0 ≡ passing_from (P.passes gate.now) 1 (posted slots.now.items) }
+{
+    let Some(number) = number_at(waiting, 0) else {
+        return false;
+    };
+    let packet = &slots[(number - 1) as usize].packet;
+    gate.passes(packet.from, packet.to, packet.kind)
+}
+
+/// Puts letters behind the packets that are there, and on their lanes. Where memory runs out, `cut_back` leaves the lanes of the packets.
+fn file_and_put(
+    alloc: Global,
+    slots: &mut Vec<Slot>,
+    waiting: &mut VecDeque<u64>,
+    lanes: &mut Vec<Lane>,
+    letters: Vec<Letter>,
+) -> Result<(), OutOfMemory>
+    requires { IsWhole slots.old.items waiting.old.items lanes.old.items }
+    ensures kept { IsKept slots.new.items waiting.new.items }
+    ensures ok { OnOk result (posted slots.new.items ≡ posted slots.old.items ++ map fresh letters.items) }
+    ensures lanes { OnOk result (AreLanes (posted slots.new.items) lanes.new.items) }
+    ensures err { OnErr result (posted slots.new.items ≡ posted slots.old.items) }
+    ensures back { OnErr result (AreLanes (posted slots.old.items) (map (lane_to (length slots.old.items)) lanes.new.items)) }
+{
+    file_all(alloc, lanes, letters.as_slice(), slots.len())?;
+    put_behind(alloc, slots, waiting, letters)
 }
 
 /// Puts letters behind the packets that are there.
@@ -164,17 +223,6 @@ fn number_at(numbers: &VecDeque<u64>, place: usize) -> Option<u64>
     ensures { result ≡ slice_get numbers.now.items place }
 {
     numbers.get(place).copied()
-}
-
-/// Whether a number stands at a place.
-fn stands_at(numbers: &VecDeque<u64>, place: usize, number: u64) -> bool
-    ensures there { result ≡ true → slice_get numbers.now.items place ≡ Some number }
-    ensures elsewhere { result ≡ false → slice_get numbers.now.items place ≢ Some number }
-{
-    match numbers.get(place) {
-        Some(found) => *found == number,
-        None => false,
-    }
 }
 
 /// Drops the packets that aren't pending, and numbers the others anew.

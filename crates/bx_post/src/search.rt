@@ -1,6 +1,6 @@
 //! Finding a place among numbers that rise.
 
-ghost use Rattle.std.specs.Prelude.{◌≡◌, ◌≤◌};
+ghost use Rattle.std.specs.Prelude.{◌≡◌, ◌≢◌, ◌≤◌, true, false, slice_get, Some};
 ghost use Rattle.std.specs.VecDeque.{deque_len};
 ghost use Rattle.bx_post.specs.Rising.{IsRising, places_to};
 
@@ -22,4 +22,15 @@ pub fn place_above(numbers: &VecDeque<u64>, bound: u64) -> usize
         }
     }
     low
+}
+
+/// Whether a number stands at a place.
+pub(crate) fn stands_at(numbers: &VecDeque<u64>, place: usize, number: u64) -> bool
+    ensures there { result ≡ true → slice_get numbers.now.items place ≡ Some number }
+    ensures elsewhere { result ≡ false → slice_get numbers.now.items place ≢ Some number }
+{
+    match numbers.get(place) {
+        Some(found) => *found == number,
+        None => false,
+    }
 }

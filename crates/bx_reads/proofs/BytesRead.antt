@@ -2,9 +2,9 @@
 use Rattle.std.proofs.Common.{◌≡◌, ℕ, ◌≤◌, Bool, true, false, List, [], take, drop, Option, Some, None, refl, sym, ap, ◌∙◌}
 use Rattle.std.specs.Prelude.{◌≢◌, not, min, if◌then◌else◌, Result, Ok, Err}
 use Rattle.bx_files.specs.Reads.{Tells}
-use Rattle.bx_hints.specs.Fitting.{HintsFitAll}
-use Rattle.bx_hints.specs.Pages.{HasPages}
-use Rattle.bx_hints.proofs.Pages.{has_pages}
+use Rattle.bx_inodes.specs.Fitting.{HintsFitAll}
+use Rattle.bx_inodes.specs.Pages.{HasPages}
+use Rattle.bx_inodes.proofs.Pages.{has_pages}
 use Rattle.bx_blink.specs.Hints.{Under}
 use Rattle.bx_inodes.specs.declared.stop.Stop.{Stop}
 use Rattle.bx_inodes.specs.declared.stop.Stop.TheVariants.{Need, Inner, Status, OutOfMemory}

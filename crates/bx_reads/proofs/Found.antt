@@ -3,7 +3,7 @@ use Rattle.std.proofs.Common.{◌≡◌, ℕ, arith, List, [], sym, ap, ◌∙�
 use Rattle.std.specs.Prelude.{Err}
 use Rattle.bx_base.specs.declared.names.Mode.TheVariants.{Shared}
 use Rattle.bx_blink.specs.Walks.{reads_with}
-use Rattle.bx_handles.specs.Handles.{named}
+use Rattle.bx_places.specs.Handles.{named}
 use Rattle.bx_inodes.specs.declared.stop.Stop.{Stop}
 use Rattle.bx_inodes.specs.declared.stop.Stop.TheVariants.{Need, Inner, Status, OutOfMemory}
 use Rattle.bx_inodes.specs.Inodes.{FileAt, HoldsInode, IsInodeOf, LiveAt}

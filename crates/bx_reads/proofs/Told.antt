@@ -2,7 +2,7 @@
 use Rattle.std.proofs.Common.{◌≡◌, ℕ, Bool, true, false, eqb-true, List, refl, sym, ap, ◌∙◌, subst, Option}
 use Rattle.std.specs.Prelude.{◌≢◌, ◌==◌, not, Result, Ok, Err}
 use Rattle.std.specs.Prelude.{◌<◌, ◌^◌, option_and_then, [], Some}
-use Rattle.bx_handles.specs.Handles.{named}
+use Rattle.bx_places.specs.Handles.{named}
 use Rattle.bx_model.specs.FileTrees.{IsFileTree}
 use Rattle.bx_records.specs.Drafts.{Changed}
 use Rattle.bx_tree_files.specs.Files.{file_at, size_of}

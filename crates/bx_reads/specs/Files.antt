@@ -2,7 +2,7 @@
 use Rattle.std.specs.Prelude.{◌≡◌, ℕ, ◌<◌, ◌^◌, List, [], Some, None, Result, Ok, Err}
 use Rattle.bx_base.specs.declared.names.Mode.TheVariants.{Shared}
 use Rattle.bx_blink.specs.Walks.{reads_with}
-use Rattle.bx_handles.specs.Handles.{named}
+use Rattle.bx_places.specs.Handles.{named}
 use Rattle.bx_inodes.specs.declared.stop.Stop.{Stop}
 use Rattle.bx_inodes.specs.declared.stop.Stop.TheVariants.{Need, Inner, Status, OutOfMemory}
 use Rattle.bx_inodes.specs.Inodes.{HoldsInode, LiveAt, shown_size}

@@ -3,7 +3,7 @@
 ghost use Rattle.std.specs.Prelude.{◌≡◌, ℕ, IfOk, Some, []};
 ghost use Rattle.bx_base.specs.declared.names.Mode.TheVariants.{Shared};
 ghost use Rattle.bx_blink.specs.Walks.{reads_with};
-ghost use Rattle.bx_handles.specs.Handles.{named};
+ghost use Rattle.bx_places.specs.Handles.{named};
 ghost use Rattle.bx_model.specs.declared.tree.Tree.{Tree};
 ghost use Rattle.bx_truth.specs.Chunks.{block_at};
 ghost use Rattle.bx_views.specs.Truths.{IsTruth, Truth};
@@ -12,10 +12,10 @@ ghost use Rattle.bx_inodes.specs.Stops.{NeedsOn, NeverInner, OnInode};
 ghost use Rattle.bx_reads.specs.Files.{IsSeen, NamesFile};
 
 use bx_base::Mode;
-use bx_handles::named_handle;
 use bx_inodes::{Stop, inode_at};
 use bx_layout::Inode;
 use bx_model::STALE;
+use bx_places::named_handle;
 use bx_records::Draft;
 use bx_views::View;
 use std::alloc::Global;

@@ -3,10 +3,10 @@ use Rattle.std.proofs.Common.{ℕ, List, [], Option, Some, None, sym, subst, inl
 use Rattle.std.specs.Prelude.{Result, Ok, Err, IfOk, IfSome, ◌⊎◌}
 use Rattle.bx_blink.specs.Hints.{Under}
 use Rattle.bx_blink.specs.declared.error.BlinkError.{BlinkError}
-use Rattle.bx_file_laws.specs.Keeping.{KeepsFiles}
-use Rattle.bx_file_laws.proofs.Kept.{post_keeps, split_keeps}
-use Rattle.bx_hints.specs.Pages.{HasPages}
-use Rattle.bx_hints.proofs.Pages.{has_pages}
+use Rattle.bx_ready.specs.Keeping.{KeepsFiles}
+use Rattle.bx_ready.proofs.Kept.{post_keeps, split_keeps}
+use Rattle.bx_inodes.specs.Pages.{HasPages}
+use Rattle.bx_inodes.proofs.Pages.{has_pages}
 use Rattle.bx_model.specs.declared.tree.Tree.{Tree}
 use Rattle.bx_posts.specs.Posts.{PostsPage}
 use Rattle.bx_records.specs.Drafts.{Changed}

@@ -1,3 +1,5 @@
+pub mod Grown
+pub mod Kept
 pub mod Places
 pub mod Spare
 pub mod Lengths

@@ -19,7 +19,7 @@ use Rattle.bx_splits.proofs.Height.{few_levels}
 use Rattle.bx_truth.specs.Chunks.{block_at, chunks_of}
 use Rattle.bx_truth.specs.PageTrees.{Chunks, HasPage, IsIn, IsLast, IsNode, NamesChild, Node, PageTree}
 use Rattle.bx_views.specs.Truths.{Truth, Held, Hints, with_draft}
-use Rattle.bx_ready.specs.Descents.{HoldsOther, HoldsPage, LeadsTo, LeadsWhere, Names, Stays, begins, down}
+use Rattle.bx_ready.specs.Descents.{HoldsStrange, HoldsPage, LeadsTo, LeadsWhere, Names, Stays, begins, down}
 use Rattle.bx_ready.specs.declared.descents.Descent.TheVariants.{Lost, Short, Arrives}
 use Rattle.bx_ready.specs.Separators.{HasSeparators, IsNamed, LacksSeparator, LeadsStraight}
 use Rattle.bx_ready.proofs.Greatest.{between}
@@ -80,7 +80,7 @@ module _ (areas : ℕ) (held : Held) (hints : Hints) (truth : Truth) (root : ℕ
     same_contents : (contents : Contents) → HoldsPage held handle contents → contents ≡ node.page
     same_contents contents s = one_page contents node.page (n.block).payload (subst (λ (b : Block). HasPage contents b) (same_block s.block s.there) s.has).spells (n.has).spells
 
-    no_other : HoldsOther held handle → ⊥
+    no_other : HoldsStrange held handle → ⊥
     no_other s = elim s.other [
       | inl differs ↦ differs (ap (λ (b : Block). b.handle) (same_block s.block s.there) ∙ (a.sees).header handle n.block (ap chunks (sym at) ∙ n.chunk))
       | inr none ↦ none node.page (subst (λ (b : Block). HasPage node.page b) (sym (same_block s.block s.there)) n.has)

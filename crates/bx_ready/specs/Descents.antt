@@ -22,7 +22,7 @@ pub record HoldsPage (held : Held) (handle : ℕ) (page : Contents) : Type 0 whe
   pub has : HasPage page block
 
 -- a block is held there that isn't the page's: its header names another handle, or it is no page
-pub record HoldsOther (held : Held) (handle : ℕ) : Type 0 where
+pub record HoldsStrange (held : Held) (handle : ℕ) : Type 0 where
   pub block : Block
   pub there : held (block_at handle) Shared ≡ Some block
   pub other : (block.handle ≢ handle) ⊎ IsNoPage block
@@ -30,7 +30,7 @@ pub record HoldsOther (held : Held) (handle : ℕ) : Type 0 where
 -- what is found under a handle
 abbrev pub FindsPage : Held → ℕ → Found → Type 0
 FindsPage held handle Missing = held (block_at handle) Shared ≡ None
-FindsPage held handle Strange = HoldsOther held handle
+FindsPage held handle Strange = HoldsStrange held handle
 FindsPage held handle (HeldPage page) = HoldsPage held handle page
 
 -- the key isn't above the range of a page that is held
@@ -39,7 +39,7 @@ pub record Stays (held : Held) (handle : ℕ) (key : List ℕ) (page : Contents)
   pub stays : passes page key ≡ false
 
 -- all keys of a page that is held are below the key
-pub record Falls (held : Held) (handle : ℕ) (key : List ℕ) : Type 0 where
+pub record EndsBelow (held : Held) (handle : ℕ) (key : List ℕ) : Type 0 where
   pub page : Contents
   pub holds : HoldsPage held handle page
   pub passed : passes page key ≡ true
@@ -60,8 +60,8 @@ pub record Ends (held : Held) (handle : ℕ) (key : List ℕ) : Type 0 where
 -- one step
 abbrev pub StopsAt : Held → ℕ → List ℕ → Descent → Type 0
 StopsAt held handle key (Needs at) = (at ≡ block_at handle) × (held (block_at handle) Shared ≡ None)
-StopsAt held handle key Lost = HoldsOther held handle
-StopsAt held handle key (Short page) = (page ≡ handle) × Falls held handle key
+StopsAt held handle key Lost = HoldsStrange held handle
+StopsAt held handle key (Short page) = (page ≡ handle) × EndsBelow held handle key
 StopsAt held handle key Arrives = Ends held handle key
 
 abbrev pub StepsAt : Held → ℕ → List ℕ → Step → Type 0

@@ -1,3 +1,5 @@
+pub mod Growing
+pub mod Keeping
 pub mod Common
 pub mod Descents
 pub mod Spare
@@ -5,4 +7,3 @@ pub mod Separators
 pub mod Rooms
 pub mod Lacking
 pub mod Ready
-pub use Rattle.bx_file_laws.specs.Keeping

@@ -3,7 +3,7 @@ use Rattle.std.specs.Prelude.{◌≡◌, ◌≢◌, ℕ, ◌≤◌, ◌⊎◌, L
 use Rattle.bx_base.specs.declared.names.Mode.{Mode}
 use Rattle.bx_blink.specs.declared.error.BlinkError.{BlinkError}
 use Rattle.bx_blink.specs.declared.error.BlinkError.TheVariants.{Need, Stale, Full, NoRoom, Absent, Present, OutOfMemory, Crowded}
-use Rattle.bx_hints.specs.Fitting.{HintsFitAll}
+use Rattle.bx_inodes.specs.Fitting.{HintsFitAll}
 use Rattle.bx_inodes.specs.Inodes.{HoldsInode}
 use Rattle.bx_layout.specs.declared.inode.Inode.{Inode}
 use Rattle.bx_model.specs.declared.tree.Tree.{Tree}

@@ -1,7 +1,7 @@
 //! The one answer of what is to be written first.
 
 ghost use Rattle.std.specs.Prelude.{[], IfOk, IfSome, IfNone};
-ghost use Rattle.bx_file_laws.specs.Keeping.{KeepsFiles};
+ghost use Rattle.bx_ready.specs.Keeping.{KeepsFiles};
 ghost use Rattle.bx_model.specs.declared.tree.Tree.{Tree};
 ghost use Rattle.bx_ready.specs.Common.{IsHeldDraft, NeedsUnheld, NoSlots, PageTree, TakesSlots, Truth, Under};
 ghost use Rattle.bx_ready.specs.Lacking.{FindsRoom, MakesRoom};

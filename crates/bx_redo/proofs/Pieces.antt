@@ -4,7 +4,7 @@ use Rattle.std.specs.List.{flat_map, AllByRecursion}
 use Rattle.std.proofs.lemmas.List.{append-nil, length-append, take_more, take_all}
 use Rattle.std.proofs.lemmas.List.Concat.{flat_map-cons}
 use Rattle.std.proofs.lemmas.Grind.{flat_map-append}
-use Rattle.bx_fields.specs.Writing.{Writes}
+use Rattle.bx_base.specs.Writing.{Writes}
 
 -- bytes that fill the whole are all of it
 pub filled : (old new bytes : List ℕ) (end : ℕ) → Writes old new 0 end bytes → length bytes ≡ length old → new ≡ bytes

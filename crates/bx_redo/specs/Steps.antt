@@ -10,7 +10,7 @@ use Rattle.bx_places.specs.Places.{IsBlock, log_start}
 use Rattle.bx_records.specs.Drafts.{Changed, IsDraft, block_in}
 use Rattle.bx_records.specs.Records.{head_text}
 use Rattle.bx_records.specs.declared.record_head.RecordHead.{RecordHead}
-use Rattle.bx_fields.specs.Writing.{padded}
+use Rattle.bx_base.specs.Writing.{padded}
 use Rattle.bx_records.specs.Runs.{KindAndRuns}
 use Rattle.bx_volume.specs.Records.{Logged}
 use Rattle.bx_redo.specs.View.{LogView}

@@ -2,14 +2,13 @@
 
 ghost use Rattle.std.specs.Prelude.{◌≡◌, ℕ, ◌+◌, ◌*◌, ◌≤◌, length, IfOk};
 ghost use Rattle.std.specs.List.{flat_map, AllByRecursion};
-ghost use Rattle.bx_fields.specs.Writing.{Writes};
+ghost use Rattle.bx_base.specs.Writing.{Writes};
 ghost use Rattle.bx_layout.specs.Blocks.{HasParts, block_text};
 ghost use Rattle.bx_records.specs.Records.{IsHead};
 ghost use Rattle.bx_volume.specs.Records.{IsLogged, logged_text};
 ghost use Rattle.bx_redo.specs.Steps.{AreBlocksOf, IsLoggable, record_bytes, record_of};
 
-use bx_base::{Numbers, OutOfMemory, Point, Raw};
-use bx_fields::put;
+use bx_base::{Numbers, OutOfMemory, Point, Raw, put};
 use bx_layout::Block;
 use bx_places::{PAYLOAD, SECTOR};
 use bx_records::{Draft, RecordHead};

@@ -9,7 +9,7 @@ use Rattle.bx_changes.specs.Growing.{IsChangeBy}
 use Rattle.bx_changes.specs.declared.error.ChangeError.{ChangeError}
 use Rattle.bx_changes.specs.declared.error.ChangeError.TheVariants.{Stopped, Full}
 use Rattle.bx_entries.specs.declared.taking.Known.{Known}
-use Rattle.bx_hints.specs.Fitting.{HintsFitAll}
+use Rattle.bx_inodes.specs.Fitting.{HintsFitAll}
 use Rattle.bx_inodes.specs.Stands.{Stands}
 use Rattle.bx_inodes.specs.declared.stop.Stop.{Stop}
 use Rattle.bx_inodes.specs.declared.stop.Stop.TheVariants.{Need, Inner, Status, OutOfMemory}
@@ -37,7 +37,7 @@ use Rattle.bx_tree_laws.proofs.Renamings.{rename_keeps}
 use Rattle.bx_tree_laws.proofs.Steps.{after_must, after_refuse}
 use Rattle.bx_truth.proofs.Cases.{eq_false, eq_true}
 use Rattle.bx_views.specs.Truths.{Held, Hints, IsTruth, Truth, with_draft}
-use Rattle.bx_ways.specs.Ways.{TellsError}
+use Rattle.bx_moving.specs.Ways.{TellsError}
 use Rattle.bx_renaming.specs.declared.places.Places.{Places}
 use Rattle.bx_renaming.specs.Found.{IsMoved, MovedFor, OtherFor}
 use Rattle.bx_renaming.specs.Places.{ArePlaces, PlacesFor}

@@ -21,7 +21,7 @@ use Rattle.bx_tree_files.specs.Files.{is_directory}
 use Rattle.bx_tree_laws.proofs.Members.{no_entries}
 use Rattle.bx_truth.proofs.Cases.{eq_false, eq_true}
 use Rattle.bx_views.specs.Truths.{Held, Hints, Truth}
-use Rattle.bx_ways.specs.Ways.{TellsError}
+use Rattle.bx_moving.specs.Ways.{TellsError}
 use Rattle.bx_renaming.specs.declared.places.Places.{Places}
 use Rattle.bx_renaming.specs.Renaming.{AreDirectories, depth_errors}
 

@@ -1,13 +1,13 @@
 -- The path of RENAME.
 use Rattle.std.specs.Prelude.{◌≡◌, ◌≢◌, ℕ, ◌⊎◌, List, [], Option, None, Some}
-use Rattle.bx_linking.specs.Finding.{OnRoomPath}
+use Rattle.bx_linking.specs.RoomFinding.{OnRoomPath}
 use Rattle.bx_base.specs.declared.names.Mode.{Mode}
 use Rattle.bx_base.specs.declared.names.Mode.TheVariants.{Exclusive}
 use Rattle.bx_blink.specs.Walks.{reads_with}
 use Rattle.bx_directory_reads.specs.Listings.{OnBehind}
 use Rattle.bx_entries.specs.declared.taking.Known.{Known}
 use Rattle.bx_files.specs.Paths.{Finds}
-use Rattle.bx_handles.specs.Handles.{named, parts_of}
+use Rattle.bx_places.specs.Handles.{named, parts_of}
 use Rattle.bx_inodes.specs.Inodes.{LiveAt}
 use Rattle.bx_inodes.specs.Stops.{OnInode}
 use Rattle.bx_layout.specs.declared.inode.Inode.{Inode}
@@ -16,7 +16,7 @@ use Rattle.bx_moving.specs.declared.moves.Replaced.{Replaced}
 use Rattle.bx_moving.specs.Moves.{OnMoving}
 use Rattle.bx_truth.specs.Keys.{name_key, name_value}
 use Rattle.bx_views.specs.Truths.{Held, Hints}
-use Rattle.bx_ways.specs.Ways.{OnWay}
+use Rattle.bx_moving.specs.Ways.{OnWay}
 use Rattle.bx_renaming.specs.declared.places.Places.{Places}
 use Rattle.bx_renaming.specs.Found.{OnEntry}
 use Rattle.bx_renaming.specs.Renaming.{move_of, replaced_by}

@@ -10,9 +10,9 @@ ghost use Rattle.bx_renaming.specs.Places.{PlacesFor, place_error as error_of, p
 
 use bx_base::{Mode, OutOfMemory};
 use bx_entries::Known;
-use bx_handles::named_handle;
 use bx_inodes::{Stop, head_of, inode_at};
 use bx_model::{ACCES, Call, NOTDIR, STALE, Want, may};
+use bx_places::named_handle;
 use bx_records::Draft;
 use bx_tree_files::{DIRECTORY, is_bad};
 use bx_views::View;

@@ -37,7 +37,7 @@ pub done_few : (lines : List Line) → AreDone lines → length lines ≤ 429496
 done_few lines done = let few = few_newest (reverse lines) done in omega (arith, length-reverse lines)
 
 -- with one line more
-pub done_push : (lines : List Line) (line : Line) → 0 < length lines → length lines < 4294967295 → AreDone lines → IsInPlace false line → IsHeard (after_lines (reverse lines)) line
+pub done_push : (lines : List Line) (line : Line) → 0 < length lines → length lines < 4294967295 → AreDone lines → IsInPlace false (after_lines (reverse lines)).nodes line → IsHeard (after_lines (reverse lines)) line
     → AreDone (lines ++ line ∷ [])
 done_push lines line some room done place heard =
     let later : (length (reverse lines) == 0) ≡ false = ne_eqb (length (reverse lines)) 0 (λ e. omega (arith, length-reverse lines)) in

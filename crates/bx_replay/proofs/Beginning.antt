@@ -9,7 +9,7 @@ use Rattle.bx_stops.specs.FromLine.{stop_of_rack}
 use Rattle.bx_replay.specs.Replay.{Begins, GivesLine, HasBeginCause, HasLineCause, UnlessDisk}
 
 -- the heading isn't read
-pub begins_unread : (stop : Stop) (text rest left : List ℕ) → GivesLine (Err stop) 1 text rest left → Begins {A = Unit {0}} (λ _ _ _. Unit {0}) (λ _. 0) (Err stop) text rest left
+pub begins_unread : (stop : Stop) (text rest left : List ℕ) → GivesLine (Err stop) 1 0 text rest left → Begins {A = Unit {0}} (λ _ _ _. Unit {0}) (λ _. 0) (λ _. 0) (Err stop) text rest left
 begins_unread (stops.Refused line reason) text rest left gives = inr gives
 begins_unread stops.ReadFault text rest left gives = gives
 begins_unread stops.WriteFault text rest left gives = absurd gives
@@ -24,7 +24,7 @@ unread_cause stops.DiskFault source source_now bench bench_now cause = absurd ca
 unread_cause stops.OutOfMemory source source_now bench bench_now cause = tt
 
 -- the bench isn't made a volume
-pub begins_unmade : (error : RackError) (text rest left : List ℕ) → Begins {A = Unit {0}} (λ _ _ _. Unit {0}) (λ _. 0) (Err (stop_of_rack error)) text rest left
+pub begins_unmade : (error : RackError) (text rest left : List ℕ) → Begins {A = Unit {0}} (λ _ _ _. Unit {0}) (λ _. 0) (λ _. 0) (Err (stop_of_rack error)) text rest left
 begins_unmade racks.Fault text rest left = tt
 begins_unmade racks.OutOfMemory text rest left = tt
 

@@ -31,6 +31,10 @@ crash_no_tick line reading node noise crash tick = cc
 pub restart_no_tick : (line : Line) (reading node moment : ℕ) → line ≡ Restart moment → line ≡ Tick reading node → ⊥
 restart_no_tick line reading node moment restart tick = cc
 
+-- ticks of one line are of one node
+pub tick_node : (reading other at node : ℕ) → Tick reading at ≡ Tick other node → at ≡ node
+tick_node reading other at node same = cc
+
 module _ {A P : Type 0} where
   pub on_ok : (r : Result A Stop) → P → OnOk r P
   on_ok (Ok x) p = p

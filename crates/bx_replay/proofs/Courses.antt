@@ -1,5 +1,5 @@
 -- How a replay's service and bench come from line to line.
-use Rattle.std.proofs.Common.{◌≡◌, ℕ, ◌+◌, ◌<◌, ◌==◌, Bool, true, List, [], ◌∷◌, Result, Ok, Err, sym, subst}
+use Rattle.std.proofs.Common.{◌≡◌, ℕ, ◌+◌, ◌<◌, ◌==◌, Bool, true, List, [], ◌∷◌, Result, Ok, Err, sym, ap, subst, ◌∙◌}
 use Rattle.std.specs.Prelude.{OnOk, reverse}
 use Rattle.std.proofs.lemmas.List.{reverse-append}
 use Rattle.bx_base.specs.Text.{BeginsWith}
@@ -23,20 +23,21 @@ pub record HasCome {S : Type 0} (rests returns : S → Bool) (turns : ℕ → On
   pub came : CameTo rests returns turns (reverse read.done) now
 
 module _ {S : Type 0} (rests returns : S → Bool) (turns : ℕ → On S → On S → Type 0) where
-  pub comes_first : (text rest : List ℕ) (volume nodes devices areas : ℕ) (now : On S) → IsInPlace true (Heading volume nodes devices areas)
-      → BeginsWith text (spelling (Heading volume nodes devices areas)) rest → HoldsAny now.disks → HasCome rests returns turns (machines_at true 0) text rest 1 now
+  pub comes_first : (text rest : List ℕ) (volume nodes devices areas : ℕ) (now : On S) → IsInPlace true 0 (Heading volume nodes devices areas)
+      → BeginsWith text (spelling (Heading volume nodes devices areas)) rest → HoldsAny nodes now.disks → HasCome rests returns turns (machines_at nodes true 0) text rest 1 now
   comes_first text rest volume nodes devices areas now place begins held = record {
     read = heading_read text rest volume nodes devices areas place begins;
     came = AtFirst (Heading volume nodes devices areas) now held;
   }
 
   pub comes_on : (machines machines_now : Machines) (text rest next : List ℕ) (number : ℕ) (line : Line) (old new : On S) → HasCome rests returns turns machines text rest number old → number < 4294967295
-      → BeginsWith rest (spelling line) next → IsInPlace ((number + 1) == 1) line → IsHeard machines line × (machines_now ≡ after_line line machines) → Moves rests returns turns line machines.up old new → HoldsAny new.disks
+      → BeginsWith rest (spelling line) next → IsInPlace ((number + 1) == 1) machines.nodes line → IsHeard machines line × (machines_now ≡ after_line line machines) → Moves rests returns turns line machines.up old new → HoldsAny machines_now.nodes new.disks
       → HasCome rests returns turns machines_now text next (number + 1) new
   comes_on machines machines_now text rest next number line old new come few begins place hears moves held = record {
     read = reads_on machines machines_now text rest next number line come.read few begins place hears;
     came = subst (λ (lines : List Line). CameTo rests returns turns lines new) (sym (reverse-append come.read.done (line ∷ [])))
-        (ByLine line (reverse come.read.done) old new come.came (subst (λ (m : Machines). Moves rests returns turns line m.up old new) come.read.machines_are moves) held);
+        (ByLine line (reverse come.read.done) old new come.came (subst (λ (m : Machines). Moves rests returns turns line m.up old new) come.read.machines_are moves)
+        (subst (λ (m : Machines). HoldsAny m.nodes new.disks) (hears.1 ∙ ap (after_line line) come.read.machines_are) held));
   }
 
   pub all_come : (machines : Machines) (text : List ℕ) (number : ℕ) (last : On S) (disks : Disks) → HasCome rests returns turns machines text [] number last → disks ≡ all_crashed last.disks Drop

@@ -1,5 +1,5 @@
 -- What is written at the end, or a part of it; and why an end isn't reached.
-use Rattle.std.proofs.Common.{◌≡◌, ℕ, Bool, List, [], ◌++◌, Option, Err, inl, inr, refl, sym, ap, ◌∙◌, take, drop, append_assoc}
+use Rattle.std.proofs.Common.{◌≡◌, ℕ, zero, suc, Bool, List, [], ◌++◌, Option, Err, inl, inr, refl, sym, ap, ◌∙◌, take, drop, append_assoc}
 use Rattle.std.specs.Prelude.{codes, filter, map}
 use Rattle.std.specs.List.{AllByRecursion}
 use Rattle.std.proofs.lemmas.List.{append-nil, take-append-drop}
@@ -37,17 +37,22 @@ not_printed stops.WriteFault before now Held bench_before bench_now cause = caus
 not_printed stops.DiskFault before now Held bench_before bench_now cause = absurd cause
 not_printed stops.OutOfMemory before now Held bench_before bench_now cause = tt
 
-module _ (tree : Tree) (of : Option Doubt) where
+module _ (nodes : ℕ) (tree : Tree) (of : ℕ → Option Doubt) where
+  -- no call in doubt acted
+  none_told : (count : ℕ) → Tells of count tree tree []
+  none_told zero = (refl, refl)
+  none_told (suc node) = (tree, [], none_told node, inl (refl, refl))
+
   -- nothing was written: it is a part of the end that tells the tree
-  pub nothing_ended : (old : List ℕ) → IsEndedShort tree of old old
-  nothing_ended old = record { next = tree; doubt = []; told = inl (refl, refl); in_range = tt; wrote = []; more = closing_text [] tree; written = sym (append-nil old); part = refl }
+  pub nothing_ended : (old : List ℕ) → IsEndedShort nodes tree of old old
+  nothing_ended old = record { next = tree; doubt = []; told = none_told nodes; in_range = tt; wrote = []; more = closing_text [] tree; written = sym (append-nil old); part = refl }
 
   -- The disks show what is told: the points that are open, of calls that lack one, and the tree.
-  module _ (lacks : ℕ → Bool) (disks : Disks) (shows : Shows lacks disks tree of) (points : List Point) (opened : AreOpen disks (opening_state 1 1) points) where
+  module _ (lacks : ℕ → Bool) (disks : Disks) (shows : Shows lacks nodes disks tree of) (points : List Point) (opened : AreOpen disks (opening_state nodes 1) points) where
     abbrev pub doubt : List Point
     doubt = filter (λ point. lacks point.call) points
 
-    told : Tells tree of shows.next doubt
+    told : Tells of nodes tree shows.next doubt
     told = rw (shows.open_is points opened) (shows.tells)
 
     whole : (lines : List TraceLine) → lines ≡ map Acted doubt → (ended (codes "end") ++ trace_text lines) ++ listing shows.next ≡ closing_text (map Acted doubt) shows.next
@@ -56,7 +61,7 @@ module _ (tree : Tree) (of : Option Doubt) where
     module _ (lines : List TraceLine) (is : lines ≡ map Acted doubt) where
       -- the word and the points weren't all written
       pub ended_in_points : (stop : Stop) (old new : List ℕ) (before now : ℕ) → HasPrintCause stop before now → Prints (Err stop) (ended (codes "end") ++ trace_text lines) old new
-          → UnlessMemory {A = Unit {0}} (Err stop) (AllByRecursion InTraceRange lines) → IsEndedShort tree of old new
+          → UnlessMemory {A = Unit {0}} (Err stop) (AllByRecursion InTraceRange lines) → IsEndedShort nodes tree of old new
       ended_in_points (stops.Refused line reason) old new before now cause prints in_range = absurd cause
       ended_in_points stops.ReadFault old new before now cause prints in_range = absurd cause
       ended_in_points stops.WriteFault old new before now cause prints in_range = record {
@@ -74,7 +79,7 @@ module _ (tree : Tree) (of : Option Doubt) where
 
       module _ (old middle text : List ℕ) (in_range : AllByRecursion InTraceRange lines) (begun : middle ≡ old ++ (ended (codes "end") ++ trace_text lines)) (listed : text ≡ listing shows.next) where
         -- the listing wasn't all written
-        pub ended_in_listing : (new : List ℕ) (n : ℕ) → new ≡ middle ++ take n text → IsEndedShort tree of old new
+        pub ended_in_listing : (new : List ℕ) (n : ℕ) → new ≡ middle ++ take n text → IsEndedShort nodes tree of old new
         ended_in_listing new n is_part = record {
           next = shows.next;
           doubt = doubt;
@@ -86,7 +91,7 @@ module _ (tree : Tree) (of : Option Doubt) where
           part = append_assoc (ended (codes "end") ++ trace_text lines) (take n text) (drop n text) ∙ ap (λ (w : List ℕ). (ended (codes "end") ++ trace_text lines) ++ w) (take-append-drop n text ∙ listed) ∙ whole lines is;
         }
 
-        pub ended_whole : (Stands : Tree → List TraceLine → Type 0) (new : List ℕ) → new ≡ middle ++ text → Stands shows.next (map Acted doubt) → IsEnded tree of Stands old new
+        pub ended_whole : (Stands : Tree → List TraceLine → Type 0) (new : List ℕ) → new ≡ middle ++ text → Stands shows.next (map Acted doubt) → IsEnded nodes tree of Stands old new
         ended_whole Stands new all stands = record {
           next = shows.next;
           doubt = doubt;

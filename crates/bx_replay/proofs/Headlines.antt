@@ -1,8 +1,8 @@
 -- A replay that stands has the headline's property.
-use Rattle.std.proofs.Common.{◌≡◌, ℕ, List, [], ◌∷◌, ◌++◌, Option, inl, inr, refl, sym, ap, ◌∙◌}
-use Rattle.std.specs.Prelude.{map, reverse}
+use Rattle.std.proofs.Common.{◌≡◌, ◌⊎◌, ℕ, zero, suc, ◌<◌, List, [], ◌∷◌, ◌++◌, Option, Some, inl, inr, refl, sym, ap, ◌∙◌, arith}
+use Rattle.std.specs.Prelude.{◌≢◌, map, reverse}
 use Rattle.std.specs.List.{AllByRecursion}
-use Rattle.std.proofs.lemmas.List.{append-nil, reverse-append, reverse-reverse}
+use Rattle.std.proofs.lemmas.List.{reverse-append, reverse-reverse}
 use Rattle.bx_script.specs.declared.line.Line.{Line}
 use Rattle.bx_base.specs.declared.names.Point.{Point}
 use Rattle.bx_script.specs.declared.trace_line.TraceLine.{TraceLine}
@@ -12,18 +12,19 @@ use Rattle.bx_script.proofs.TraceLines.{trace_text_injective}
 use Rattle.bx_desk.specs.Desks.{AtDesk}
 use Rattle.bx_history.specs.Trace as traces
 use Rattle.bx_history.specs.Legal.{LeadsNewest}
-use Rattle.bx_history.specs.Parts.{trace_of}
+use Rattle.bx_history.specs.Parts.{trace_of, waiting}
 use Rattle.bx_history.specs.Along.{Done, parts_of, schedule_of}
 use Rattle.bx_history.specs.Account.{Accounts}
 use Rattle.bx_history.proofs.Once.{one_history}
-use Rattle.bx_history.proofs.Whole.{accounts, accounts_with_doubt}
+use Rattle.bx_history.proofs.Whole.{IsClosed, accounts, closes_more, closes_none}
 use Rattle.bx_model.specs.declared.entry.Entry.{Entry}
 use Rattle.bx_model.specs.declared.tree.Tree.{Tree}
 use Rattle.bx_model.specs.History.{IsStep}
 use Rattle.bx_model.specs.Opening.{opening}
 use Rattle.bx_replay.specs.Headline.{rules, opening_of, AreTyped, Machines, Step, Headline}
-use Rattle.bx_service.specs.Rounds.{Doubt, Tells}
-use Rattle.bx_replay.specs.Replay.{Stands, waits_at}
+use Rattle.bx_service.specs.Rounds.{Doubt, IsInDoubt, Tells}
+use Rattle.bx_replay.specs.Replay.{Stands}
+use Rattle.bx_replay.proofs.Allowed.{all_push}
 use Rattle.bx_replay.proofs.OneHistory.{step_once}
 use Rattle.bx_replay.proofs.Answered.{all_reversed, entered}
 use Rattle.bx_replay.proofs.Standing.{all_append}
@@ -80,24 +81,73 @@ headline_of done closing last accounts in_range =
           (one.0 ∙ reverse-reverse accounts.history, one.1);
     }
 
-module _ (tree : Tree) (machines : Machines) (waits : List traces.Taking) (desk : AtDesk) (doubt : Option Doubt) (calls : ℕ) (done : List Done) (start written : List ℕ) (stands : Stands tree machines waits desk doubt calls done start written) where
+-- a point that is told is that of a call in doubt at one of the first so many nodes
+record IsOneOf (doubts : ℕ → Option Doubt) (nodes : ℕ) (point : Point) : Type 0 where
+  node : ℕ
+  below : node < nodes
+  of : Doubt
+  is : doubts node ≡ Some of
+  at : of.point ≡ point
+
+all_of_more : (doubts : ℕ → Option Doubt) (nodes : ℕ) (points : List Point) → AllByRecursion (IsOneOf doubts nodes) points → AllByRecursion (IsOneOf doubts (suc nodes)) points
+all_of_more doubts nodes [] all = tt
+all_of_more doubts nodes (point ∷ points) all =
+    (record { node = all.0.node; below = (let less = all.0.below in omega arith); of = all.0.of; is = all.0.is; at = all.0.at }, all_of_more doubts nodes points all.1)
+
+module _ (tree : Tree) (machines : Machines) (desks : List AtDesk) (doubts : ℕ → Option Doubt) (calls : ℕ) (done : List Done) (start written : List ℕ) (stands : Stands tree machines desks doubts calls done start written) where
   in_range : AllByRecursion InTraceRange (reverse (trace_of (parts_of done)))
   in_range = all_reversed InTraceRange (trace_of (parts_of done)) stands.in_range
 
-  pub headline : Headline (schedule_of done) (reverse (trace_of (parts_of done))) [] tree
-  headline = headline_of done [] tree (accounts Step rules (opening_of (schedule_of done)) done stands.history tree (waits_at waits) stands.accounts) (rw (append-nil (reverse (trace_of (parts_of done)))) in_range)
+  -- what is told at the end, by the calls in doubt at the first so many nodes
+  record Closes (nodes : ℕ) (next : Tree) (opened : List Point) : Type 0 where
+    closes : IsClosed Step rules (opening_of (schedule_of done)) done opened next
+    each : AllByRecursion (IsOneOf doubts nodes) opened
 
-  -- and with what is told at the end
-  pub headline_told : (next : Tree) (opened : List Point) → Tells tree doubt next opened → AllByRecursion InTraceRange (map Acted opened)
+  closing : (nodes : ℕ) (next : Tree) (opened : List Point) → Tells doubts nodes tree next opened → Closes nodes next opened
+  closing zero next opened told =
+      rw (told.0, told.1) (record { closes = closes_none Step rules (opening_of (schedule_of done)) done stands.history tree (waiting (parts_of done)) stands.accounts; each = tt })
+  closing (suc node) next opened (middle, earlier, before, now) = by (closing node middle earlier before) now
+    where
+      by : Closes node middle earlier → (((next ≡ middle) × (opened ≡ earlier)) ⊎ IsInDoubt middle (doubts node) next earlier opened) → Closes (suc node) next opened
+      by so_far (inl none) = rw (none.0, none.1) (record { closes = so_far.closes; each = all_of_more doubts node earlier so_far.each })
+      by so_far (inr told) =
+          let was = stands.doubted node told.of told.is in
+          rw (told.open_is) (record {
+            closes = closes_more Step rules (opening_of (schedule_of done)) done earlier middle next told.of.call told.of.point told.acts.reply so_far.closes was.lacks told.acts.of
+                (others earlier so_far.each) was.since (entered middle next told.of.call told.of.point told.acts.reply told.acts.step);
+            each = all_push (IsOneOf doubts (suc node)) earlier told.of.point (all_of_more doubts node earlier so_far.each) (record { node = node; below = omega arith; of = told.of; is = told.is; at = refl });
+          })
+        where
+          -- a call in doubt at another node is another call
+          apart : (point : Point) → IsOneOf doubts node point → point.call ≢ told.of.point.call
+          apart point one same =
+              let mine = stands.doubted node told.of told.is in
+              let other = stands.doubted one.node one.of one.is in
+              let number : one.of.call.call ≡ told.of.call.call = sym other.of ∙ ap (λ (p : Point). p.call) one.at ∙ same ∙ mine.of in
+              let found : traces.taking_of (trace_of (parts_of done)) told.of.call.call ≡ Some one.of.call =
+              ap (λ (n : ℕ). traces.taking_of (trace_of (parts_of done)) n) (sym number) ∙ other.lacks.taken in
+              let one_call : one.of.call ≡ told.of.call = some_is one.of.call told.of.call (sym found ∙ mine.lacks.taken) in
+              let one_node : one.node ≡ node = sym other.at ∙ ap (λ (t : traces.Taking). t.node) one_call ∙ mine.at in
+              let less = one.below in
+              omega (arith, less, one_node)
+            where
+              some_is : (a b : traces.Taking) → Some a ≡ Some b → a ≡ b
+              some_is a b e = cc
+
+          others : (points : List Point) → AllByRecursion (IsOneOf doubts node) points → AllByRecursion (λ other. other.call ≢ told.of.point.call) points
+          others [] all = tt
+          others (point ∷ points) all = (apart point all.0, others points all.1)
+
+  -- with what is told at the end
+  pub headline_told : (nodes : ℕ) (next : Tree) (opened : List Point) → Tells doubts nodes tree next opened → AllByRecursion InTraceRange (map Acted opened)
       → Headline (schedule_of done) (reverse (trace_of (parts_of done))) (map Acted opened) next
-  headline_told next opened (inl none) closing = rw (none.0, none.1) headline
-  headline_told next opened (inr told) closing =
-      let points : map Acted opened ≡ Acted told.of.point ∷ [] = ap (map Acted) told.open_is in
-      let was = stands.doubted told.of told.is in
-      rw points (headline_of done (Acted told.of.point ∷ []) next
-      (accounts_with_doubt Step rules (opening_of (schedule_of done)) done stands.history tree next (waits_at waits) told.of.call told.of.point told.acts.reply stands.accounts
-      was.lacks told.acts.of was.since (entered tree next told.of.call told.of.point told.acts.reply told.acts.step))
-      (all_append InTraceRange (reverse (trace_of (parts_of done))) (Acted told.of.point ∷ []) in_range (rw points at closing)))
+  headline_told nodes next opened told in_range_too =
+      headline_of done (map Acted opened) next
+      (accounts Step rules (opening_of (schedule_of done)) done stands.history tree next (waiting (parts_of done)) opened stands.accounts (closing nodes next opened told).closes)
+      (all_append InTraceRange (reverse (trace_of (parts_of done))) (map Acted opened) in_range in_range_too)
+
+  pub headline : Headline (schedule_of done) (reverse (trace_of (parts_of done))) [] tree
+  headline = headline_told 0 tree [] (refl, refl) tt
 
 -- before the first line
 pub no_headline : Headline [] [] [] (opening 0)

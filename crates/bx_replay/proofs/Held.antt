@@ -66,9 +66,9 @@ one_more disk d unsure within before = by (same_or d disk)
     by (inr other) = stays_sure (d == disk) unsure (before (omega (arith, within, other)))
 
 -- disks of which nothing is unsure hold what they stand for as they read
-pub held_by : (disks : Disks) (tree : Tree) → ((d s : ℕ) → disks.unsure d s ≡ false) → StandFor disks (opening_state 1 1) tree → IsHeldBy disks tree
-held_by disks tree sure stands = record {
-  each = λ image is. subst (λ (i : Image). ImageStandsFor disks.sizes (λ image told. told ≡ opening_state 1 1) i tree) (fun_ext (λ d. fun_ext (λ s. sym (is.sure d s (sure d s))))) stands;
+pub held_by : (nodes : ℕ) (disks : Disks) (tree : Tree) → ((d s : ℕ) → disks.unsure d s ≡ false) → StandFor disks (opening_state nodes 1) tree → IsHeldBy nodes disks tree
+held_by nodes disks tree sure stands = record {
+  each = λ image is. subst (λ (i : Image). ImageStandsFor disks.sizes (λ image told. told ≡ opening_state nodes 1) i tree) (fun_ext (λ d. fun_ext (λ s. sym (is.sure d s (sure d s))))) stands;
 }
 
 -- why a tree that was held isn't read back

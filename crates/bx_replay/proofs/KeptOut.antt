@@ -1,46 +1,47 @@
 -- A line that is kept out, or that may come: what a step says of it.
-use Rattle.std.proofs.Common.{◌≡◌, ℕ, Bool, true, false, List, Ok, Err, refl, ap, ◌∙◌}
+use Rattle.std.proofs.Common.{◌≡◌, ℕ, Bool, true, false, List, Ok, Err, refl, sym, ap, ◌∙◌}
 use Rattle.std.specs.Prelude.{Option, Some, None, IfSome, IsSome}
 use Rattle.bx_history.specs.Along.{Done}
 use Rattle.bx_script.specs.declared.line.Line.{Line}
 use Rattle.bx_lease.specs.Readings.{IsTooFarBack}
-use Rattle.bx_script.specs.Schedule.{node_of, reading_of}
+use Rattle.bx_script.specs.declared.line.Line.TheVariants.{Heading, Call, Run, Crash, Restart, Tick}
+use Rattle.bx_script.specs.Schedule.{is_heading, node_of, reading_of}
 use Rattle.bx_stops.specs.declared.stop.Reason.{Reason}
 use Rattle.bx_stops.specs.declared.stop.Reason.TheVariants.{Grammar, NoMachine, ClockBack, Down}
 use Rattle.bx_stops.specs.declared.stop.Stop.{Stop}
 use Rattle.bx_stops.specs.declared.stop.Stop.TheVariants as stops
-use Rattle.bx_replay.specs.Headline.{IsHeard, IsSteady, IsThere, Machines, greatest_with, machines_at, up_after}
+use Rattle.bx_replay.specs.Headline.{IsHeard, IsSteady, IsThere, Machines, greatest_with, machines_at, nodes_after, up_after}
 use Rattle.bx_replay.specs.Outcome.{IsBackBy, IsRefusedLine}
 use Rattle.bx_replay.specs.Replay.{DoesLine, HasStepCause, Hears, HearsUp, IsKeptOut}
 
 -- ---- a line that is kept out
 
-pub hears_turned_away : (stop : Stop) (number greatest : ℕ) (up : Bool) (now : Machines) (line : Line) → IsKeptOut stop number greatest line → Hears (Err stop) (machines_at up greatest) now line
-hears_turned_away (stops.Refused n Grammar) number greatest up now line kept = absurd kept
-hears_turned_away (stops.Refused n NoMachine) number greatest up now line kept = kept.1
-hears_turned_away (stops.Refused n (ClockBack by)) number greatest up now line kept = (kept.1, kept.2)
-hears_turned_away (stops.Refused n Down) number greatest up now line kept = absurd kept
-hears_turned_away stops.ReadFault number greatest up now line kept = absurd kept
-hears_turned_away stops.WriteFault number greatest up now line kept = absurd kept
-hears_turned_away stops.DiskFault number greatest up now line kept = absurd kept
-hears_turned_away stops.OutOfMemory number greatest up now line kept = absurd kept
+pub hears_turned_away : (stop : Stop) (number nodes greatest : ℕ) (up : Bool) (now : Machines) (line : Line) → IsKeptOut stop number nodes greatest line → Hears (Err stop) (machines_at nodes up greatest) now line
+hears_turned_away (stops.Refused n Grammar) number nodes greatest up now line kept = absurd kept
+hears_turned_away (stops.Refused n NoMachine) number nodes greatest up now line kept = kept.1
+hears_turned_away (stops.Refused n (ClockBack by)) number nodes greatest up now line kept = (kept.1, kept.2)
+hears_turned_away (stops.Refused n Down) number nodes greatest up now line kept = absurd kept
+hears_turned_away stops.ReadFault number nodes greatest up now line kept = absurd kept
+hears_turned_away stops.WriteFault number nodes greatest up now line kept = absurd kept
+hears_turned_away stops.DiskFault number nodes greatest up now line kept = absurd kept
+hears_turned_away stops.OutOfMemory number nodes greatest up now line kept = absurd kept
 
-pub step_turned_away : (stop : Stop) (number greatest before now : ℕ) (line : Line) → IsKeptOut stop number greatest line → HasStepCause stop number before now
-step_turned_away (stops.Refused n Grammar) number greatest before now line kept = absurd kept
-step_turned_away (stops.Refused n NoMachine) number greatest before now line kept = kept.0
-step_turned_away (stops.Refused n (ClockBack by)) number greatest before now line kept = kept.0
-step_turned_away (stops.Refused n Down) number greatest before now line kept = absurd kept
-step_turned_away stops.ReadFault number greatest before now line kept = absurd kept
-step_turned_away stops.WriteFault number greatest before now line kept = absurd kept
-step_turned_away stops.DiskFault number greatest before now line kept = absurd kept
-step_turned_away stops.OutOfMemory number greatest before now line kept = absurd kept
+pub step_turned_away : (stop : Stop) (number nodes greatest before now : ℕ) (line : Line) → IsKeptOut stop number nodes greatest line → HasStepCause stop number before now
+step_turned_away (stops.Refused n Grammar) number nodes greatest before now line kept = absurd kept
+step_turned_away (stops.Refused n NoMachine) number nodes greatest before now line kept = kept.0
+step_turned_away (stops.Refused n (ClockBack by)) number nodes greatest before now line kept = kept.0
+step_turned_away (stops.Refused n Down) number nodes greatest before now line kept = absurd kept
+step_turned_away stops.ReadFault number nodes greatest before now line kept = absurd kept
+step_turned_away stops.WriteFault number nodes greatest before now line kept = absurd kept
+step_turned_away stops.DiskFault number nodes greatest before now line kept = absurd kept
+step_turned_away stops.OutOfMemory number nodes greatest before now line kept = absurd kept
 
-pub does_turned_away : (stop : Stop) (number greatest : ℕ) (After : Type 0) (line : Line) (done : List Done) (start old : List ℕ) → IsKeptOut stop number greatest line → DoesLine (Err stop) After line done start old old
-does_turned_away (stops.Refused n reason) number greatest After line done start old kept = refl
-does_turned_away stops.ReadFault number greatest After line done start old kept = absurd kept
-does_turned_away stops.WriteFault number greatest After line done start old kept = absurd kept
-does_turned_away stops.DiskFault number greatest After line done start old kept = absurd kept
-does_turned_away stops.OutOfMemory number greatest After line done start old kept = absurd kept
+pub does_turned_away : (stop : Stop) (number nodes greatest : ℕ) (After : Type 0) (line : Line) (done : List Done) (start old : List ℕ) → IsKeptOut stop number nodes greatest line → DoesLine (Err stop) After line done start old old
+does_turned_away (stops.Refused n reason) number nodes greatest After line done start old kept = refl
+does_turned_away stops.ReadFault number nodes greatest After line done start old kept = absurd kept
+does_turned_away stops.WriteFault number nodes greatest After line done start old kept = absurd kept
+does_turned_away stops.DiskFault number nodes greatest After line done start old kept = absurd kept
+does_turned_away stops.OutOfMemory number nodes greatest After line done start old kept = absurd kept
 
 -- ---- a line that may come
 
@@ -52,8 +53,8 @@ does_broken stops.WriteFault After Other line done start old new does = does
 does_broken stops.DiskFault After Other line done start old new does = does
 does_broken stops.OutOfMemory After Other line done start old new does = does
 
-module _ (greatest : ℕ) (up : Bool) (line : Line) (there : IsThere line) (steady : IsSteady greatest line) where
-  pub hears_refused : (stop : Stop) (now_up : Bool) (now : Machines) → HearsUp (Err stop) up now_up line → Hears (Err stop) (machines_at up greatest) now line
+module _ (nodes greatest : ℕ) (up : Bool) (line : Line) (there : IsThere nodes line) (steady : IsSteady greatest line) where
+  pub hears_refused : (stop : Stop) (now_up : Bool) (now : Machines) → HearsUp (Err stop) up now_up line → Hears (Err stop) (machines_at nodes up greatest) now line
   hears_refused (stops.Refused n Grammar) now_up now hears = absurd (let same = hears.0 in cc)
   hears_refused (stops.Refused n NoMachine) now_up now hears = absurd (let same = hears.0 in cc)
   hears_refused (stops.Refused n (ClockBack by)) now_up now hears = absurd (let same = hears.0 in cc)
@@ -63,9 +64,21 @@ module _ (greatest : ℕ) (up : Bool) (line : Line) (there : IsThere line) (stea
   hears_refused stops.DiskFault now_up now hears = tt
   hears_refused stops.OutOfMemory now_up now hears = tt
 
-  pub hears_done : (now_up : Bool) (clock : ℕ) → clock ≡ greatest_with (reading_of line) greatest → HearsUp (Ok tt) up now_up line
-      → Hears (Ok tt) (machines_at up greatest) (machines_at now_up clock) line
-  hears_done now_up clock is hears = ((there, steady, hears.0), ap (λ (b : Bool). machines_at b clock) hears.1 ∙ ap (machines_at (up_after line up)) is)
+  pub hears_done : (now_up : Bool) (clock : ℕ) → nodes_after line nodes ≡ nodes → clock ≡ greatest_with (reading_of line) greatest → HearsUp (Ok tt) up now_up line
+      → Hears (Ok tt) (machines_at nodes up greatest) (machines_at nodes now_up clock) line
+  hears_done now_up clock stay is hears = (
+    (there, steady, hears.0),
+    ap (λ (n : ℕ). machines_at n now_up clock) (sym stay) ∙ ap (λ (b : Bool). machines_at (nodes_after line nodes) b clock) hears.1 ∙ ap (machines_at (nodes_after line nodes) (up_after line up)) is,
+  )
+
+-- no line behind the heading changes how many nodes there are
+pub nodes_stay : (line : Line) (nodes : ℕ) → is_heading line ≡ false → nodes_after line nodes ≡ nodes
+nodes_stay (Heading volume count devices areas) nodes is = absurd cc
+nodes_stay (Call reading node client datagram) nodes is = refl
+nodes_stay (Run reading limit) nodes is = refl
+nodes_stay (Crash noise) nodes is = refl
+nodes_stay (Restart reading) nodes is = refl
+nodes_stay (Tick reading node) nodes is = refl
 
 -- ---- a line that may come isn't refused
 

@@ -4,6 +4,7 @@ pub mod Allowed
 pub mod ReadLines
 pub mod TraceTexts
 pub mod OneHistory
+pub mod DeskLists
 pub mod Standing
 pub mod Answered
 pub mod AtOnce

@@ -6,7 +6,6 @@ use Rattle.bx_script.specs.declared.line.Line.{Line}
 use Rattle.bx_script.specs.declared.trace_line.TraceLine.{TraceLine}
 use Rattle.bx_script.specs.TraceText.{trace_text}
 use Rattle.bx_desk.specs.Desks.{AtDesk}
-use Rattle.bx_history.specs.Trace as traces
 use Rattle.bx_history.specs.Parts.{trace_of}
 use Rattle.bx_history.specs.Along.{Done, parts_of}
 use Rattle.bx_model.specs.declared.tree.Tree.{Tree}
@@ -16,18 +15,17 @@ use Rattle.bx_stops.specs.declared.stop.Stop.TheVariants as stops
 use Rattle.bx_replay.specs.Headline.{IsUpFor, Machines, up_after}
 use Rattle.bx_replay.specs.Replay.{BreaksAfter, DoesLine, HasPrintCause, HearsUp, Prints, Stands, UnlessMemory}
 
-module _ (tree : Tree) (machines : Machines) (waits : List traces.Taking) (desk : AtDesk) (doubt : Option Doubt) (calls : ℕ) (line : Line) (lines : List TraceLine) (done : List Done) (start : List ℕ) where
+module _ (tree : Tree) (machines : Machines) (desks : List AtDesk) (doubts : ℕ → Option Doubt) (calls : ℕ) (line : Line) (lines : List TraceLine) (done : List Done) (start : List ℕ) where
   abbrev StandsAt : List ℕ → Type 0
-  StandsAt written = Stands tree machines waits desk doubt calls (record { line = line; lines = lines } ∷ done) start written
+  StandsAt written = Stands tree machines desks doubts calls (record { line = line; lines = lines } ∷ done) start written
 
   -- all was written that had happened
   pub breaks_here : (written : List ℕ) → StandsAt written → BreaksAfter line done start written
   breaks_here written stands = record {
     tree = tree;
     machines = machines;
-    waits = waits;
-    desk = desk;
-    doubt = doubt;
+    desks = desks;
+    doubts = doubts;
     calls = calls;
     lines = lines;
     output = trace_text (reverse (trace_of (parts_of (record { line = line; lines = lines } ∷ done))));
@@ -48,9 +46,8 @@ module _ (tree : Tree) (machines : Machines) (waits : List traces.Taking) (desk 
       record {
         tree = tree;
         machines = machines;
-        waits = waits;
-        desk = desk;
-        doubt = doubt;
+        desks = desks;
+        doubts = doubts;
         calls = calls;
         lines = lines;
         output = output ++ take n text;

@@ -13,7 +13,7 @@ use Rattle.bx_script.specs.Schedule.{HasPlace, BeginsSchedule}
 use Rattle.bx_script.proofs.Spelled.{spelling_lacks_feed}
 use Rattle.bx_stops.specs.declared.stop.Reason.{Reason}
 use Rattle.bx_stops.specs.declared.stop.Reason.TheVariants.{Grammar, NoMachine, ClockBack, Down}
-use Rattle.bx_replay.specs.Headline.{IsHeard, IsInPlace, Machines, after_line, after_lines, machines_at}
+use Rattle.bx_replay.specs.Headline.{IsHeard, IsInPlace, Machines, after_line, after_lines, machines_at, nodes_of}
 use Rattle.bx_replay.specs.Outcome.{AreDone, IsCut, IsFirstRefused, IsReadTo, IsPlayable, IsRefusedAt, IsRefusedLine, IsTurnedAway}
 use Rattle.bx_replay.specs.Replay.{IsRead}
 use Rattle.bx_replay.proofs.Allowed.{done_begins, done_few, done_push}
@@ -69,14 +69,14 @@ not_first done number some count = ne_eqb (number + 1) 1 (λ e. omega (arith, so
 pub behind : (number : ℕ) → 0 < number → ((number + 1) == 1) ≡ false
 behind number some = ne_eqb (number + 1) 1 (λ e. omega (arith, some))
 
-abbrev pub reads_on : (machines now : Machines) (text rest next : List ℕ) (number : ℕ) (line : Line) → IsRead machines text rest number → number < 4294967295 → BeginsWith rest (spelling line) next → IsInPlace ((number + 1) == 1) line
+abbrev pub reads_on : (machines now : Machines) (text rest next : List ℕ) (number : ℕ) (line : Line) → IsRead machines text rest number → number < 4294967295 → BeginsWith rest (spelling line) next → IsInPlace ((number + 1) == 1) machines.nodes line
     → IsHeard machines line × (now ≡ after_line line machines) → IsRead now text next (number + 1)
 reads_on machines now text rest next number line so_far few begins place hears =
     let some : 0 < number = let h = so_far.headed in omega (arith, h, so_far.count) in
     record {
       done = so_far.done ++ line ∷ [];
       read = read_on text rest next so_far.done line (done_begins so_far.done so_far.are_done) so_far.read begins;
-      are_done = done_push so_far.done line so_far.headed (omega (arith, few, so_far.count)) so_far.are_done (rw (behind number some) at place)
+      are_done = done_push so_far.done line so_far.headed (omega (arith, few, so_far.count)) so_far.are_done (subst (λ (m : Machines). IsInPlace false m.nodes line) so_far.machines_are (rw (behind number some) at place))
           (subst (λ (m : Machines). IsHeard m line) so_far.machines_are hears.0);
       headed = omega (arith, length-append so_far.done (line ∷ []));
       machines_are = hears.1 ∙ ap (after_line line) so_far.machines_are ∙ sym (ap after_lines (reverse-append so_far.done (line ∷ [])));
@@ -118,34 +118,34 @@ refused_at machines text rest number so_far reason others e refused = record {
   refused = refused;
 }
 
-pub outside : (done : List Line) (number : ℕ) (first : List ℕ) (others : List (List ℕ)) → 0 < length done → number ≡ length done
-    → (4294967295 < number + 1) ⊎ ((value : Line) → IsInPlace ((number + 1) == 1) value → first ≢ spelling value) → IsRefusedAt done (first ∷ others) Grammar
-outside done number first others some count (inl many) = inl (omega (arith, count))
-outside done number first others some count (inr none) = inr (λ value place. none value (rw (not_first done number some count) place))
+pub outside : (done : List Line) (number nodes : ℕ) (first : List ℕ) (others : List (List ℕ)) → 0 < length done → number ≡ length done → nodes ≡ nodes_of done
+    → (4294967295 < number + 1) ⊎ ((value : Line) → IsInPlace ((number + 1) == 1) nodes value → first ≢ spelling value) → IsRefusedAt done (first ∷ others) Grammar
+outside done number nodes first others some count are (inl many) = inl (omega (arith, count))
+outside done number nodes first others some count are (inr none) = inr (λ value place. none value (rw (not_first done number some count, are) place))
 
-abbrev pub refused_outside : (machines : Machines) (text rest : List ℕ) (number : ℕ) → IsRead machines text rest number → IsRefusedHere rest (number + 1) → IsFirstRefused text (number + 1) Grammar
+abbrev pub refused_outside : (machines : Machines) (text rest : List ℕ) (number : ℕ) → IsRead machines text rest number → IsRefusedHere rest (number + 1) machines.nodes → IsFirstRefused text (number + 1) Grammar
 refused_outside machines text rest number so_far here =
-    refused_at machines text rest number so_far Grammar (here.0 ∷ here.1) here.2 (outside so_far.done number here.0 here.1 so_far.headed so_far.count here.3)
+    refused_at machines text rest number so_far Grammar (here.0 ∷ here.1) here.2 (outside so_far.done number machines.nodes here.0 here.1 so_far.headed so_far.count (ap (λ (m : Machines). m.nodes) so_far.machines_are) here.3)
 
 -- a line in the grammar is turned away
 turned_away : (machines : Machines) (done : List Line) (number : ℕ) (line : Line) (reason : Reason) → 0 < length done → number ≡ length done → machines ≡ after_lines (reverse done)
-    → IsInPlace ((number + 1) == 1) line → IsRefusedLine reason machines line → IsTurnedAway (length done == 0) (after_lines (reverse done)) (spelling line) reason
+    → IsInPlace ((number + 1) == 1) machines.nodes line → IsRefusedLine reason machines line → IsTurnedAway (length done == 0) (after_lines (reverse done)) (spelling line) reason
 turned_away machines done number line reason some count are place why = record {
   value = line;
-  in_place = rw (not_first done number some count) at place;
+  in_place = subst (λ (m : Machines). IsInPlace (length done == 0) m.nodes line) are (rw (not_first done number some count) at place);
   spelled = refl;
   why = subst (λ (m : Machines). IsRefusedLine reason m line) are why;
 }
 
 pub line_refused_at : (machines : Machines) (done : List Line) (number : ℕ) (line : Line) (others : List (List ℕ)) (reason : Reason) → 0 < length done → number ≡ length done → number < 4294967295
-    → machines ≡ after_lines (reverse done) → IsInPlace ((number + 1) == 1) line → IsRefusedLine reason machines line → IsRefusedAt done (spelling line ∷ others) reason
+    → machines ≡ after_lines (reverse done) → IsInPlace ((number + 1) == 1) machines.nodes line → IsRefusedLine reason machines line → IsRefusedAt done (spelling line ∷ others) reason
 line_refused_at machines done number line others Grammar some count few are place why = absurd why
 line_refused_at machines done number line others NoMachine some count few are place why = (omega (arith, few, count), turned_away machines done number line NoMachine some count are place why)
 line_refused_at machines done number line others (ClockBack by) some count few are place why = (omega (arith, few, count), turned_away machines done number line (ClockBack by) some count are place why)
 line_refused_at machines done number line others Down some count few are place why = (omega (arith, few, count), turned_away machines done number line Down some count are place why)
 
 abbrev pub refused_line : (machines : Machines) (text rest next : List ℕ) (number : ℕ) (line : Line) → IsRead machines text rest number → number < 4294967295 → BeginsWith rest (spelling line) next
-    → IsInPlace ((number + 1) == 1) line → (reason : Reason) → IsRefusedLine reason machines line → IsFirstRefused text (number + 1) reason
+    → IsInPlace ((number + 1) == 1) machines.nodes line → (reason : Reason) → IsRefusedLine reason machines line → IsFirstRefused text (number + 1) reason
 refused_line machines text rest next number line so_far few begins place reason why =
     refused_at machines text rest number so_far reason (spelling line ∷ lines_of next) (lines_of-begins rest (spelling line) next begins)
     (line_refused_at machines so_far.done number line (lines_of next) reason so_far.headed so_far.count few so_far.machines_are place why)
@@ -161,17 +161,17 @@ begins_refused text others e refused = record { done = []; others = others; read
 abbrev pub refused_empty : (text : List ℕ) → text ≡ [] → IsFirstRefused text 1 Grammar
 refused_empty text e = begins_refused text [] (ap lines_of e) refl
 
-pub first_outside : (first : List ℕ) (others : List (List ℕ)) → (4294967295 < 1) ⊎ ((value : Line) → IsInPlace (1 == 1) value → first ≢ spelling value) → IsRefusedAt [] (first ∷ others) Grammar
+pub first_outside : (first : List ℕ) (others : List (List ℕ)) → (4294967295 < 1) ⊎ ((value : Line) → IsInPlace (1 == 1) 0 value → first ≢ spelling value) → IsRefusedAt [] (first ∷ others) Grammar
 first_outside first others (inl many) = absurd (omega arith)
 first_outside first others (inr none) = inr none
 
-abbrev pub refused_first : (text : List ℕ) → IsRefusedHere text 1 → IsFirstRefused text 1 Grammar
+abbrev pub refused_first : (text : List ℕ) → IsRefusedHere text 1 0 → IsFirstRefused text 1 Grammar
 refused_first text here = begins_refused text (here.0 ∷ here.1) here.2 (first_outside here.0 here.1 here.3)
 
 abbrev pub cut_first : (text piece left : List ℕ) → text ≡ piece ++ left → LacksFeed piece → length piece ≤ 18600 → IsCut text left
 cut_first text piece left e lacks short = record { done = []; piece = piece; read = inl e; lacks = lacks; short = short; are_done = none_done }
 
-abbrev pub heading_read : (text rest : List ℕ) (volume nodes devices areas : ℕ) → IsInPlace true (Heading volume nodes devices areas) → BeginsWith text (spelling (Heading volume nodes devices areas)) rest → IsRead (machines_at true 0) text rest 1
+abbrev pub heading_read : (text rest : List ℕ) (volume nodes devices areas : ℕ) → IsInPlace true 0 (Heading volume nodes devices areas) → BeginsWith text (spelling (Heading volume nodes devices areas)) rest → IsRead (machines_at nodes true 0) text rest 1
 heading_read text rest volume nodes devices areas place begins = record {
   done = Heading volume nodes devices areas ∷ [];
   read = read_on text text rest [] (Heading volume nodes devices areas) tt (inl refl) begins;

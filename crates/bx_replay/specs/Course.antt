@@ -49,8 +49,8 @@ pub record Moves {S : Type 0} (rests returns : S → Bool) (turns : ℕ → On S
 -- What a service and its disks came to along these lines, the newest first. After each of them the disks hold a file tree, however what is unsure on
 -- them is lost.
 pub data CameTo {S : Type 0} (rests returns : S → Bool) (turns : ℕ → On S → On S → Type 0) : List Line → On S → Type 0 where
-  AtFirst : (heading : Line) (new : On S) → HoldsAny new.disks → CameTo rests returns turns (heading ∷ []) new
-  ByLine : (line : Line) (before : List Line) (old new : On S) → CameTo rests returns turns before old → Moves rests returns turns line (after_lines before).up old new → HoldsAny new.disks
+  AtFirst : (heading : Line) (new : On S) → HoldsAny (after_lines (heading ∷ [])).nodes new.disks → CameTo rests returns turns (heading ∷ []) new
+  ByLine : (line : Line) (before : List Line) (old new : On S) → CameTo rests returns turns before old → Moves rests returns turns line (after_lines before).up old new → HoldsAny (after_lines (line ∷ before)).nodes new.disks
       → CameTo rests returns turns (line ∷ before) new
 
 -- The disks at the end of a text that was played: what they came to along its lines, with what was unsure dropped then from each.

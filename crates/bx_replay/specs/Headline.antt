@@ -1,5 +1,5 @@
 -- The headline: what a trace along a schedule says of the file tree.
-use Rattle.std.specs.Prelude.{◌≡◌, ◌≤◌, ℕ, max, Bool, true, false, List, [], ◌∷◌, ◌++◌, Option, Some, None, IfSome, IsSome}
+use Rattle.std.specs.Prelude.{◌≡◌, ◌<◌, ◌≤◌, ℕ, max, Bool, true, false, List, [], ◌∷◌, ◌++◌, reverse, Option, Some, None, IfSome, IsSome}
 use Rattle.std.specs.List.{AllByRecursion}
 use Rattle.bx_script.specs.declared.line.Line.{Line}
 use Rattle.bx_script.specs.declared.line.Line.TheVariants.{Heading, Call, Run, Crash, Restart, Tick}
@@ -18,6 +18,7 @@ use Rattle.bx_model.specs.History.{IsStep}
 use Rattle.bx_nfs.specs.Wire.{ReadsAs, reply_text}
 use Rattle.bx_rpc.specs.Message.{is_message}
 use Rattle.bx_service.specs.AtOnce.{IsAtOnce}
+use Rattle.bx_service.specs.Rounds.{most_nodes}
 
 -- A datagram that is a call is taken where fewer than 64 wait at its node, and it repeats none that waits and none of the last 256 that the node
 -- answered; for a repeat of such a call the answer is sent again. A call that touches no block is answered where it is taken, if the clock reads
@@ -71,26 +72,37 @@ pub record Headline (schedule : List Line) (trace closing : List TraceLine) (las
   pub only : (others : List traces.Entry) (tree : Tree) → traces.Fits rules.kept (trace ++ closing) others → Leads Step (opening_of schedule) others tree
       → (others ≡ bytes) × (tree ≡ last)
 
--- a line that this stage has: the heading has one node, one device and one area
-abbrev pub IsBuilt : Line → Type 0
-IsBuilt (Heading volume nodes devices areas) = (nodes ≡ 1) × (devices ≡ 1) × (areas ≡ 1)
-IsBuilt (Call reading node client datagram) = Unit {0}
-IsBuilt (Run reading limit) = Unit {0}
-IsBuilt (Crash noise) = Unit {0}
-IsBuilt (Restart reading) = Unit {0}
-IsBuilt (Tick reading node) = Unit {0}
+-- A line that this stage has, by the nodes that the heading has: the heading has as many nodes as a service may, one device and one area; machines
+-- crash and come back where there is one.
+abbrev pub IsBuilt : ℕ → Line → Type 0
+IsBuilt nodes (Heading volume count devices areas) = (count ≤ most_nodes) × (devices ≡ 1) × (areas ≡ 1)
+IsBuilt nodes (Call reading node client datagram) = Unit {0}
+IsBuilt nodes (Run reading limit) = Unit {0}
+IsBuilt nodes (Crash noise) = nodes ≡ 1
+IsBuilt nodes (Restart reading) = nodes ≡ 1
+IsBuilt nodes (Tick reading node) = Unit {0}
 
 -- such a line, in its place
-abbrev pub IsInPlace : Bool → Line → Type 0
-IsInPlace first line = HasPlace first line × IsBuilt line
+abbrev pub IsInPlace : Bool → ℕ → Line → Type 0
+IsInPlace first nodes line = HasPlace first line × IsBuilt nodes line
 
--- whether the machines are up, and the greatest reading of a clock so far, in milliseconds
+-- how many nodes there are, 0 before the heading; whether the machines are up, and the greatest reading of a clock so far, in milliseconds
 pub record Machines : Type 0 where
+  pub nodes : ℕ
   pub up : Bool
   pub greatest : ℕ
 
-abbrev pub machines_at : Bool → ℕ → Machines
-machines_at up greatest = record { up = up; greatest = greatest }
+abbrev pub machines_at : ℕ → Bool → ℕ → Machines
+machines_at nodes up greatest = record { nodes = nodes; up = up; greatest = greatest }
+
+-- how many nodes there are after a line
+abbrev pub nodes_after : Line → ℕ → ℕ
+nodes_after (Heading volume count devices areas) nodes = count
+nodes_after (Call reading node client datagram) nodes = nodes
+nodes_after (Run reading limit) nodes = nodes
+nodes_after (Crash noise) nodes = nodes
+nodes_after (Restart reading) nodes = nodes
+nodes_after (Tick reading node) nodes = nodes
 
 -- whether the machines are up after a line, by whether they were before it
 abbrev pub up_after : Line → Bool → Bool
@@ -107,16 +119,20 @@ greatest_with None greatest = greatest
 greatest_with (Some reading) greatest = max greatest reading
 
 abbrev pub after_line : Line → Machines → Machines
-after_line line machines = machines_at (up_after line machines.up) (greatest_with (reading_of line) machines.greatest)
+after_line line machines = machines_at (nodes_after line machines.nodes) (up_after line machines.up) (greatest_with (reading_of line) machines.greatest)
 
 -- and after these lines, the newest first; they are up at first, and no clock was read
 abbrev pub after_lines : List Line → Machines
-after_lines [] = machines_at true 0
+after_lines [] = machines_at 0 true 0
 after_lines (line ∷ before) = after_line line (after_lines before)
 
--- the node that a line names is there: at this stage there is node 0 alone
-abbrev pub IsThere : Line → Type 0
-IsThere line = IfSome (node_of line) (λ node. node ≡ 0)
+-- the nodes that a schedule has
+abbrev pub nodes_of : List Line → ℕ
+nodes_of schedule = (after_lines (reverse schedule)).nodes
+
+-- the node that a line names is there
+abbrev pub IsThere : ℕ → Line → Type 0
+IsThere nodes line = IfSome (node_of line) (λ node. node < nodes)
 
 -- the reading of a line lies at most 500 ms behind the greatest one before it
 abbrev pub IsSteady : ℕ → Line → Type 0
@@ -132,4 +148,4 @@ IsUpFor up line = IfSome (node_of line) (λ node. up ≡ true)
 
 -- A line that may come: its node is there, its reading doesn't lie too far back, and whoever has to hear it is up.
 abbrev pub IsHeard : Machines → Line → Type 0
-IsHeard machines line = IsThere line × IsSteady machines.greatest line × IsUpFor machines.up line
+IsHeard machines line = IsThere machines.nodes line × IsSteady machines.greatest line × IsUpFor machines.up line

@@ -12,13 +12,13 @@ use Rattle.bx_model.specs.declared.tree.Tree.{Tree}
 use Rattle.bx_model.specs.Listing.{listing}
 use Rattle.bx_stops.specs.declared.stop.Reason.{Reason}
 use Rattle.bx_stops.specs.declared.stop.Reason.TheVariants.{Grammar, NoMachine, ClockBack, Down}
-use Rattle.bx_replay.specs.Headline.{Asks, Headline, IsHeard, IsInPlace, IsSteady, IsThere, Machines, after_lines}
+use Rattle.bx_replay.specs.Headline.{Asks, Headline, IsHeard, IsInPlace, IsSteady, IsThere, Machines, after_lines, nodes_of}
 
 -- A line may be done behind these, the newest of which comes first: there is room for it, it has its place and is one of this stage, and it may
 -- come then.
 pub record Allows (before : List Line) (line : Line) : Type 0 where
   pub few : length before < 4294967295
-  pub in_place : IsInPlace (length before == 0) line
+  pub in_place : IsInPlace (length before == 0) (after_lines before).nodes line
   pub heard : IsHeard (after_lines before) line
 
 -- the lines that a replay has done, the oldest first: each was allowed behind those before it
@@ -35,15 +35,15 @@ pub record IsPlayable (text : List ℕ) : Type 0 where
   pub read : IsSchedule (lines_of text) schedule
   pub are_done : AreDone schedule
 
--- The output is the trace of such a text, `end`, closing lines, and the listing of the tree after it, which stand so.
-pub record IsReplayed (text : List ℕ) (Stands : Tree → List TraceLine → Type 0) (output : List ℕ) : Type 0 where
+-- The output is the trace of such a text, `end`, closing lines, and the listing of the tree after it, which stand so for its nodes.
+pub record IsReplayed (text : List ℕ) (Stands : ℕ → Tree → List TraceLine → Type 0) (output : List ℕ) : Type 0 where
   pub input : IsPlayable text
   pub trace : List TraceLine
   pub closing : List TraceLine
   pub last : Tree
   pub headline : Headline input.schedule trace closing last
   pub output-is : output ≡ trace_text trace ++ closing_text closing last
-  pub stands : Stands last closing
+  pub stands : Stands (nodes_of input.schedule) last closing
 
 -- a reading lies further behind the greatest one than clocks may differ, by so much
 abbrev pub IsBackBy : ℕ → Option ℕ → ℕ → Type 0
@@ -53,21 +53,21 @@ IsBackBy greatest reading by = IsSomeAnd reading (λ r. IsTooFarBack greatest r 
 -- back; the machines are down, and one has to hear it.
 abbrev pub IsRefusedLine : Reason → Machines → Line → Type 0
 IsRefusedLine Grammar machines line = ⊥
-IsRefusedLine NoMachine machines line = IsThere line → ⊥
-IsRefusedLine (ClockBack by) machines line = IsThere line × IsBackBy machines.greatest (reading_of line) by
-IsRefusedLine Down machines line = IsThere line × IsSteady machines.greatest line × (machines.up ≡ false) × Asks line
+IsRefusedLine NoMachine machines line = IsThere machines.nodes line → ⊥
+IsRefusedLine (ClockBack by) machines line = IsThere machines.nodes line × IsBackBy machines.greatest (reading_of line) by
+IsRefusedLine Down machines line = IsThere machines.nodes line × IsSteady machines.greatest line × (machines.up ≡ false) × Asks line
 
 -- the text spells a line that has its place there, and that is refused so
 pub record IsTurnedAway (first : Bool) (machines : Machines) (text : List ℕ) (reason : Reason) : Type 0 where
   pub value : Line
-  pub in_place : IsInPlace first value
+  pub in_place : IsInPlace first machines.nodes value
   pub spelled : text ≡ spelling value
   pub why : IsRefusedLine reason machines value
 
 -- A line of text is refused behind these lines, for a reason. The text decides that it is outside the grammar: no line of this stage
 -- that has its place there is spelled so, or there is no room for one.
 abbrev pub Refuses : List Line → List ℕ → Reason → Type 0
-Refuses before text Grammar = (4294967295 ≤ length before) ⊎ ((value : Line) → IsInPlace (length before == 0) value → text ≢ spelling value)
+Refuses before text Grammar = (4294967295 ≤ length before) ⊎ ((value : Line) → IsInPlace (length before == 0) (nodes_of before) value → text ≢ spelling value)
 Refuses before text NoMachine = (length before < 4294967295) × IsTurnedAway (length before == 0) (after_lines (reverse before)) text NoMachine
 Refuses before text (ClockBack by) = (length before < 4294967295) × IsTurnedAway (length before == 0) (after_lines (reverse before)) text (ClockBack by)
 Refuses before text Down = (length before < 4294967295) × IsTurnedAway (length before == 0) (after_lines (reverse before)) text Down

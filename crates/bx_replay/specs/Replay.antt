@@ -1,5 +1,5 @@
 -- How a replay stands between two lines.
-use Rattle.std.specs.Prelude.{◌≡◌, ◌≢◌, ℕ, ◌<◌, ◌≤◌, ◌==◌, if◌then◌else◌, Bool, true, false, List, [], ◌∷◌, ◌++◌, length, map, reverse, take, Result, Ok, Err, Option, Some, None, ◌⊎◌}
+use Rattle.std.specs.Prelude.{◌≡◌, ◌≢◌, ℕ, ◌<◌, ◌≤◌, ◌==◌, Bool, true, false, List, [], ◌∷◌, ◌++◌, length, map, reverse, slice_get, slice_set, take, Result, Ok, Err, Option, Some, None, ◌⊎◌, ◌↔◌}
 use Rattle.std.specs.List.{AllByRecursion}
 use Rattle.bx_base.specs.declared.names.Point.{Point}
 use Rattle.bx_base.specs.Faults.{Rose}
@@ -12,15 +12,16 @@ use Rattle.bx_script.specs.Schedule.{reading_of}
 use Rattle.bx_script.specs.ScheduleLine.{spelling}
 use Rattle.bx_script.specs.TraceText.{InTraceRange, trace_text}
 use Rattle.bx_desk.specs.Desks.{AtDesk, answered}
-use Rattle.bx_desk.specs.Nodes.{IsDeskOf, taking_at}
+use Rattle.bx_desk.specs.Nodes.{IsDeskOf}
 use Rattle.bx_history.specs.Trace as traces
-use Rattle.bx_history.specs.Parts.{trace_of}
+use Rattle.bx_history.specs.Trace.{IsIn}
+use Rattle.bx_history.specs.Parts.{trace_of, waiting}
 use Rattle.bx_history.specs.Placed.{HasReadingSince}
 use Rattle.bx_history.specs.Along.{Done, parts_of, schedule_of}
 use Rattle.bx_history.specs.Account.{AwaitsNewest, LacksPoint}
 use Rattle.bx_model.specs.Opening.{opening}
 use Rattle.bx_model.specs.declared.tree.Tree.{Tree}
-use Rattle.bx_service.specs.Rounds.{Doubt, Tells}
+use Rattle.bx_service.specs.Rounds.{Doubt, Tells, no_doubts}
 use Rattle.bx_service.specs.declared.event.Event.{Event}
 use Rattle.bx_service.specs.declared.event.Event.TheVariants.{Answered, Found}
 use Rattle.bx_stops.specs.declared.stop.Reason.TheVariants.{Grammar, NoMachine, ClockBack, Down}
@@ -29,27 +30,31 @@ use Rattle.bx_stops.specs.declared.stop.Stop.TheVariants as stops
 use Rattle.bx_replay.specs.Headline.{Asks, rules, opening_of, IsHeard, IsInPlace, IsThere, IsUpFor, Machines, Step, after_line, after_lines, up_after}
 use Rattle.bx_replay.specs.Outcome.{AreDone, IsBackBy, IsBroken, IsCut, IsCutOff, IsFirstRefused, IsReadTo, IsRefused, IsRefusedLine, IsPlayable, IsReplayed, closing_text}
 
--- the calls that wait at each node, the newest first: all of them wait at node 0
-abbrev pub waits_at : List traces.Taking → ℕ → List traces.Taking
-waits_at waits node = if 0 == node then reverse waits else []
+-- A replay of so many nodes has a service of as many, and a desk for each.
+pub record HasNodes (nodes service desks : ℕ) : Type 0 where
+  pub of_service : service ≡ nodes
+  pub of_desks : desks ≡ nodes
 
--- A call in doubt has no point in the trace, and its record's moment is a reading since it was taken.
-pub record IsDoubted (done : List Done) (doubt : Doubt) : Type 0 where
+-- the calls that wait are those that these lines leave waiting, each at its node
+abbrev pub AreWaiting : (traces.Taking → Type 0) → List Done → Type 0
+AreWaiting waits done = (call : traces.Taking) → waits call ↔ IsIn call (waiting (parts_of done) call.node)
+
+-- A call in doubt at a node has no point in the trace, and its record's moment is a reading since it was taken.
+pub record IsDoubted (node : ℕ) (done : List Done) (doubt : Doubt) : Type 0 where
+  pub at : doubt.call.node ≡ node
   pub of : doubt.point.call ≡ doubt.call.call
   pub lacks : LacksPoint (trace_of (parts_of done)) doubt.call
   pub since : HasReadingSince doubt.point.call doubt.point.moment (parts_of done)
 
--- After these lines, the newest first, the tree, the calls that wait, the oldest first, the desk and the count of calls are those that the trace
--- leaves, and the machines and their clocks are so; what is in doubt may be told later; and what was written since the start is that trace, whose
--- lines are in range.
-pub record Stands (tree : Tree) (machines : Machines) (waits : List traces.Taking) (desk : AtDesk) (doubt : Option Doubt) (calls : ℕ) (done : List Done) (start written : List ℕ) : Type 0 where
+-- After these lines, the newest first, the tree, the desks of the nodes and the count of calls are those that the trace leaves, and the machines and
+-- their clocks are so; what is in doubt may be told later; and what was written since the start is that trace, whose lines are in range.
+pub record Stands (tree : Tree) (machines : Machines) (desks : List AtDesk) (doubts : ℕ → Option Doubt) (calls : ℕ) (done : List Done) (start written : List ℕ) : Type 0 where
   pub history : List traces.Entry
-  pub accounts : AwaitsNewest Step rules (opening_of (schedule_of done)) (parts_of done) history tree (waits_at waits)
+  pub accounts : AwaitsNewest Step rules (opening_of (schedule_of done)) (parts_of done) history tree (waiting (parts_of done))
   pub counted : calls ≡ traces.taken_count (trace_of (parts_of done))
-  pub desk_is : IsDeskOf 0 (parts_of done) desk
-  pub desk_waits : waits ≡ map (taking_at 0) desk.waits
+  pub desks_are : (node : ℕ) (desk : AtDesk) → slice_get desks node ≡ Some desk → IsDeskOf node (parts_of done) desk
   pub machines_are : machines ≡ after_lines (reverse (schedule_of done))
-  pub doubted : (of : Doubt) → doubt ≡ Some of → IsDoubted done of
+  pub doubted : (node : ℕ) (of : Doubt) → doubts node ≡ Some of → IsDoubted node done of
   pub headed : 0 < length (schedule_of done)
   pub are_done : AreDone (schedule_of done)
   pub in_range : AllByRecursion InTraceRange (trace_of (parts_of done))
@@ -97,17 +102,17 @@ UnlessDisk (Err stops.OutOfMemory) P = P
 
 -- ---- reading a line
 
--- what a read of a line gives, by what was there to read and what is behind the line
-abbrev pub GivesLine : Result (Option Line) Stop → ℕ → List ℕ → List ℕ → List ℕ → Type 0
-GivesLine (Ok (Some line)) number text rest left = BeginsWith text (spelling line) rest
-GivesLine (Ok None) number text rest left = (text ≡ []) × (left ≡ [])
-GivesLine (Err (stops.Refused line reason)) number text rest left =
+-- what a read of a line gives, by its number and how many nodes there are, what was there to read and what is behind the line
+abbrev pub GivesLine : Result (Option Line) Stop → ℕ → ℕ → List ℕ → List ℕ → List ℕ → Type 0
+GivesLine (Ok (Some line)) number nodes text rest left = BeginsWith text (spelling line) rest
+GivesLine (Ok None) number nodes text rest left = (text ≡ []) × (left ≡ [])
+GivesLine (Err (stops.Refused line reason)) number nodes text rest left =
     (first : List ℕ) × (others : List (List ℕ)) × (lines_of text ≡ first ∷ others)
-    × ((4294967295 < number) ⊎ ((value : Line) → IsInPlace (number == 1) value → first ≢ spelling value))
-GivesLine (Err stops.ReadFault) number text rest left = (piece : List ℕ) × (text ≡ piece ++ left) × LacksFeed piece × (length piece ≤ 18600)
-GivesLine (Err stops.WriteFault) number text rest left = ⊥
-GivesLine (Err stops.DiskFault) number text rest left = ⊥
-GivesLine (Err stops.OutOfMemory) number text rest left = Unit {0}
+    × ((4294967295 < number) ⊎ ((value : Line) → IsInPlace (number == 1) nodes value → first ≢ spelling value))
+GivesLine (Err stops.ReadFault) number nodes text rest left = (piece : List ℕ) × (text ≡ piece ++ left) × LacksFeed piece × (length piece ≤ 18600)
+GivesLine (Err stops.WriteFault) number nodes text rest left = ⊥
+GivesLine (Err stops.DiskFault) number nodes text rest left = ⊥
+GivesLine (Err stops.OutOfMemory) number nodes text rest left = Unit {0}
 
 -- why a read of a line stops short
 abbrev pub HasLineCause : Stop → ℕ → ℕ → ℕ → Type 0
@@ -120,26 +125,26 @@ HasLineCause stops.OutOfMemory number before now = Unit {0}
 -- ---- doing a line
 
 -- a tree is held, and the replay stands for it with one line more
-pub record StandsAfter (Holds : Tree → Option Doubt → Type 0) (machines : Machines) (waits : List traces.Taking) (desk : AtDesk) (calls : ℕ) (line : Line) (done : List Done) (start written : List ℕ) : Type 0 where
+pub record StandsAfter (Holds : Tree → (ℕ → Option Doubt) → Type 0) (waits : traces.Taking → Type 0) (machines : Machines) (desks : List AtDesk) (calls : ℕ) (line : Line) (done : List Done) (start written : List ℕ) : Type 0 where
   pub tree : Tree
-  pub doubt : Option Doubt
-  pub holds : Holds tree doubt
+  pub doubts : ℕ → Option Doubt
+  pub holds : Holds tree doubts
   pub lines : List TraceLine
-  pub stands : Stands tree machines waits desk doubt calls (record { line = line; lines = lines } ∷ done) start written
+  pub waiting_are : AreWaiting waits (record { line = line; lines = lines } ∷ done)
+  pub stands : Stands tree machines desks doubts calls (record { line = line; lines = lines } ∷ done) start written
 
 -- The replay would stand with one line more, but only a part of the trace was written.
 pub record BreaksAfter (line : Line) (done : List Done) (start written : List ℕ) : Type 0 where
   pub tree : Tree
   pub machines : Machines
-  pub waits : List traces.Taking
-  pub desk : AtDesk
-  pub doubt : Option Doubt
+  pub desks : List AtDesk
+  pub doubts : ℕ → Option Doubt
   pub calls : ℕ
   pub lines : List TraceLine
   pub output : List ℕ
   pub more : List ℕ
   pub added : written ≡ start ++ output
-  pub after : Stands tree machines waits desk doubt calls (record { line = line; lines = lines } ∷ done) start (written ++ more)
+  pub after : Stands tree machines desks doubts calls (record { line = line; lines = lines } ∷ done) start (written ++ more)
 
 -- a line that is done may come, and the machines are as it leaves them; one that is refused has its reason
 abbrev pub Hears : Result (Unit {0}) Stop → Machines → Machines → Line → Type 0
@@ -169,15 +174,15 @@ DoesLine (Err stops.DiskFault) After line done start old new = ⊥
 DoesLine (Err stops.OutOfMemory) After line done start old new = (new ≡ old) ⊎ BreaksAfter line done start new
 
 -- A line with this number is refused for the node that it names, or for its reading.
-abbrev pub IsKeptOut : Stop → ℕ → ℕ → Line → Type 0
-IsKeptOut (stops.Refused line Grammar) number greatest value = ⊥
-IsKeptOut (stops.Refused line NoMachine) number greatest value = (line ≡ number) × (IsThere value → ⊥)
-IsKeptOut (stops.Refused line (ClockBack by)) number greatest value = (line ≡ number) × IsThere value × IsBackBy greatest (reading_of value) by
-IsKeptOut (stops.Refused line Down) number greatest value = ⊥
-IsKeptOut stops.ReadFault number greatest value = ⊥
-IsKeptOut stops.WriteFault number greatest value = ⊥
-IsKeptOut stops.DiskFault number greatest value = ⊥
-IsKeptOut stops.OutOfMemory number greatest value = ⊥
+abbrev pub IsKeptOut : Stop → ℕ → ℕ → ℕ → Line → Type 0
+IsKeptOut (stops.Refused line Grammar) number nodes greatest value = ⊥
+IsKeptOut (stops.Refused line NoMachine) number nodes greatest value = (line ≡ number) × (IsThere nodes value → ⊥)
+IsKeptOut (stops.Refused line (ClockBack by)) number nodes greatest value = (line ≡ number) × IsThere nodes value × IsBackBy greatest (reading_of value) by
+IsKeptOut (stops.Refused line Down) number nodes greatest value = ⊥
+IsKeptOut stops.ReadFault number nodes greatest value = ⊥
+IsKeptOut stops.WriteFault number nodes greatest value = ⊥
+IsKeptOut stops.DiskFault number nodes greatest value = ⊥
+IsKeptOut stops.OutOfMemory number nodes greatest value = ⊥
 
 -- why doing a line stops short
 abbrev pub HasStepCause : Stop → ℕ → ℕ → ℕ → Type 0
@@ -187,12 +192,21 @@ HasStepCause stops.WriteFault number before now = Rose before now
 HasStepCause stops.DiskFault number before now = ⊥
 HasStepCause stops.OutOfMemory number before now = Unit {0}
 
--- ---- the desk
+-- ---- the desks
 
--- the desk once this was done in a round
-abbrev pub desk_then : AtDesk → Event → AtDesk
-desk_then desk (Answered acted) = answered desk acted.reply
-desk_then desk (Found point) = desk
+-- the desk of a node, where it has one
+abbrev pub answered_at : List AtDesk → ℕ → Option AtDesk → ℕ → List ℕ → List AtDesk
+answered_at desks node None number reply = desks
+answered_at desks node (Some desk) number reply = slice_set desks node (answered desk number reply)
+
+-- the desks once this was done in a round: a call with this number is answered at its node
+abbrev pub desks_then : List AtDesk → Event → List AtDesk
+desks_then desks (Answered acted) = answered_at desks acted.node (slice_get desks acted.node) acted.point.call acted.reply
+desks_then desks (Found point) = desks
+
+abbrev pub desks_after : List AtDesk → List Event → List AtDesk
+desks_after desks [] = desks
+desks_after desks (event ∷ events) = desks_after (desks_then desks event) events
 
 -- ---- printing
 
@@ -200,6 +214,10 @@ desk_then desk (Found point) = desk
 abbrev pub told_at : Event → List TraceLine
 told_at (Answered acted) = Acted acted.point ∷ Reply acted.point.call acted.reply ∷ []
 told_at (Found point) = Acted point ∷ []
+
+abbrev pub told_of : List Event → List TraceLine
+told_of [] = []
+told_of (event ∷ events) = told_at event ++ told_of events
 
 -- all of a text is behind what was there before; or a part of it, from its front; or none
 abbrev pub Prints : Result (Unit {0}) Stop → List ℕ → List ℕ → List ℕ → Type 0
@@ -220,25 +238,24 @@ HasPrintCause stops.OutOfMemory before now = Unit {0}
 
 -- ---- the heading
 
--- The text begins with the heading of a volume, of which the opening tree is held; no call was taken.
-pub record IsBegun (Holds : Tree → Option Doubt → Type 0) (calls : ℕ) (text rest : List ℕ) : Type 0 where
+-- The text begins with the heading of a volume with so many nodes, of which the opening tree is held; no call was taken.
+pub record IsBegun (Holds : Tree → (ℕ → Option Doubt) → Type 0) (nodes calls : ℕ) (text rest : List ℕ) : Type 0 where
   pub volume : ℕ
-  pub nodes : ℕ
   pub devices : ℕ
   pub areas : ℕ
-  pub in_place : IsInPlace true (Heading volume nodes devices areas)
+  pub in_place : IsInPlace true 0 (Heading volume nodes devices areas)
   pub begins : BeginsWith text (spelling (Heading volume nodes devices areas)) rest
-  pub holds : Holds (opening volume) None
+  pub holds : Holds (opening volume) no_doubts
   pub none : calls ≡ 0
 
 -- what a read of the heading gives
-abbrev pub Begins : {A : Type 0} → (A → Tree → Option Doubt → Type 0) → (A → ℕ) → Result A Stop → List ℕ → List ℕ → List ℕ → Type 0
-Begins Holds calls (Ok replay) text rest left = IsBegun (Holds replay) (calls replay) text rest
-Begins Holds calls (Err (stops.Refused line reason)) text rest left = (text ≡ []) ⊎ GivesLine (Err (stops.Refused line reason)) 1 text rest left
-Begins Holds calls (Err stops.ReadFault) text rest left = GivesLine (Err stops.ReadFault) 1 text rest left
-Begins Holds calls (Err stops.WriteFault) text rest left = ⊥
-Begins Holds calls (Err stops.DiskFault) text rest left = Unit {0}
-Begins Holds calls (Err stops.OutOfMemory) text rest left = Unit {0}
+abbrev pub Begins : {A : Type 0} → (A → Tree → (ℕ → Option Doubt) → Type 0) → (A → ℕ) → (A → ℕ) → Result A Stop → List ℕ → List ℕ → List ℕ → Type 0
+Begins Holds nodes calls (Ok replay) text rest left = IsBegun (Holds replay) (nodes replay) (calls replay) text rest
+Begins Holds nodes calls (Err (stops.Refused line reason)) text rest left = (text ≡ []) ⊎ GivesLine (Err (stops.Refused line reason)) 1 0 text rest left
+Begins Holds nodes calls (Err stops.ReadFault) text rest left = GivesLine (Err stops.ReadFault) 1 0 text rest left
+Begins Holds nodes calls (Err stops.WriteFault) text rest left = ⊥
+Begins Holds nodes calls (Err stops.DiskFault) text rest left = Unit {0}
+Begins Holds nodes calls (Err stops.OutOfMemory) text rest left = Unit {0}
 
 -- why a replay doesn't begin: the faults of the source and of the bench, before and now
 abbrev pub HasBeginCause : Stop → ℕ → ℕ → ℕ → ℕ → Type 0
@@ -251,27 +268,27 @@ HasBeginCause stops.OutOfMemory source_before source_now bench_before bench_now 
 -- ---- the end
 
 -- The end was written, or a part of it, and the points that it tells are in range.
-pub record IsEnded (tree : Tree) (of : Option Doubt) (Stands : Tree → List TraceLine → Type 0) (old new : List ℕ) : Type 0 where
+pub record IsEnded (nodes : ℕ) (tree : Tree) (of : ℕ → Option Doubt) (Stands : Tree → List TraceLine → Type 0) (old new : List ℕ) : Type 0 where
   pub next : Tree
   pub doubt : List Point
-  pub told : Tells tree of next doubt
+  pub told : Tells of nodes tree next doubt
   pub in_range : AllByRecursion InTraceRange (map Acted doubt)
   pub written : new ≡ old ++ closing_text (map Acted doubt) next
   pub stands : Stands next (map Acted doubt)
 
-pub record IsEndedShort (tree : Tree) (of : Option Doubt) (old new : List ℕ) : Type 0 where
+pub record IsEndedShort (nodes : ℕ) (tree : Tree) (of : ℕ → Option Doubt) (old new : List ℕ) : Type 0 where
   pub next : Tree
   pub doubt : List Point
-  pub told : Tells tree of next doubt
+  pub told : Tells of nodes tree next doubt
   pub in_range : AllByRecursion InTraceRange (map Acted doubt)
   pub wrote : List ℕ
   pub more : List ℕ
   pub written : new ≡ old ++ wrote
   pub part : wrote ++ more ≡ closing_text (map Acted doubt) next
 
-abbrev pub Ends : Result (Unit {0}) Stop → Tree → Option Doubt → (Tree → List TraceLine → Type 0) → List ℕ → List ℕ → Type 0
-Ends (Ok _) tree doubt Stands old new = IsEnded tree doubt Stands old new
-Ends (Err stop) tree doubt Stands old new = IsEndedShort tree doubt old new
+abbrev pub Ends : Result (Unit {0}) Stop → ℕ → Tree → (ℕ → Option Doubt) → (Tree → List TraceLine → Type 0) → List ℕ → List ℕ → Type 0
+Ends (Ok _) nodes tree doubts Stands old new = IsEnded nodes tree doubts Stands old new
+Ends (Err stop) nodes tree doubts Stands old new = IsEndedShort nodes tree doubts old new
 
 -- A disk failed; or what was held isn't found, which can't be where the bench tells what it holds.
 abbrev pub IsDiskCause : Type 0 → ℕ → ℕ → Type 0
@@ -305,12 +322,13 @@ pub record IsRead (machines : Machines) (text rest : List ℕ) (number : ℕ) : 
   pub count : number ≡ length done
 
 -- A tree is held, and the replay stands for it after these lines.
-pub record Going (Holds : Tree → Option Doubt → Type 0) (machines : Machines) (waits : List traces.Taking) (desk : AtDesk) (calls : ℕ) (text rest : List ℕ) (number : ℕ) (start written : List ℕ) : Type 0 where
+pub record Going (Holds : Tree → (ℕ → Option Doubt) → Type 0) (waits : traces.Taking → Type 0) (machines : Machines) (desks : List AtDesk) (calls : ℕ) (text rest : List ℕ) (number : ℕ) (start written : List ℕ) : Type 0 where
   pub tree : Tree
-  pub doubt : Option Doubt
-  pub holds : Holds tree doubt
+  pub doubts : ℕ → Option Doubt
+  pub holds : Holds tree doubts
   pub done : List Done
-  pub stands : Stands tree machines waits desk doubt calls done start written
+  pub waiting_are : AreWaiting waits done
+  pub stands : Stands tree machines desks doubts calls done start written
   pub read : IsReadTo text (schedule_of done) rest
   pub count : number ≡ length done
 
@@ -323,8 +341,8 @@ pub record Wrote (old new : List ℕ) (P : List ℕ → Type 0) : Type 0 where
   pub holds : P output
 
 -- What a replay leaves, by what it was given and what is left of that; and, where the sink tells, by what that had and has. The tree
--- that a replay to the end leaves stands on the bench so, with what is told behind `end`.
-abbrev pub Leaves : Type 0 → (Tree → List TraceLine → Type 0) → Result (Unit {0}) Stop → List ℕ → List ℕ → List ℕ → List ℕ → Type 0
+-- that a replay to the end leaves stands on the bench so, for its nodes, with what is told behind `end`.
+abbrev pub Leaves : Type 0 → (ℕ → Tree → List TraceLine → Type 0) → Result (Unit {0}) Stop → List ℕ → List ℕ → List ℕ → List ℕ → Type 0
 Leaves Tells Stands (Ok _) text left old new = IsPlayable text × (left ≡ []) × (Tells → Wrote old new (IsReplayed text Stands))
 Leaves Tells Stands (Err (stops.Refused number reason)) text left old new = IsFirstRefused text number reason × (Tells → Wrote old new (IsRefused text number reason))
 Leaves Tells Stands (Err stops.ReadFault) text left old new = IsCut text left × (Tells → Wrote old new (IsCutOff text left))

@@ -11,18 +11,15 @@ use bx_script::Line;
 use bx_service::Service;
 use bx_stops::{Reason, Stop};
 
-/// How many nodes this stage has.
-const NODES: u32 = 1;
-
 impl<M: Service> Replay<M> {
     /// The rule for clocks once this line is done. The line is refused where it names a node that isn't there, and else where its reading lies too
     /// far behind an earlier one.
     pub(crate) fn admit(&self, number: u64, line: &Line) -> Result<ClockRule, Stop>
-        ensures ok { IfOk result (λ clock. IsThere line.now × IsSteady self.now.clock line.now × (clock ≡ greatest_with (reading_of line.now) self.now.clock)) }
-        ensures err { IfErr result (λ stop. IsKeptOut stop number self.now.clock line.now) }
+        ensures ok { IfOk result (λ clock. IsThere self.now.nodes line.now × IsSteady self.now.clock line.now × (clock ≡ greatest_with (reading_of line.now) self.now.clock)) }
+        ensures err { IfErr result (λ stop. IsKeptOut stop number self.now.nodes self.now.clock line.now) }
     {
         if let Some(node) = line.node() {
-            if node >= NODES {
+            if node >= self.nodes {
                 return Err(Stop::Refused(number, Reason::NoMachine));
             }
         }

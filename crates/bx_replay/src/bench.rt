@@ -31,20 +31,24 @@ pub(crate) fn crash_all<B: CrashRack>(bench: &mut B, noise: Noise) -> Result<(),
     Ok(())
 }
 
-/// Drops what is unsure on the bench, and lists the file tree that it then holds.
-pub(crate) fn read_back<B: CrashRack>(alloc: Global, bench: &mut B) -> Result<Listing, Stop>
+/// Drops what is unsure on the bench of so many nodes, and lists the file tree that it then holds.
+pub(crate) fn read_back<B: CrashRack>(
+    alloc: Global,
+    nodes: u32,
+    bench: &mut B,
+) -> Result<Listing, Stop>
     ensures dropped { B.tells bench.old → OnOk result (B.state bench.new ≡ all_crashed (B.state bench.old) Drop) }
     ensures crashed { B.tells bench.old → OnOk result (IsCrashed (B.state bench.old) (B.state bench.new)) }
-    ensures listed { B.tells bench.old → IfOk result (IsListed (B.state bench.new) (opening_state 1 1)) }
-    ensures one { (tree : Tree) → B.tells bench.old → IfOk result (λ listed. StandFor (B.state bench.new) (opening_state 1 1) tree → listed.text ≡ listing tree) }
-    ensures cause { IfErr result (λ stop. HasBenchCause stop (B.tells bench.old × HoldsAny (B.state bench.old)) (B.faults bench.old) (B.faults bench.new)) }
+    ensures listed { B.tells bench.old → IfOk result (IsListed (B.state bench.new) (opening_state nodes 1)) }
+    ensures one { (tree : Tree) → B.tells bench.old → IfOk result (λ listed. StandFor (B.state bench.new) (opening_state nodes 1) tree → listed.text ≡ listing tree) }
+    ensures cause { IfErr result (λ stop. HasBenchCause stop (B.tells bench.old × HoldsAny nodes (B.state bench.old)) (B.faults bench.old) (B.faults bench.new)) }
     ensures no_fault { UnlessDisk result (B.faults bench.new ≡ B.faults bench.old) }
     ensures later { B.faults bench.old ≤ B.faults bench.new }
     ensures sizes { (B.state bench.new).sizes ≡ (B.state bench.old).sizes }
     ensures keeps_telling { B.tells bench.old → B.tells bench.new }
 {
     crash_all(bench, Noise::Drop)?;
-    let state = bx_global_laws::opening(alloc, 1, 1)?;
+    let state = bx_global_laws::opening(alloc, nodes, 1)?;
     let listed = audit(alloc, bench, &state)?;
     Ok(listed)
 }

@@ -1,18 +1,15 @@
 //! What comes of a datagram that arrives at a node.
 
-ghost use Rattle.std.specs.Prelude.{◌≡◌, ◌≤◌, ◌<◌, ◌+◌, ◌^◌, [], List, ℕ, length, max, nat_le, IfErr, None, OnOk, Option, true, false};
-ghost use Rattle.std.specs.List.{list_any};
-ghost use Rattle.bx_desk.specs.Desks.{is_from};
+ghost use Rattle.std.specs.Prelude.{◌≡◌, ◌≤◌, ◌<◌, ◌+◌, ◌^◌, List, ℕ, length, max, IfErr, OnOk, Option, false, true};
 ghost use Rattle.bx_disk.specs.Disks.{Disks};
 ghost use Rattle.bx_history.specs.Along.{Done};
 ghost use Rattle.bx_model.specs.declared.tree.Tree.{Tree};
 ghost use Rattle.bx_replay.specs.Headline.{IsInPlace, IsSteady, machines_at};
-ghost use Rattle.bx_replay.specs.Incoming.{line_of, taken_as};
-ghost use Rattle.bx_replay.specs.Replay.{DoesLine, HasPrintCause, HasStepCause, HearsUp, Stands, StandsAfter, UnlessWrite};
-ghost use Rattle.bx_replies.specs.Answers.{reply_of};
+ghost use Rattle.bx_replay.specs.Incoming.{IsNewAt, line_at, line_of};
+ghost use Rattle.bx_replay.specs.Replay.{AreWaiting, DoesLine, HasNodes, HasPrintCause, HasStepCause, HearsUp, Stands, StandsAfter, UnlessWrite};
 ghost use Rattle.bx_rpc.specs.Message.{is_message as is_call};
 ghost use Rattle.bx_service.specs.AtOnce.{IsAtOnce};
-ghost use Rattle.bx_service.specs.Rounds.{Doubt, deed_at};
+ghost use Rattle.bx_service.specs.Rounds.{Doubt, deed_at, taking_of};
 ghost use Rattle.bx_steps.specs.Steps.{Step};
 
 use crate::print::print_lines;
@@ -21,7 +18,7 @@ use bx_base::Raw;
 use bx_outside::Sink;
 use bx_rpc::is_message;
 use bx_script::TraceLine;
-use bx_service::{Acted, Service};
+use bx_service::{Acted, Call, Service};
 use bx_stops::{Reason, Stop};
 use std::alloc::Global;
 
@@ -47,17 +44,19 @@ impl<M: Service> Replay<M> {
         incoming: Incoming,
         out: &mut K,
     ) -> Result<(), Stop>
-        requires node { incoming.node ≡ 0 }
+        requires there { incoming.node < self.old.nodes }
+        requires nodes { HasNodes self.old.nodes (M.nodes self.old.service) (length self.old.desks.items) }
         requires moment { incoming.reading ≤ 4294967295999 }
         requires few { self.old.calls < 2 ^ 32 }
         requires latest { M.latest self.old.service ≤ self.old.calls }
+        ensures nodes { OnOk result (HasNodes self.new.nodes (M.nodes self.new.service) (length self.new.desks.items) × (self.new.nodes ≡ self.old.nodes)) }
         ensures latest { OnOk result (M.latest self.new.service ≤ self.new.calls) }
         ensures ready { (sizes : List ℕ) → M.ready self.old.service sizes → OnOk result (M.ready self.new.service sizes) }
-        ensures does { (greatest : ℕ) (x : Disks) (tree : Tree) (doubt : Option Doubt) (done : List Done) (start : List ℕ) → K.tells out.old → M.ready self.old.service x.sizes → M.holds self.old.service x tree doubt → length done < 4294967295
-            → IsInPlace false (line_of incoming) → IsSteady greatest (line_of incoming)
-            → Stands tree (machines_at (M.up self.old.service) greatest) (M.waits self.old.service) self.old.desk doubt self.old.calls done start (K.written out.old)
-            → DoesLine result (StandsAfter (M.holds self.new.service x) (machines_at (M.up self.new.service) (max greatest incoming.reading)) (M.waits self.new.service) self.new.desk self.new.calls (line_of incoming) done start (K.written out.new)) (line_of incoming) done start (K.written out.old) (K.written out.new) }
-        ensures holds { (x : Disks) (tree : Tree) (doubt : Option Doubt) → M.ready self.old.service x.sizes → M.holds self.old.service x tree doubt → OnOk result (M.holds self.new.service x tree doubt) }
+        ensures does { (greatest : ℕ) (x : Disks) (tree : Tree) (doubts : ℕ → Option Doubt) (done : List Done) (start : List ℕ) → K.tells out.old → M.ready self.old.service x.sizes → M.holds self.old.service x tree doubts → length done < 4294967295
+            → IsInPlace false self.old.nodes (line_of incoming) → IsSteady greatest (line_of incoming)
+            → AreWaiting (M.waits self.old.service) done → Stands tree (machines_at self.old.nodes (M.up self.old.service) greatest) self.old.desks.items doubts self.old.calls done start (K.written out.old)
+            → DoesLine result (StandsAfter (M.holds self.new.service x) (M.waits self.new.service) (machines_at self.new.nodes (M.up self.new.service) (max greatest incoming.reading)) self.new.desks.items self.new.calls (line_of incoming) done start (K.written out.new)) (line_of incoming) done start (K.written out.old) (K.written out.new) }
+        ensures holds { (x : Disks) (tree : Tree) (doubts : ℕ → Option Doubt) → M.ready self.old.service x.sizes → M.holds self.old.service x tree doubts → OnOk result (M.holds self.new.service x tree doubts) }
         ensures hears { HearsUp result (M.up self.old.service) (M.up self.new.service) (line_of incoming) }
         ensures cause { IfErr result (λ stop. HasStepCause stop number (K.faults out.old) (K.faults out.new)) }
         ensures first { UnlessWrite result (K.faults out.new ≡ K.faults out.old) }
@@ -75,32 +74,35 @@ impl<M: Service> Replay<M> {
     /// already, or comes where as many wait as may, is passed over.
     fn hear<K: Sink>(&mut self, alloc: Global, incoming: Incoming, out: &mut K) -> Result<(), Stop>
         requires up { M.up self.old.service ≡ true }
-        requires node { incoming.node ≡ 0 }
+        requires there { incoming.node < self.old.nodes }
+        requires nodes { HasNodes self.old.nodes (M.nodes self.old.service) (length self.old.desks.items) }
         requires moment { incoming.reading ≤ 4294967295999 }
         requires few { self.old.calls < 2 ^ 32 }
         requires latest { M.latest self.old.service ≤ self.old.calls }
+        ensures nodes { OnOk result (HasNodes self.new.nodes (M.nodes self.new.service) (length self.new.desks.items) × (self.new.nodes ≡ self.old.nodes)) }
         ensures latest { OnOk result (M.latest self.new.service ≤ self.new.calls) }
         ensures ready { (sizes : List ℕ) → M.ready self.old.service sizes → OnOk result (M.ready self.new.service sizes) }
         ensures up { OnOk result (M.up self.new.service ≡ true) }
-        ensures hears { (greatest : ℕ) (x : Disks) (tree : Tree) (doubt : Option Doubt) (done : List Done) (start : List ℕ) → K.tells out.old → M.ready self.old.service x.sizes → M.holds self.old.service x tree doubt → length done < 4294967295
-            → IsInPlace false (line_of incoming) → IsSteady greatest (line_of incoming)
-            → Stands tree (machines_at (M.up self.old.service) greatest) (M.waits self.old.service) self.old.desk doubt self.old.calls done start (K.written out.old)
-            → DoesLine result (StandsAfter (M.holds self.new.service x) (machines_at (M.up self.new.service) (max greatest incoming.reading)) (M.waits self.new.service) self.new.desk self.new.calls (line_of incoming) done start (K.written out.new)) (line_of incoming) done start (K.written out.old) (K.written out.new) }
-        ensures holds { (x : Disks) (tree : Tree) (doubt : Option Doubt) → M.ready self.old.service x.sizes → M.holds self.old.service x tree doubt → OnOk result (M.holds self.new.service x tree doubt) }
+        ensures hears { (greatest : ℕ) (x : Disks) (tree : Tree) (doubts : ℕ → Option Doubt) (done : List Done) (start : List ℕ) → K.tells out.old → M.ready self.old.service x.sizes → M.holds self.old.service x tree doubts → length done < 4294967295
+            → IsInPlace false self.old.nodes (line_of incoming) → IsSteady greatest (line_of incoming)
+            → AreWaiting (M.waits self.old.service) done → Stands tree (machines_at self.old.nodes (M.up self.old.service) greatest) self.old.desks.items doubts self.old.calls done start (K.written out.old)
+            → DoesLine result (StandsAfter (M.holds self.new.service x) (M.waits self.new.service) (machines_at self.new.nodes (M.up self.new.service) (max greatest incoming.reading)) self.new.desks.items self.new.calls (line_of incoming) done start (K.written out.new)) (line_of incoming) done start (K.written out.old) (K.written out.new) }
+        ensures holds { (x : Disks) (tree : Tree) (doubts : ℕ → Option Doubt) → M.ready self.old.service x.sizes → M.holds self.old.service x tree doubts → OnOk result (M.holds self.new.service x tree doubts) }
         ensures cause { IfErr result (λ stop. HasPrintCause stop (K.faults out.old) (K.faults out.new)) }
         ensures first { UnlessWrite result (K.faults out.new ≡ K.faults out.old) }
         ensures calls { self.new.calls ≤ self.old.calls + 1 }
         ensures later { K.faults out.old ≤ K.faults out.new }
         ensures keeps_telling { K.tells out.old → K.tells out.new }
     {
+        let desk = &self.desks[incoming.node as usize];
         let datagram = incoming.datagram.bytes();
         if !is_message(datagram) {
             return Ok(());
         }
-        if self.desk.is_waiting(incoming.client, datagram) {
+        if desk.is_waiting(incoming.client, datagram) {
             return Ok(());
         }
-        if let Some(reply) = self.desk.kept(incoming.client, datagram) {
+        if let Some(reply) = desk.kept(incoming.client, datagram) {
             let again = TraceLine::Again {
                 node: incoming.node,
                 client: incoming.client,
@@ -108,7 +110,7 @@ impl<M: Service> Replay<M> {
             };
             return print_lines(&mut self.text, &[again], out);
         }
-        if self.desk.is_full() {
+        if desk.is_full() {
             return Ok(());
         }
         self.take(alloc, incoming, out)
@@ -118,37 +120,36 @@ impl<M: Service> Replay<M> {
     fn take<K: Sink>(&mut self, alloc: Global, incoming: Incoming, out: &mut K) -> Result<(), Stop>
         requires up { M.up self.old.service ≡ true }
         requires message { is_call incoming.datagram ≡ true }
-        requires new { list_any (is_from incoming.client incoming.datagram) self.old.desk.waits ≡ false }
-        requires none_kept { reply_of self.old.desk.kept incoming.client incoming.datagram ≡ None }
-        requires room { nat_le 64 (length self.old.desk.waits) ≡ false }
-        requires node { incoming.node ≡ 0 }
+        requires new { IsNewAt self.old.desks.items incoming.node incoming.client incoming.datagram }
+        requires there { incoming.node < self.old.nodes }
+        requires nodes { HasNodes self.old.nodes (M.nodes self.old.service) (length self.old.desks.items) }
         requires moment { incoming.reading ≤ 4294967295999 }
         requires few { self.old.calls < 2 ^ 32 }
         requires latest { M.latest self.old.service ≤ self.old.calls }
+        ensures nodes { OnOk result (HasNodes self.new.nodes (M.nodes self.new.service) (length self.new.desks.items) × (self.new.nodes ≡ self.old.nodes)) }
         ensures latest { OnOk result (M.latest self.new.service ≤ self.new.calls) }
         ensures ready { (sizes : List ℕ) → M.ready self.old.service sizes → OnOk result (M.ready self.new.service sizes) }
         ensures up { OnOk result (M.up self.new.service ≡ true) }
-        ensures takes { (greatest : ℕ) (x : Disks) (tree : Tree) (doubt : Option Doubt) (done : List Done) (start : List ℕ) → K.tells out.old → M.ready self.old.service x.sizes → M.holds self.old.service x tree doubt → length done < 4294967295
-            → IsInPlace false (line_of incoming) → IsSteady greatest (line_of incoming)
-            → Stands tree (machines_at (M.up self.old.service) greatest) (M.waits self.old.service) self.old.desk doubt self.old.calls done start (K.written out.old)
-            → DoesLine result (StandsAfter (M.holds self.new.service x) (machines_at (M.up self.new.service) (max greatest incoming.reading)) (M.waits self.new.service) self.new.desk self.new.calls (line_of incoming) done start (K.written out.new)) (line_of incoming) done start (K.written out.old) (K.written out.new) }
-        ensures holds { (x : Disks) (tree : Tree) (doubt : Option Doubt) → M.ready self.old.service x.sizes → M.holds self.old.service x tree doubt → OnOk result (M.holds self.new.service x tree doubt) }
+        ensures takes { (greatest : ℕ) (x : Disks) (tree : Tree) (doubts : ℕ → Option Doubt) (done : List Done) (start : List ℕ) → K.tells out.old → M.ready self.old.service x.sizes → M.holds self.old.service x tree doubts → length done < 4294967295
+            → IsInPlace false self.old.nodes (line_of incoming) → IsSteady greatest (line_of incoming)
+            → AreWaiting (M.waits self.old.service) done → Stands tree (machines_at self.old.nodes (M.up self.old.service) greatest) self.old.desks.items doubts self.old.calls done start (K.written out.old)
+            → DoesLine result (StandsAfter (M.holds self.new.service x) (M.waits self.new.service) (machines_at self.new.nodes (M.up self.new.service) (max greatest incoming.reading)) self.new.desks.items self.new.calls (line_of incoming) done start (K.written out.new)) (line_of incoming) done start (K.written out.old) (K.written out.new) }
+        ensures holds { (x : Disks) (tree : Tree) (doubts : ℕ → Option Doubt) → M.ready self.old.service x.sizes → M.holds self.old.service x tree doubts → OnOk result (M.holds self.new.service x tree doubts) }
         ensures cause { IfErr result (λ stop. HasPrintCause stop (K.faults out.old) (K.faults out.new)) }
         ensures first { UnlessWrite result (K.faults out.new ≡ K.faults out.old) }
         ensures calls { self.new.calls ≤ self.old.calls + 1 }
         ensures later { K.faults out.old ≤ K.faults out.new }
         ensures keeps_telling { K.tells out.old → K.tells out.new }
     {
-        let call = self.calls + 1;
-        let answered = self.service.answer(
-            call,
-            incoming.client,
-            incoming.datagram.bytes(),
-            incoming.reading,
-        )?;
-        match answered {
-            Some(acted) => self.answer(alloc, incoming, acted, out),
-            None => self.wait(alloc, incoming, out),
+        let call = Call {
+            number: self.calls + 1,
+            node: incoming.node,
+            client: incoming.client,
+            datagram: incoming.datagram,
+        };
+        match self.service.answer(&call, incoming.reading)? {
+            Some(acted) => self.answer(alloc, call, acted, out),
+            None => self.wait(alloc, call, out),
         }
     }
 
@@ -156,26 +157,26 @@ impl<M: Service> Replay<M> {
     fn answer<K: Sink>(
         &mut self,
         alloc: Global,
-        incoming: Incoming,
+        call: Call,
         acted: Acted,
         out: &mut K,
     ) -> Result<(), Stop>
         requires up { M.up self.old.service ≡ true }
-        requires message { is_call incoming.datagram ≡ true }
-        requires new { list_any (is_from incoming.client incoming.datagram) self.old.desk.waits ≡ false }
-        requires none_kept { reply_of self.old.desk.kept incoming.client incoming.datagram ≡ None }
-        requires room { nat_le 64 (length self.old.desk.waits) ≡ false }
-        requires node { incoming.node ≡ 0 }
-        requires moment { incoming.reading ≤ 4294967295999 }
+        requires message { is_call call.datagram ≡ true }
+        requires new { IsNewAt self.old.desks.items call.node call.client call.datagram }
+        requires there { call.node < self.old.nodes }
+        requires nodes { HasNodes self.old.nodes (M.nodes self.old.service) (length self.old.desks.items) }
+        requires number { call.number ≡ self.old.calls + 1 }
         requires few { self.old.calls < 2 ^ 32 }
         requires latest { M.latest self.old.service ≤ self.old.calls }
-        requires at { (acted.point.call ≡ self.old.calls + 1) × (acted.point.moment ≡ incoming.reading) }
+        requires of { acted.point.call ≡ call.number }
         ensures service { self.new.service ≡ self.old.service }
-        ensures answers { (greatest : ℕ) (x : Disks) (tree : Tree) (doubt : Option Doubt) (done : List Done) (start : List ℕ) → K.tells out.old → M.ready self.old.service x.sizes → M.holds self.old.service x tree doubt → length done < 4294967295
-            → Step tree (deed_at (taken_as self.old.calls incoming) acted.point acted.reply) tree
-            → IsInPlace false (line_of incoming) → IsSteady greatest (line_of incoming)
-            → Stands tree (machines_at (M.up self.old.service) greatest) (M.waits self.old.service) self.old.desk doubt self.old.calls done start (K.written out.old)
-            → DoesLine result (StandsAfter (M.holds self.new.service x) (machines_at (M.up self.new.service) (max greatest incoming.reading)) (M.waits self.new.service) self.new.desk self.new.calls (line_of incoming) done start (K.written out.new)) (line_of incoming) done start (K.written out.old) (K.written out.new) }
+        ensures nodes { OnOk result (HasNodes self.new.nodes (M.nodes self.new.service) (length self.new.desks.items) × (self.new.nodes ≡ self.old.nodes)) }
+        ensures answers { (greatest reading : ℕ) (x : Disks) (tree : Tree) (doubts : ℕ → Option Doubt) (done : List Done) (start : List ℕ) → K.tells out.old → M.ready self.old.service x.sizes → M.holds self.old.service x tree doubts → length done < 4294967295
+            → acted.point.moment ≡ reading → Step tree (deed_at (taking_of call) acted.point acted.reply) tree
+            → IsInPlace false self.old.nodes (line_at reading call) → IsSteady greatest (line_at reading call)
+            → AreWaiting (M.waits self.old.service) done → Stands tree (machines_at self.old.nodes (M.up self.old.service) greatest) self.old.desks.items doubts self.old.calls done start (K.written out.old)
+            → DoesLine result (StandsAfter (M.holds self.new.service x) (M.waits self.new.service) (machines_at self.new.nodes (M.up self.new.service) (max greatest reading)) self.new.desks.items self.new.calls (line_at reading call) done start (K.written out.new)) (line_at reading call) done start (K.written out.old) (K.written out.new) }
         ensures cause { IfErr result (λ stop. HasPrintCause stop (K.faults out.old) (K.faults out.new)) }
         ensures first { UnlessWrite result (K.faults out.new ≡ K.faults out.old) }
         ensures calls { OnOk result (self.new.calls ≡ self.old.calls + 1) }
@@ -183,67 +184,71 @@ impl<M: Service> Replay<M> {
         ensures later { K.faults out.old ≤ K.faults out.new }
         ensures keeps_telling { K.tells out.old → K.tells out.new }
     {
-        let bytes = Raw::of(alloc, incoming.datagram.bytes())?;
+        let bytes = Raw::of(alloc, call.datagram.bytes())?;
         let kept = Raw::of(alloc, acted.reply.bytes())?;
-        self.desk.keep(incoming.client, bytes, kept)?;
-        let call = acted.point.call;
+        self.desks[call.node as usize].keep(call.client, bytes, kept)?;
+        let number = acted.point.call;
         let lines = [
             TraceLine::Took {
-                call,
-                node: incoming.node,
-                client: incoming.client,
-                datagram: incoming.datagram,
+                call: number,
+                node: call.node,
+                client: call.client,
+                datagram: call.datagram,
             },
             TraceLine::Acted(acted.point),
             TraceLine::Reply {
-                call,
+                call: number,
                 reply: acted.reply,
             },
         ];
         print_lines(&mut self.text, &lines, out)?;
-        self.calls = call;
+        self.calls = number;
         Ok(())
     }
 
-    /// Takes a call that waits behind all others.
-    fn wait<K: Sink>(&mut self, alloc: Global, incoming: Incoming, out: &mut K) -> Result<(), Stop>
+    /// Takes a call that waits at its node.
+    fn wait<K: Sink>(&mut self, alloc: Global, call: Call, out: &mut K) -> Result<(), Stop>
         requires up { M.up self.old.service ≡ true }
-        requires message { is_call incoming.datagram ≡ true }
-        requires new { list_any (is_from incoming.client incoming.datagram) self.old.desk.waits ≡ false }
-        requires none_kept { reply_of self.old.desk.kept incoming.client incoming.datagram ≡ None }
-        requires room { nat_le 64 (length self.old.desk.waits) ≡ false }
-        requires late { IsAtOnce incoming.datagram → ⊥ }
-        requires node { incoming.node ≡ 0 }
-        requires moment { incoming.reading ≤ 4294967295999 }
+        requires message { is_call call.datagram ≡ true }
+        requires new { IsNewAt self.old.desks.items call.node call.client call.datagram }
+        requires late { IsAtOnce call.datagram → ⊥ }
+        requires there { call.node < self.old.nodes }
+        requires nodes { HasNodes self.old.nodes (M.nodes self.old.service) (length self.old.desks.items) }
+        requires number { call.number ≡ self.old.calls + 1 }
         requires few { self.old.calls < 2 ^ 32 }
         requires latest { M.latest self.old.service ≤ self.old.calls }
+        ensures nodes { OnOk result (HasNodes self.new.nodes (M.nodes self.new.service) (length self.new.desks.items) × (self.new.nodes ≡ self.old.nodes)) }
         ensures latest { OnOk result (M.latest self.new.service ≤ self.new.calls) }
         ensures ready { (sizes : List ℕ) → M.ready self.old.service sizes → OnOk result (M.ready self.new.service sizes) }
         ensures up { OnOk result (M.up self.new.service ≡ true) }
-        ensures waits { (greatest : ℕ) (x : Disks) (tree : Tree) (doubt : Option Doubt) (done : List Done) (start : List ℕ) → K.tells out.old → M.ready self.old.service x.sizes → M.holds self.old.service x tree doubt → length done < 4294967295
-            → IsInPlace false (line_of incoming) → IsSteady greatest (line_of incoming)
-            → Stands tree (machines_at (M.up self.old.service) greatest) (M.waits self.old.service) self.old.desk doubt self.old.calls done start (K.written out.old)
-            → DoesLine result (StandsAfter (M.holds self.new.service x) (machines_at (M.up self.new.service) (max greatest incoming.reading)) (M.waits self.new.service) self.new.desk self.new.calls (line_of incoming) done start (K.written out.new)) (line_of incoming) done start (K.written out.old) (K.written out.new) }
-        ensures holds { (x : Disks) (tree : Tree) (doubt : Option Doubt) → M.ready self.old.service x.sizes → M.holds self.old.service x tree doubt → OnOk result (M.holds self.new.service x tree doubt) }
+        ensures waits { (greatest reading : ℕ) (x : Disks) (tree : Tree) (doubts : ℕ → Option Doubt) (done : List Done) (start : List ℕ) → K.tells out.old → M.ready self.old.service x.sizes → M.holds self.old.service x tree doubts → length done < 4294967295
+            → IsInPlace false self.old.nodes (line_at reading call) → IsSteady greatest (line_at reading call)
+            → AreWaiting (M.waits self.old.service) done → Stands tree (machines_at self.old.nodes (M.up self.old.service) greatest) self.old.desks.items doubts self.old.calls done start (K.written out.old)
+            → DoesLine result (StandsAfter (M.holds self.new.service x) (M.waits self.new.service) (machines_at self.new.nodes (M.up self.new.service) (max greatest reading)) self.new.desks.items self.new.calls (line_at reading call) done start (K.written out.new)) (line_at reading call) done start (K.written out.old) (K.written out.new) }
+        ensures holds { (x : Disks) (tree : Tree) (doubts : ℕ → Option Doubt) → M.ready self.old.service x.sizes → M.holds self.old.service x tree doubts → OnOk result (M.holds self.new.service x tree doubts) }
         ensures cause { IfErr result (λ stop. HasPrintCause stop (K.faults out.old) (K.faults out.new)) }
         ensures first { UnlessWrite result (K.faults out.new ≡ K.faults out.old) }
         ensures calls { self.new.calls ≤ self.old.calls + 1 }
         ensures later { K.faults out.old ≤ K.faults out.new }
         ensures keeps_telling { K.tells out.old → K.tells out.new }
     {
-        let call = self.calls + 1;
-        let bytes = Raw::of(alloc, incoming.datagram.bytes())?;
-        self.desk
-            .take(alloc, call, incoming.client, incoming.datagram.bytes())?;
+        let datagram = Raw::of(alloc, call.datagram.bytes())?;
+        self.desks[call.node as usize].take(
+            alloc,
+            call.number,
+            call.client,
+            call.datagram.bytes(),
+        )?;
+        let number = call.number;
         let lines = [TraceLine::Took {
-            call,
-            node: incoming.node,
-            client: incoming.client,
-            datagram: incoming.datagram,
+            call: number,
+            node: call.node,
+            client: call.client,
+            datagram,
         }];
         print_lines(&mut self.text, &lines, out)?;
-        self.service.arrive(call, incoming.client, bytes)?;
-        self.calls = call;
+        self.service.arrive(call)?;
+        self.calls = number;
         Ok(())
     }
 }

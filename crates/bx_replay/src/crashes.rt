@@ -8,10 +8,11 @@ ghost use Rattle.bx_model.specs.declared.tree.Tree.{Tree};
 ghost use Rattle.bx_script.specs.declared.line.Line.TheVariants.{Crash as CrashLine, Restart as RestartLine};
 ghost use Rattle.bx_replay.specs.Course.{MovesDisks};
 ghost use Rattle.bx_replay.specs.Headline.{IsInPlace, IsSteady, machines_at};
-ghost use Rattle.bx_replay.specs.Replay.{DoesLine, GoesOn, HasPrintCause, Stands, StandsAfter, UnlessWrite};
+ghost use Rattle.bx_replay.specs.Replay.{AreWaiting, DoesLine, GoesOn, HasNodes, HasPrintCause, Stands, StandsAfter, UnlessWrite};
 ghost use Rattle.bx_service.specs.Rounds.{Doubt};
 
 use crate::bench::crash_all;
+use crate::desks::clear_desks;
 use crate::print::print_lines;
 use crate::state::Replay;
 use bx_disk::{CrashRack, Noise, Rack};
@@ -23,13 +24,16 @@ use bx_stops::Stop;
 impl<M: Service> Replay<M> {
     /// All machines that are up crash, and their disks with them, with this noise.
     pub(crate) fn crash<B: CrashRack>(&mut self, noise: Noise, bench: &mut B) -> Result<(), Stop>
+        requires one { self.old.nodes ≡ 1 }
+        requires nodes { HasNodes self.old.nodes (M.nodes self.old.service) (length self.old.desks.items) }
         requires ready { M.ready self.old.service (B.state bench.old).sizes }
-        ensures crashes { (tree : Tree) (doubt : Option Doubt) (greatest : ℕ) (done : List Done) (start written : List ℕ) (how : Noise) → B.tells bench.old → M.holds self.old.service (B.state bench.old) tree doubt → length done < 4294967295
-            → IsInPlace false (CrashLine how) → Stands tree (machines_at (M.up self.old.service) greatest) (M.waits self.old.service) self.old.desk doubt self.old.calls done start written
-            → DoesLine result (StandsAfter (M.holds self.new.service (B.state bench.new)) (machines_at (M.up self.new.service) greatest) (M.waits self.new.service) self.new.desk self.new.calls (CrashLine how) done start written) (CrashLine how) done start written written }
-        ensures holds { (tree : Tree) (doubt : Option Doubt) → B.tells bench.old → M.holds self.old.service (B.state bench.old) tree doubt → OnOk result (M.holds self.new.service (B.state bench.new) tree doubt) }
+        ensures crashes { (tree : Tree) (doubts : ℕ → Option Doubt) (greatest : ℕ) (done : List Done) (start written : List ℕ) (how : Noise) → B.tells bench.old → M.holds self.old.service (B.state bench.old) tree doubts → length done < 4294967295
+            → IsInPlace false self.old.nodes (CrashLine how) → AreWaiting (M.waits self.old.service) done → Stands tree (machines_at self.old.nodes (M.up self.old.service) greatest) self.old.desks.items doubts self.old.calls done start written
+            → DoesLine result (StandsAfter (M.holds self.new.service (B.state bench.new)) (M.waits self.new.service) (machines_at self.new.nodes (M.up self.new.service) greatest) self.new.desks.items self.new.calls (CrashLine how) done start written) (CrashLine how) done start written written }
+        ensures holds { (tree : Tree) (doubts : ℕ → Option Doubt) → B.tells bench.old → M.holds self.old.service (B.state bench.old) tree doubts → OnOk result (M.holds self.new.service (B.state bench.new) tree doubts) }
         ensures noise { B.tells bench.old → OnOk result (MovesDisks (CrashLine noise) (M.up self.old.service) (B.state bench.old) (B.state bench.new)) }
         ensures up { OnOk result (M.up self.new.service ≡ false) }
+        ensures nodes { OnOk result (HasNodes self.new.nodes (M.nodes self.new.service) (length self.new.desks.items) × (self.new.nodes ≡ self.old.nodes)) }
         ensures latest { OnOk result (M.latest self.new.service ≡ M.latest self.old.service) }
         ensures ready { OnOk result (M.ready self.new.service (B.state bench.new).sizes) }
         ensures cause { (before now : ℕ) → IfErr result (λ stop. HasPrintCause stop before now) }
@@ -38,7 +42,7 @@ impl<M: Service> Replay<M> {
         ensures bench_later { B.faults bench.old ≤ B.faults bench.new }
         ensures bench_tells { B.tells bench.old → B.tells bench.new }
     {
-        self.desk.clear();
+        clear_desks(&mut self.desks);
         if self.service.is_up() {
             self.service.crash();
             crash_all(bench, noise)?;
@@ -53,15 +57,18 @@ impl<M: Service> Replay<M> {
         bench: &mut B,
         out: &mut K,
     ) -> Result<(), Stop>
+        requires one { self.old.nodes ≡ 1 }
+        requires nodes { HasNodes self.old.nodes (M.nodes self.old.service) (length self.old.desks.items) }
         requires ready { M.ready self.old.service (B.state bench.old).sizes }
-        ensures restarts { (tree : Tree) (doubt : Option Doubt) (greatest reading : ℕ) (done : List Done) (start : List ℕ) → K.tells out.old → B.tells bench.old → M.holds self.old.service (B.state bench.old) tree doubt → length done < 4294967295
-            → IsInPlace false (RestartLine reading) → IsSteady greatest (RestartLine reading) → Stands tree (machines_at (M.up self.old.service) greatest) (M.waits self.old.service) self.old.desk doubt self.old.calls done start (K.written out.old)
-            → DoesLine result (StandsAfter (M.holds self.new.service (B.state bench.new)) (machines_at (M.up self.new.service) (max greatest reading)) (M.waits self.new.service) self.new.desk self.new.calls (RestartLine reading) done start (K.written out.new)) (RestartLine reading) done start (K.written out.old) (K.written out.new) }
-        ensures holds { (tree : Tree) (doubt : Option Doubt) → B.tells bench.old → M.holds self.old.service (B.state bench.old) tree doubt → OnOk result ((next : Tree) × (now : Option Doubt) × M.holds self.new.service (B.state bench.new) next now) }
+        ensures restarts { (tree : Tree) (doubts : ℕ → Option Doubt) (greatest reading : ℕ) (done : List Done) (start : List ℕ) → K.tells out.old → B.tells bench.old → M.holds self.old.service (B.state bench.old) tree doubts → length done < 4294967295
+            → IsInPlace false self.old.nodes (RestartLine reading) → IsSteady greatest (RestartLine reading) → AreWaiting (M.waits self.old.service) done → Stands tree (machines_at self.old.nodes (M.up self.old.service) greatest) self.old.desks.items doubts self.old.calls done start (K.written out.old)
+            → DoesLine result (StandsAfter (M.holds self.new.service (B.state bench.new)) (M.waits self.new.service) (machines_at self.new.nodes (M.up self.new.service) (max greatest reading)) self.new.desks.items self.new.calls (RestartLine reading) done start (K.written out.new)) (RestartLine reading) done start (K.written out.old) (K.written out.new) }
+        ensures holds { (tree : Tree) (doubts : ℕ → Option Doubt) → B.tells bench.old → M.holds self.old.service (B.state bench.old) tree doubts → OnOk result ((next : Tree) × (now : ℕ → Option Doubt) × M.holds self.new.service (B.state bench.new) next now) }
         ensures moves { (reading : ℕ) → MovesDisks (RestartLine reading) (M.up self.old.service) (B.state bench.old) (B.state bench.new) }
-        ensures back { (tree : Tree) (doubt : Option Doubt) → B.tells bench.old → M.holds self.old.service (B.state bench.old) tree doubt → M.up self.old.service ≡ false → (Rose (B.faults bench.old) (B.faults bench.new) → ⊥)
+        ensures back { (tree : Tree) (doubts : ℕ → Option Doubt) → B.tells bench.old → M.holds self.old.service (B.state bench.old) tree doubts → M.up self.old.service ≡ false → (Rose (B.faults bench.old) (B.faults bench.new) → ⊥)
             → OnOk result (M.returns self.new.service ≡ false) }
         ensures up { OnOk result (M.up self.new.service ≡ true) }
+        ensures nodes { OnOk result (HasNodes self.new.nodes (M.nodes self.new.service) (length self.new.desks.items) × (self.new.nodes ≡ self.old.nodes)) }
         ensures latest { OnOk result (M.latest self.new.service ≡ M.latest self.old.service) }
         ensures ready { OnOk result (M.ready self.new.service (B.state bench.new).sizes) }
         ensures cause { IfErr result (λ stop. HasPrintCause stop (K.faults out.old) (K.faults out.new)) }

@@ -1,27 +1,28 @@
 //! How a replay begins, and how it ends.
 
-ghost use Rattle.std.specs.Prelude.{◌≡◌, ◌≤◌, ℕ, Option, true, false, [], ◌++◌, IfOk, IfErr, filter, map, OnOk};
+ghost use Rattle.std.specs.Prelude.{◌≡◌, ◌≤◌, ℕ, Option, Some, true, false, ◌++◌, IfOk, IfErr, filter, length, map, slice_get, OnOk};
 ghost use Rattle.bx_audit.specs.Audited.{AreOpen};
 ghost use Rattle.bx_base.specs.declared.names.Point.{Point};
-ghost use Rattle.bx_desk.specs.Desks.{empty_desk};
+ghost use Rattle.bx_desk.specs.Desks.{AtDesk, empty_desk};
 ghost use Rattle.bx_disk.specs.Disks.{Disks};
+ghost use Rattle.bx_history.specs.Trace.{Taking};
 ghost use Rattle.bx_global.specs.Opening.{opening_state};
 ghost use Rattle.bx_model.specs.declared.tree.Tree.{Tree};
 ghost use Rattle.bx_model.specs.Listing.{listing};
 ghost use Rattle.bx_disk.specs.declared.noise.Noise.TheVariants.{Drop};
 ghost use Rattle.bx_replay.specs.Bench.{IsHeldBy, IsShownBy};
 ghost use Rattle.bx_replay.specs.Course.{all_crashed};
-ghost use Rattle.bx_replay.specs.Replay.{Begins, Ends, HasBeginCause, HasFinishCause, HasPrintCause, UnlessDisk, UnlessRead, UnlessWrite};
+ghost use Rattle.bx_replay.specs.Replay.{Begins, Ends, HasBeginCause, HasFinishCause, HasNodes, HasPrintCause, UnlessDisk, UnlessRead, UnlessWrite};
 ghost use Rattle.bx_script.specs.declared.trace_line.TraceLine.TheVariants.{Acted};
 ghost use Rattle.bx_service.specs.Rounds.{Doubt, Shows};
 
 use crate::bench::read_back;
+use crate::desks::new_desks;
 use crate::print::print_end;
 use crate::schedule::next_line;
 use crate::state::Replay;
 use bx_audit::Listing;
 use bx_base::{OutOfMemory, Point};
-use bx_desk::Desk;
 use bx_disk::{CrashRack, Rack};
 use bx_lease::ClockRule;
 use bx_outside::{LineReader, Sink, Source, write_all};
@@ -39,18 +40,19 @@ impl<M: Service> Replay<M> {
         bench: &mut B,
     ) -> Result<Replay<M>, Stop>
         requires { reader.old.most ≡ 18600 }
-        ensures begins { S.tells input.old → B.tells bench.old → Begins (λ replay. M.holds replay.service (B.state bench.new)) (λ replay. replay.calls) result
+        ensures begins { S.tells input.old → B.tells bench.old → Begins (λ replay. M.holds replay.service (B.state bench.new)) (λ replay. replay.nodes) (λ replay. replay.calls) result
             (reader.old.ahead ++ S.left input.old) (reader.new.ahead ++ S.left input.new) (S.left input.new) }
-        ensures reads { S.tells input.old → Begins (λ replay tree doubt. Unit {0}) (λ replay. replay.calls) result
+        ensures reads { S.tells input.old → Begins (λ replay tree doubts. Unit {0}) (λ replay. replay.nodes) (λ replay. replay.calls) result
             (reader.old.ahead ++ S.left input.old) (reader.new.ahead ++ S.left input.new) (S.left input.new) }
-        ensures holds { B.tells bench.old → IfOk result (λ replay. (tree : Tree) × (doubt : Option Doubt) × M.holds replay.service (B.state bench.new) tree doubt) }
+        ensures holds { B.tells bench.old → IfOk result (λ replay. (tree : Tree) × (doubts : ℕ → Option Doubt) × M.holds replay.service (B.state bench.new) tree doubts) }
         ensures up { IfOk result (λ replay. M.up replay.service ≡ true) }
-        ensures none_wait { IfOk result (λ replay. M.waits replay.service ≡ []) }
+        ensures none_wait { IfOk result (λ replay. (call : Taking) → M.waits replay.service call → ⊥) }
+        ensures nodes { IfOk result (λ replay. HasNodes replay.nodes (M.nodes replay.service) (length replay.desks.items)) }
         ensures latest { IfOk result (λ replay. M.latest replay.service ≡ replay.calls) }
         ensures ready { IfOk result (λ replay. M.ready replay.service (B.state bench.new).sizes) }
         ensures calls { IfOk result (λ replay. replay.calls ≡ 0) }
         ensures clock { IfOk result (λ replay. replay.clock ≡ 0) }
-        ensures desk { IfOk result (λ replay. replay.desk ≡ empty_desk) }
+        ensures desks { IfOk result (λ replay. (node : ℕ) (desk : AtDesk) → slice_get replay.desks.items node ≡ Some desk → desk ≡ empty_desk) }
         ensures cause { IfErr result (λ stop. HasBeginCause stop (S.faults input.old) (S.faults input.new) (B.faults bench.old) (B.faults bench.new)) }
         ensures first { UnlessRead result (S.faults input.new ≡ S.faults input.old) }
         ensures bench_first { UnlessDisk result (B.faults bench.new ≡ B.faults bench.old) }
@@ -60,13 +62,14 @@ impl<M: Service> Replay<M> {
         ensures later { S.faults input.old ≤ S.faults input.new }
         ensures keeps_telling { S.tells input.old → S.tells input.new }
     {
-        match next_line(alloc, reader, input, 1)? {
-            Some(Line::Heading { volume, .. }) => {
-                let desk = Desk::new(alloc)?;
-                let service = M::begin(alloc, bench, volume)?;
+        match next_line(alloc, reader, input, 1, 0)? {
+            Some(Line::Heading { volume, nodes, .. }) => {
+                let desks = new_desks(alloc, nodes)?;
+                let service = M::begin(alloc, bench, volume, nodes)?;
                 Ok(Replay {
                     service,
-                    desk,
+                    nodes,
+                    desks,
                     calls: 0,
                     clock: ClockRule::new(),
                     text: Vec::new(alloc),
@@ -84,20 +87,21 @@ impl<M: Service> Replay<M> {
         bench: &mut B,
         out: &mut K,
     ) -> Result<(), Stop>
+        requires nodes { HasNodes self.old.nodes (M.nodes self.old.service) (length self.old.desks.items) }
         requires ready { M.ready self.old.service (B.state bench.old).sizes }
-        ensures ends { (tree : Tree) (doubt : Option Doubt) → K.tells out.old → B.tells bench.old → M.holds self.old.service (B.state bench.old) tree doubt
-            → Ends result tree doubt (IsShownBy (B.state bench.new)) (K.written out.old) (K.written out.new) }
+        ensures ends { (tree : Tree) (doubts : ℕ → Option Doubt) → K.tells out.old → B.tells bench.old → M.holds self.old.service (B.state bench.old) tree doubts
+            → Ends result self.old.nodes tree doubts (IsShownBy (B.state bench.new) self.old.nodes) (K.written out.old) (K.written out.new) }
         ensures drops { B.tells bench.old → OnOk result (B.state bench.new ≡ all_crashed (B.state bench.old) Drop) }
         ensures dropped { (d s : ℕ) → B.tells bench.old → OnOk result ((B.state bench.new).unsure d s ≡ false) }
         ensures bench_first { UnlessDisk result (B.faults bench.new ≡ B.faults bench.old) }
         ensures bench_later { B.faults bench.old ≤ B.faults bench.new }
         ensures bench_tells { B.tells bench.old → B.tells bench.new }
-        ensures cause { IfErr result (λ stop. HasFinishCause stop (K.faults out.old) (K.faults out.new) (B.tells bench.old × ((tree : Tree) × (doubt : Option Doubt) × M.holds self.old.service (B.state bench.old) tree doubt)) (B.faults bench.old) (B.faults bench.new)) }
+        ensures cause { IfErr result (λ stop. HasFinishCause stop (K.faults out.old) (K.faults out.new) (B.tells bench.old × ((tree : Tree) × (doubts : ℕ → Option Doubt) × M.holds self.old.service (B.state bench.old) tree doubts)) (B.faults bench.old) (B.faults bench.new)) }
         ensures first { UnlessWrite result (K.faults out.new ≡ K.faults out.old) }
         ensures later { K.faults out.old ≤ K.faults out.new }
         ensures keeps_telling { K.tells out.old → K.tells out.new }
     {
-        let listed = read_back(alloc, bench)?;
+        let listed = read_back(alloc, self.nodes, bench)?;
         self.write_closing(alloc, &listed, out)
     }
 
@@ -108,8 +112,8 @@ impl<M: Service> Replay<M> {
         listed: &Listing,
         out: &mut K,
     ) -> Result<(), Stop>
-        ensures ends { (disks : Disks) (tree : Tree) (doubt : Option Doubt) (shows : Shows (M.lacks self.old.service) disks tree doubt) → K.tells out.old → AreOpen disks (opening_state 1 1) listed.now.doubt → listed.now.text ≡ listing shows.next
-            → IsHeldBy disks shows.next → Ends result tree doubt (IsShownBy disks) (K.written out.old) (K.written out.new) }
+        ensures ends { (disks : Disks) (tree : Tree) (doubts : ℕ → Option Doubt) (nodes : ℕ) (shows : Shows (M.lacks self.old.service) nodes disks tree doubts) → K.tells out.old → AreOpen disks (opening_state nodes 1) listed.now.doubt → listed.now.text ≡ listing shows.next
+            → IsHeldBy nodes disks shows.next → Ends result nodes tree doubts (IsShownBy disks nodes) (K.written out.old) (K.written out.new) }
         ensures cause { IfErr result (λ stop. HasPrintCause stop (K.faults out.old) (K.faults out.new)) }
         ensures first { UnlessWrite result (K.faults out.new ≡ K.faults out.old) }
         ensures later { K.faults out.old ≤ K.faults out.new }

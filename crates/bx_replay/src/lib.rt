@@ -5,6 +5,7 @@ mod admitting;
 mod bench;
 mod calls;
 mod crashes;
+mod desks;
 mod ends;
 mod laws;
 mod print;

@@ -44,7 +44,7 @@ pub fn replay<M: Service, S: Source, K: Sink, B: CrashRack>(
     let mut reader = LineReader::new(alloc, MAX_LINE)?;
     let mut replay: Replay<M> = Replay::begin(alloc, &mut reader, input, bench)?;
     let mut number = 1;
-    'lines: while let Some(line) = next_line(alloc, &mut reader, input, number + 1)? {
+    'lines: while let Some(line) = next_line(alloc, &mut reader, input, number + 1, replay.nodes)? {
         number += 1;
         replay.step(alloc, number, line, bench, out)?;
     }

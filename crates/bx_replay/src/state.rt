@@ -9,8 +9,10 @@ use bx_lease::ClockRule;
 pub struct Replay<M> {
     /// What takes the calls and answers them.
     pub service: M,
-    /// What tells repeats at the one node: the calls that wait there, and the answers that it keeps.
-    pub desk: Desk,
+    /// How many nodes there are.
+    pub nodes: u32,
+    /// What tells repeats at each node: the calls that wait there, and the answers that it keeps.
+    pub desks: Vec<Desk>,
     /// How many calls were taken.
     pub calls: CallNo,
     /// The readings of the lines that were done.

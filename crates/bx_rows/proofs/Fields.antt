@@ -2,13 +2,13 @@
 use Rattle.std.proofs.Common.{◌≡◌, ℕ, ◌^◌, ◌<◌, ◌≤◌, true, ltb, List, length, refl, arith}
 use Rattle.std.specs.List.{AllByRecursion}
 use Rattle.std.proofs.lemmas.Bool.{and_from, and_parts, lt-ltb, ltb-true}
-use Rattle.bx_fields.proofs.Fields.{IsField, field32, field64, then_field, as_field, tested_field, sized_field, list_field}
+use Rattle.bx_base.proofs.Fields.{IsField, field32, field64, then_field, as_field, tested_field, sized_field, list_field}
 use Rattle.bx_rows.specs.declared.device.DeviceRow.{DeviceRow}
 use Rattle.bx_rows.specs.declared.session.SessionRow.{SessionRow}
 use Rattle.bx_rows.specs.Conditions.{IsBallot}
 use Rattle.bx_rows.specs.Spelling.{pair_text, session_text, device_text, sessions_text, devices_text, ballot_text}
 use Rattle.bx_rows.specs.Reading
-use Rattle.bx_fields.proofs.Fields.{fits_field}
+use Rattle.bx_base.proofs.Fields.{fits_field}
 
 -- ---- rows
 

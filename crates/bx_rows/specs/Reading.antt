@@ -1,7 +1,7 @@
 -- Reading rows and ballots from the front of bytes.
 use Rattle.std.specs.Prelude.{ℕ, Bool, nat_lt, ◌&&◌, List}
 use Rattle.std.specs.Int.{w32, w64}
-use Rattle.bx_fields.specs.Reading.{Reader, number_at, then_at, as_at, tested_at, sized_at, list_at}
+use Rattle.bx_base.specs.Reading.{Reader, number_at, then_at, as_at, tested_at, sized_at, list_at}
 use Rattle.bx_rows.specs.declared.ballot.Ballot.{Ballot}
 use Rattle.bx_rows.specs.declared.device.DeviceRow.{DeviceRow}
 use Rattle.bx_rows.specs.declared.session.SessionRow.{SessionRow}

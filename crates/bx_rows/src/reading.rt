@@ -1,14 +1,13 @@
 //! Reading rows and ballots from the front of bytes.
 
 ghost use Rattle.std.specs.Prelude.{◌≡◌};
-ghost use Rattle.bx_fields.specs.Reading.{Gives, list_at};
+ghost use Rattle.bx_base.specs.Reading.{Gives, list_at};
 ghost use Rattle.bx_rows.specs.Reading.{ballot_at, device_at, devices_at, pair_at, session_at, sessions_at};
 
 use crate::ballot::Ballot;
 use crate::device::DeviceRow;
 use crate::session::SessionRow;
-use bx_base::List;
-use bx_fields::{ReadError, u32_at, u64_at};
+use bx_base::{List, ReadError, u32_at, u64_at};
 use std::alloc::Global;
 
 /// The most sessions of a state.

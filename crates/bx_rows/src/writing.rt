@@ -6,8 +6,7 @@ ghost use Rattle.bx_rows.specs.Spelling.{ballot_text, device_text, devices_text,
 use crate::ballot::Ballot;
 use crate::device::DeviceRow;
 use crate::session::SessionRow;
-use bx_base::OutOfMemory;
-use bx_fields::{push_u32, push_u64};
+use bx_base::{OutOfMemory, push_u32, push_u64};
 
 /// Puts a number of 32 bits and one of 64 at the end.
 pub fn push_pair(out: &mut Vec<u8>, small: u32, great: u64) -> Result<(), OutOfMemory>

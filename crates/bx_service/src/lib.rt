@@ -4,5 +4,5 @@
 mod event;
 mod service;
 
-pub use event::{Acted, Event};
-pub use service::Service;
+pub use event::{Acted, Call, Event};
+pub use service::{MOST_NODES, Service};

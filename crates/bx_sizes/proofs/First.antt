@@ -5,8 +5,8 @@ use Rattle.std.proofs.lemmas.Bool.Decides.{nat_tests}
 use Rattle.bx_base.specs.declared.names.Mode.{Mode}
 use Rattle.bx_blink.specs.Walks.{Reads}
 use Rattle.bx_changes.specs.First.{StopsFirst}
-use Rattle.bx_handles.specs.Handles.{named}
-use Rattle.bx_hints.proofs.Pages.{inode_is}
+use Rattle.bx_places.specs.Handles.{named}
+use Rattle.bx_inodes.proofs.Pages.{inode_is}
 use Rattle.bx_inodes.specs.Inodes.{HoldsInode, InodeAt}
 use Rattle.bx_inodes.specs.Stops.{NeverInner}
 use Rattle.bx_inodes.specs.declared.stop.Stop.{Stop}

@@ -2,9 +2,9 @@
 use Rattle.std.proofs.Common.{◌≡◌, ℕ, arith, sym, ap, ◌∙◌, subst, Some, inl, inr}
 use Rattle.std.specs.Prelude.{◌≢◌, ◌⊎◌}
 use Rattle.bx_blink.specs.Hints.{HintsFit}
-use Rattle.bx_hints.specs.Fitting.{Continues, HintsFitAll}
-use Rattle.bx_hints.proofs.Later.{fit_later}
-use Rattle.bx_hints.proofs.Pages.{one_block}
+use Rattle.bx_inodes.specs.Fitting.{Continues, HintsFitAll}
+use Rattle.bx_inodes.proofs.Later.{fit_later}
+use Rattle.bx_inodes.proofs.Pages.{one_block}
 use Rattle.bx_inodes.specs.Inodes.{HoldsInode}
 use Rattle.bx_layout.specs.declared.block.Block.{Block}
 use Rattle.bx_layout.specs.declared.inode.Inode.{Inode}

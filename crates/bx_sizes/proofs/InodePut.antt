@@ -1,8 +1,8 @@
 -- The inode of a regular file is put over a draft, with another size or tail.
 use Rattle.std.proofs.Common.{◌≡◌, ℕ, arith, List, sym, ap, ◌∙◌, subst, Some}
 use Rattle.std.specs.Prelude.{◌≢◌}
-use Rattle.bx_hints.specs.Fitting.{HintsFitAll}
-use Rattle.bx_hints.proofs.Pages.{inode_is}
+use Rattle.bx_inodes.specs.Fitting.{HintsFitAll}
+use Rattle.bx_inodes.proofs.Pages.{inode_is}
 use Rattle.bx_inodes.specs.Inodes.{HoldsInode}
 use Rattle.bx_inodes.specs.Writing.{PutsInode}
 use Rattle.bx_layout.specs.declared.inode.Inode.{Inode}

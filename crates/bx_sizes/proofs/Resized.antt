@@ -26,7 +26,7 @@ use Rattle.bx_truth.specs.Stored.{AreBytesOf, HasBody, HasFields, Owner, Stored,
 use Rattle.bx_truth.specs.PageTrees.{Chunks}
 use Rattle.bx_truth.proofs.OneFiles.{one_list}
 use Rattle.bx_truth.proofs.Put.{shown}
-use Rattle.bx_hints.proofs.Pages.{inode_is}
+use Rattle.bx_inodes.proofs.Pages.{inode_is}
 use Rattle.bx_views.specs.Truths.{Held, IsTruth, Truth}
 use Rattle.bx_sizes.proofs.Bytes.{long, resized as resized_bytes}
 use Rattle.bx_sizes.proofs.InodePut.{bytes_were, inode_leads, inode_put}

@@ -7,7 +7,7 @@ use Rattle.bx_changes.specs.Changes.{Changes, IsChange}
 use Rattle.bx_changes.specs.First.{StopsFirst}
 use Rattle.bx_changes.proofs.AttributesSet.{right_is}
 use Rattle.bx_changes.proofs.FileChanged.{changed_is_put}
-use Rattle.bx_handles.specs.Handles.{named}
+use Rattle.bx_places.specs.Handles.{named}
 use Rattle.bx_inodes.specs.declared.stop.Stop.{Stop}
 use Rattle.bx_inodes.specs.declared.stop.Stop.TheVariants.{Need, Inner, Status, OutOfMemory}
 use Rattle.bx_inodes.specs.Heads.{head_of}

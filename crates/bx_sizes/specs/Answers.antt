@@ -2,7 +2,7 @@
 use Rattle.std.specs.Prelude.{◌≡◌, ℕ, ◌<◌, ◌^◌, List, Result, Ok, Err}
 use Rattle.bx_changes.specs.Changes.{Changes}
 use Rattle.bx_changes.specs.Growing.{LeavesTrees}
-use Rattle.bx_hints.specs.Fitting.{HintsFitAll}
+use Rattle.bx_inodes.specs.Fitting.{HintsFitAll}
 use Rattle.bx_inodes.specs.declared.stop.Stop.{Stop}
 use Rattle.bx_inodes.specs.declared.stop.Stop.TheVariants.{Need, Inner, Status, OutOfMemory}
 use Rattle.bx_inodes.specs.Inodes.{shown_size}

@@ -1,8 +1,7 @@
 //! Lines of schedules and of traces.
 
-use bx_base::{OutOfMemory, Point, Raw};
+use bx_base::{OutOfMemory, Point, Raw, ReadError, u32_at, u64_at};
 use bx_disk::Noise;
-use bx_fields::{ReadError, u32_at, u64_at};
 use bx_script::{Line, TraceLine};
 use bx_tests_lines::Line as Answer;
 use std::alloc::Global;

@@ -1,9 +1,7 @@
 //! Fields, and the numbers of chunks and blocks.
 
-use bx_base::OutOfMemory;
-use bx_fields::{ReadError, push, push_u32, push_u64, put_u16, u16_at, u32_at, u64_at};
-use bx_handles::{ChunkHandle, file_handle, named_handle};
-use bx_places::{is_block, member_sectors};
+use bx_base::{OutOfMemory, ReadError, push, push_u32, push_u64, put_u16, u16_at, u32_at, u64_at};
+use bx_places::{ChunkHandle, file_handle, is_block, member_sectors, named_handle};
 use bx_tests_lines::Line;
 use std::alloc::Global;
 

@@ -1,8 +1,7 @@
 //! Packets of the register.
 
 use crate::states::{tell_ballot, tell_state};
-use bx_base::OutOfMemory;
-use bx_fields::u32_at;
+use bx_base::{OutOfMemory, u32_at};
 use bx_packets::{Message, Promise};
 use bx_tests_lines::Line;
 use std::alloc::Global;

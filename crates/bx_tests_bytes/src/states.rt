@@ -1,7 +1,6 @@
 //! The state that the machines agree on, its changes, and what a cell holds.
 
-use bx_base::OutOfMemory;
-use bx_fields::{u32_at, u64_at};
+use bx_base::{OutOfMemory, u32_at, u64_at};
 use bx_global::{Ballot, Change, DeviceRow, GlobalState, Held, SessionRow};
 use bx_tests_lines::Line;
 use std::alloc::Global;

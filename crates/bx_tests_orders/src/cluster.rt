@@ -7,7 +7,7 @@ use bx_facts::{Input, Outbox, ProposeError};
 use bx_global::Change;
 use bx_memory_rack::MemRack;
 use bx_paxos_cluster::{Paxos, has_disks};
-use bx_post::Post;
+use bx_post::{Passes, Post};
 use std::alloc::Global;
 
 /// The machines that propose.
@@ -51,6 +51,24 @@ pub(crate) fn shift(epoch: u64, boot: u64) -> Change {
         mode: ONLY_A,
         second: false,
         boot,
+    }
+}
+
+/// The packets from one machine to another.
+#[derive(Clone, Copy)]
+struct Between {
+    from: Actor,
+    to: Actor,
+}
+
+impl Passes for Between {
+    ghost use Rattle.std.specs.Prelude.{◌&&◌};
+    ghost use Rattle.bx_post.specs.Machines.{is_same};
+
+    ghost passes = { λ between from to kind. is_same between.from from && is_same between.to to };
+
+    fn passes(&self, from: Actor, to: Actor, _kind: u8) -> bool {
+        self.from == from && self.to == to
     }
 }
 
@@ -127,14 +145,7 @@ impl Cluster {
 
     /// The number of the oldest packet under way from one machine to another.
     fn oldest(&self, from: Actor, to: Actor) -> Option<u64> {
-        let mut number = self.post.pending(0)?;
-        for _ in 0..1_000 {
-            match self.post.packet(number) {
-                Some(packet) if packet.from == from && packet.to == to => return Some(number),
-                _ => number = self.post.pending(number)?,
-            }
-        }
-        None
+        self.post.next(&Between { from, to })
     }
 
     /// A packet under way comes. Says whether that went well.

@@ -7,6 +7,8 @@ mod answers;
 #[cfg(test)]
 mod cluster;
 #[cfg(test)]
+mod events;
+#[cfg(test)]
 mod orders;
 #[cfg(test)]
 mod refusals;

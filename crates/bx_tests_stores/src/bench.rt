@@ -36,26 +36,34 @@ fn one_run(alloc: Global, place: u64, byte: u8) -> Result<Runs, OutOfMemory>
     Ok(runs)
 }
 
+/// A write of a node: a sector all of whose bytes are this one, which members take up to a reading.
+#[derive(Clone, Copy)]
+pub(crate) struct Write {
+    pub(crate) node: u32,
+    pub(crate) place: u64,
+    pub(crate) byte: u8,
+    pub(crate) until: u64,
+}
+
 /// Sends a write of one sector, if nothing of the node is out, and says whether that went well.
-pub(crate) fn writes<S: Store>(
-    store: &mut S,
-    alloc: Global,
-    node: u32,
-    place: u64,
-    byte: u8,
-    out: &mut Outbox,
-) -> bool
+pub(crate) fn writes<S: Store>(store: &mut S, alloc: Global, write: Write, out: &mut Outbox) -> bool
     requires { S.made store.old ≡ made }
     ensures made { S.made store.new ≡ made }
     ensures needs { NeedsNoMore (S.needs store.old) (S.needs store.new) }
 {
+    let Write {
+        node,
+        place,
+        byte,
+        until,
+    } = write;
     if place < 1 || place > 100 || !store.done(node) || store.session(node).is_none() {
         return false;
     }
     let Ok(runs) = one_run(alloc, place, byte) else {
         return false;
     };
-    store.write(node, &runs, 5000, out).is_ok()
+    store.write(node, &runs, until, out).is_ok()
 }
 
 /// Sends a read of one sector, if none of the node is out, and says whether that went well.
@@ -232,7 +240,13 @@ impl<G: Register, O: Owners, S: Store, R: Rack> Desk<G, O, S, R> {
                 member < 2 && self.hears(Actor::Member(member), &Input::Synced) == well
             }
             Step::Writes(node, place, byte) => {
-                writes(&mut self.store, alloc, node, place, byte, &mut out)
+                let write = Write {
+                    node,
+                    place,
+                    byte,
+                    until: 5000,
+                };
+                writes(&mut self.store, alloc, write, &mut out)
             }
             Step::IsDone(node, wanted) => self.store.done(node) == wanted,
             Step::Reads(node, place) => reads(&mut self.store, node, place, &mut out),

@@ -1,95 +1,114 @@
-//! Mirrored devices, whose machines speak by letters: a write on both members, a read, and a member that goes on alone. For volume 7 with two nodes,
-//! one device and one area.
+//! Mirrored devices, whose machines speak by letters, and steps that they take, for tables of cases. They are for volume 7 with two nodes, one device
+//! and one area.
 
-ghost use Rattle.std.specs.Prelude.{◌≡◌, true};
+ghost use Rattle.std.specs.Prelude.{◌≡◌, ◌<◌, true, IfOk};
 ghost use Rattle.bx_facts.specs.Machines.{IsMachine};
 ghost use Rattle.bx_global.specs.Allowed.{IsAllowed};
 ghost use Rattle.bx_tests_stores.specs.Benches.{IsBench, IsDesk};
 
-use crate::bench::{brings, has, reads, writes};
-use bx_base::{Actor, OutOfMemory};
+use crate::bench::{Write, brings, has, reads, writes};
+use bx_base::{Actor, List, OutOfMemory};
 use bx_devices::Devices;
-use bx_disk::Rack;
+use bx_disk::{CrashRack, Noise, Rack};
 use bx_facts::{Input, Outbox, Store};
-use bx_global::GlobalState;
+use bx_global::{Change, GlobalState};
+use bx_layout::Label;
 use bx_memory_rack::MemRack;
 use bx_plain::endless;
 use bx_post::Post;
+use bx_rows::DeviceRow;
 use std::alloc::Global;
 
-const N0: Actor = Actor::Node(0);
+pub(crate) const N0: Actor = Actor::Node(0);
 
-const N1: Actor = Actor::Node(1);
+pub(crate) const N1: Actor = Actor::Node(1);
 
-const A: Actor = Actor::Member(0);
+pub(crate) const A: Actor = Actor::Member(0);
 
-const B: Actor = Actor::Member(1);
+pub(crate) const B: Actor = Actor::Member(1);
 
-/// A step, and its outcome.
+/// A change of the device's mode: its epoch so far, the mode, and B's boot (`true`) or A's.
+#[derive(Clone, Copy, PartialEq, Eq)]
+pub(crate) struct Shift(
+    pub(crate) u64,
+    pub(crate) u32,
+    pub(crate) bool,
+    pub(crate) u64,
+);
+
+/// One of the letters under way from one machine to another.
+#[derive(Clone, Copy, PartialEq, Eq)]
+pub(crate) enum Which {
+    Oldest,
+    Newest,
+}
+
+/// What an event comes to.
+#[derive(Clone, Copy, PartialEq, Eq)]
+pub(crate) enum Told {
+    /// It goes well, and nothing is to be proposed.
+    Nothing,
+    /// This is to be proposed.
+    Asks(Shift),
+    /// It doesn't go well, or something else is to be proposed.
+    Fails,
+}
+
+/// What is looked at.
 #[derive(Clone, Copy)]
-enum Step {
-    /// The oldest letter from one machine to another comes, and no change is proposed.
-    Comes(Actor, Actor),
-    /// A clock reads this, and a change is proposed, or none is.
-    Ticks(Actor, u64, bool),
-    /// A machine's disk has finished a sync.
-    Syncs(Actor),
-    /// A machine stops.
-    Stops(Actor),
-    /// A node reads a sector.
-    Reads(u32, u64),
+pub(crate) enum Look {
     /// A node's answer is nothing, or a sector of this byte.
     Brings(u32, Option<u8>),
     /// All bytes of a sector of a disk are this byte.
     Has(u32, u64, u8),
+    /// A node has no write out, or has one.
+    IsDone(u32, bool),
+    /// The disk is labelled as one of this volume.
+    IsLabelled(u32, u64),
+    /// The newest letter from one machine to another has so many bytes.
+    IsLong(Actor, Actor, usize),
+    /// So many letters are under way from one machine to another.
+    UnderWay(Actor, Actor, usize),
     /// A member owes an answer to a sync, or doesn't.
     Waits(Actor, bool),
-    /// A node writes a sector with a byte.
-    Writes(u32, u64, u8),
-    /// A node has a write out, or has none.
-    IsDone(u32, bool),
 }
 
-use Step::{Brings, Comes, Has, IsDone, Reads, Stops, Syncs, Ticks, Waits, Writes};
+/// A step. Where it says nothing else, an event goes well, and nothing is to be proposed.
+#[derive(Clone, Copy)]
+pub(crate) enum Step {
+    /// The oldest letter from one machine to another comes at the reading 1000.
+    Comes(Actor, Actor),
+    /// A letter from one machine to another comes at a reading.
+    ComesAt(Which, Actor, Actor, u64),
+    /// A copy of it comes at a reading, and it stays under way. This is what comes of that.
+    Repeats(Which, Actor, Actor, u64, Told),
+    /// A disk crashes.
+    Crashes(u32, Noise),
+    /// From here on machines are handed a state in which the device has this mode, this epoch, and these boots of A and B.
+    Knows(u32, u64, u64, u64),
+    /// A disk gets the label of this volume.
+    Labels(u32, u64),
+    /// A node reads a sector.
+    Reads(u32, u64),
+    /// It comes out so.
+    Shows(Look),
+    /// A machine that stopped starts again in a boot, at the reading 1000.
+    Starts(Actor, u64),
+    /// A machine stops.
+    Stops(Actor),
+    /// A machine's disk has finished a sync. To a node this is an event that says nothing but the state.
+    Syncs(Actor),
+    /// A clock reads this. This is what comes of that.
+    Ticks(Actor, u64, Told),
+    /// A node writes a sector with a byte, until a reading.
+    Writes(u32, u64, u8, u64),
+}
 
-/// A write is done once both members have it surely; it is read; and while one is down the other asks to go on alone once it is silent.
-const STEPS: [Step; 33] = [
-    Writes(0, 5, 85),
-    IsDone(0, false),
-    Comes(N0, A),
-    Has(3, 5, 85),
-    Has(4, 5, 0),
-    Waits(A, true),
-    Syncs(A),
-    Waits(A, false),
-    Comes(A, N0),
-    IsDone(0, false),
-    Comes(N0, B),
-    Has(4, 5, 85),
-    Syncs(B),
-    Comes(B, N0),
-    IsDone(0, true),
-    Reads(1, 5),
-    Brings(1, None),
-    Comes(N1, A),
-    Comes(A, N1),
-    Brings(1, Some(85)),
-    Brings(1, None),
-    Stops(B),
-    Waits(B, false),
-    Writes(1, 6, 86),
-    Comes(N1, A),
-    Comes(N1, B),
-    Has(3, 6, 86),
-    Has(4, 6, 0),
-    Syncs(A),
-    Comes(A, N1),
-    IsDone(1, false),
-    Ticks(A, 2000, false),
-    Ticks(A, 2001, true),
-];
+/// Steps, and how often they come one behind the other.
+#[derive(Clone, Copy)]
+pub(crate) struct Part(pub(crate) u32, pub(crate) &'static [Step]);
 
-/// A store and its rack, the state that all machines know, and what is under way.
+/// A store and its rack, the state that machines are handed, and what is under way.
 #[derive(Drop)]
 struct Desk<S, R> {
     alloc: Global,
@@ -110,7 +129,24 @@ fn is_machine(at: Actor) -> bool
     }
 }
 
-/// An event of a machine. Says whether it proposes a change; nothing where it didn't go well.
+/// What a change says of the device.
+fn told_of(change: Option<Change>) -> Told {
+    match change {
+        None => Told::Nothing,
+        Some(
+            Change::Shift {
+                device: 0,
+                epoch,
+                mode,
+                second,
+                boot,
+            },
+        ) => Told::Asks(Shift(epoch, mode, second, boot)),
+        Some(_) => Told::Fails,
+    }
+}
+
+/// An event of a machine.
 fn hears<S: Store, R: Rack>(
     store: &mut S,
     rack: &mut R,
@@ -118,58 +154,285 @@ fn hears<S: Store, R: Rack>(
     at: Actor,
     input: &Input,
     out: &mut Outbox,
-) -> Option<bool>
+) -> Told
     requires bench { IsBench (S.made store.old) (S.needs store.old) (R.state rack.old).sizes }
     requires known { IsAllowed known.now }
     ensures { IsBench (S.made store.new) (S.needs store.new) (R.state rack.new).sizes }
 {
     if !is_machine(at) {
-        return None;
+        return Told::Fails;
     }
     match store.take(rack, known, at, input, out) {
-        Ok(change) => Some(change.is_some()),
-        Err(_) => None,
+        Ok(change) => told_of(change),
+        Err(_) => Told::Fails,
     }
 }
 
-impl<S: Store, R: Rack> Desk<S, R> {
-    /// The number of the oldest letter under way from one machine to another.
-    fn oldest(&self, from: Actor, to: Actor) -> Option<u64> {
-        let mut number = self.post.pending(0)?;
-        for _ in 0..100 {
-            match self.post.packet(number) {
-                Some(packet) if packet.from == from && packet.to == to => return Some(number),
-                _ => number = self.post.pending(number)?,
-            }
-        }
-        None
-    }
+/// A machine starts again, and says whether that went well.
+fn starts<S: Store, R: Rack>(store: &mut S, rack: &mut R, who: Actor, boot: u64) -> bool
+    requires bench { IsBench (S.made store.old) (S.needs store.old) (R.state rack.old).sizes }
+    ensures { IsBench (S.made store.new) (S.needs store.new) (R.state rack.new).sizes }
+{
+    let has_room = match who {
+        Actor::Member(member) => 3 + u64::from(member) < u64::from(rack.disks())
+            && rack.sectors(3 + member) >= 17994,
+        _ => true,
+    };
+    is_machine(who) && has_room && store.restart(rack, who, boot, 1000).is_ok()
+}
 
-    /// That letter comes. Says as much as of an event.
-    fn comes(&mut self, from: Actor, to: Actor, out: &mut Outbox) -> Option<bool>
+/// The state with another row of its only device.
+fn state_with(
+    alloc: Global,
+    state: &GlobalState,
+    row: DeviceRow,
+) -> Result<GlobalState, OutOfMemory>
+    requires state { IsAllowed state.now }
+    requires mode { row.mode < 5 }
+    ensures { IfOk result IsAllowed }
+{
+    let copy = state.copy(alloc)?;
+    Ok(GlobalState {
+        devices: List::of(alloc, &[row])?,
+        ..copy
+    })
+}
+
+/// The text of a label of a disk.
+fn label_text(disk: u32, volume: u64) -> [u8; 512] {
+    let label = Label {
+        volume,
+        disk,
+        devices: 1,
+        areas: 1,
+    };
+    let mut text = [0; 512];
+    label.write(&mut text);
+    text
+}
+
+/// Whether a disk is labelled as one of a volume.
+fn is_labelled<R: Rack>(rack: &mut R, disk: u32, volume: u64) -> bool
+    ensures { (R.state rack.new).sizes ≡ (R.state rack.old).sizes }
+{
+    let mut into = [0; 512];
+    disk < rack.disks()
+        && rack.sectors(disk) > 0
+        && rack.read(disk, 0, &mut into).is_ok()
+        && into == label_text(disk, volume)
+}
+
+/// Writes a label, and says whether that went well.
+fn labels<R: Rack>(rack: &mut R, disk: u32, volume: u64) -> bool
+    ensures { (R.state rack.new).sizes ≡ (R.state rack.old).sizes }
+{
+    disk < rack.disks()
+        && rack.sectors(disk) > 0
+        && rack.write(disk, 0, &label_text(disk, volume)).is_ok()
+        && rack.sync(disk).is_ok()
+}
+
+/// A disk crashes, and says whether that went well.
+fn crashes<R: CrashRack>(rack: &mut R, disk: u32, how: Noise) -> bool
+    ensures { (R.state rack.new).sizes ≡ (R.state rack.old).sizes }
+{
+    disk < rack.disks() && rack.crash(disk, how).is_ok()
+}
+
+/// The numbers of the letters under way from one machine to another, the oldest first.
+fn between(alloc: Global, post: &Post, from: Actor, to: Actor) -> Result<Vec<u64>, OutOfMemory> {
+    let mut found = Vec::new(alloc);
+    let mut last = 0;
+    for _ in 0..1000 {
+        let Some(number) = post.pending(last) else {
+            break;
+        };
+        if let Some(packet) = post.packet(number)
+            && packet.from == from
+            && packet.to == to
+        {
+            found.push(number)?;
+        }
+        last = number;
+    }
+    Ok(found)
+}
+
+/// The number of one of them.
+fn number_of(alloc: Global, post: &Post, which: Which, from: Actor, to: Actor) -> Option<u64> {
+    let found = between(alloc, post, from, to).ok()?;
+    match which {
+        Which::Oldest => found.first().copied(),
+        Which::Newest => found.last().copied(),
+    }
+}
+
+impl<S: Store, R: CrashRack> Desk<S, R> {
+    /// A letter comes at a reading, and goes where it doesn't stay under way.
+    fn comes(&mut self, number: u64, to: Actor, reading: u64, out: &mut Outbox) -> Told
         requires { IsDesk (S.made self.old.store) (S.needs self.old.store) (R.state self.old.rack).sizes self.old.known }
         ensures { IsDesk (S.made self.new.store) (S.needs self.new.store) (R.state self.new.rack).sizes self.new.known }
     {
-        let number = self.oldest(from, to)?;
-        let input = Input::Packet(self.post.packet(number)?, 1000);
-        let change = hears(
+        let Some(packet) = self.post.packet(number) else {
+            return Told::Fails;
+        };
+        let input = Input::Packet(packet, reading);
+        hears(
             &mut self.store,
             &mut self.rack,
             &self.known,
             to,
             &input,
             out,
-        );
+        )
+    }
+
+    /// A letter from one machine to another comes at a reading, and is under way no more.
+    fn takes(
+        &mut self,
+        which: Which,
+        from: Actor,
+        to: Actor,
+        reading: u64,
+        out: &mut Outbox,
+    ) -> Told
+        requires { IsDesk (S.made self.old.store) (S.needs self.old.store) (R.state self.old.rack).sizes self.old.known }
+        ensures { IsDesk (S.made self.new.store) (S.needs self.new.store) (R.state self.new.rack).sizes self.new.known }
+    {
+        let Some(number) = number_of(self.alloc, &self.post, which, from, to) else {
+            return Told::Fails;
+        };
+        let told = self.comes(number, to, reading, out);
         self.post.settle(number);
-        change
+        told
+    }
+
+    /// A copy of one comes at a reading.
+    fn repeats(
+        &mut self,
+        which: Which,
+        from: Actor,
+        to: Actor,
+        reading: u64,
+        out: &mut Outbox,
+    ) -> Told
+        requires { IsDesk (S.made self.old.store) (S.needs self.old.store) (R.state self.old.rack).sizes self.old.known }
+        ensures { IsDesk (S.made self.new.store) (S.needs self.new.store) (R.state self.new.rack).sizes self.new.known }
+    {
+        let Some(number) = number_of(self.alloc, &self.post, which, from, to) else {
+            return Told::Fails;
+        };
+        self.comes(number, to, reading, out)
     }
 
     /// An event without a letter.
-    fn ticks(&mut self, at: Actor, input: &Input, out: &mut Outbox) -> Option<bool>
+    fn ticks(&mut self, at: Actor, input: &Input, out: &mut Outbox) -> Told
         requires { IsDesk (S.made self.old.store) (S.needs self.old.store) (R.state self.old.rack).sizes self.old.known }
         ensures { IsDesk (S.made self.new.store) (S.needs self.new.store) (R.state self.new.rack).sizes self.new.known }
     {
         hears(&mut self.store, &mut self.rack, &self.known, at, input, out)
+    }
+
+    /// Machines are handed another row of the device from here on. Says whether that went well.
+    fn knows(&mut self, row: DeviceRow) -> bool
+        requires { IsDesk (S.made self.old.store) (S.needs self.old.store) (R.state self.old.rack).sizes self.old.known }
+        ensures { IsDesk (S.made self.new.store) (S.needs self.new.store) (R.state self.new.rack).sizes self.new.known }
+    {
+        if row.mode >= 5 {
+            return false;
+        }
+        let Ok(state) = state_with(self.alloc, &self.known, row) else {
+            return false;
+        };
+        self.known = state;
+        true
+    }
+
+    /// How many letters are under way from one machine to another, and how long the newest is.
+    fn letters(&self, from: Actor, to: Actor) -> Option<(usize, usize)> {
+        let found = between(self.alloc, &self.post, from, to).ok()?;
+        let long = match found.last() {
+            Some(number) => self.post.packet(*number)?.body.bytes().len(),
+            None => 0,
+        };
+        Some((found.len(), long))
+    }
+
+    /// Whether it comes out so.
+    fn shows(&mut self, look: Look) -> bool
+        requires { IsDesk (S.made self.old.store) (S.needs self.old.store) (R.state self.old.rack).sizes self.old.known }
+        ensures { IsDesk (S.made self.new.store) (S.needs self.new.store) (R.state self.new.rack).sizes self.new.known }
+    {
+        match look {
+            Look::Brings(node, wanted) => brings(&mut self.store, node, wanted),
+            Look::Has(disk, sector, byte) => has(&mut self.rack, disk, sector, byte),
+            Look::IsDone(node, wanted) => self.store.done(node) == wanted,
+            Look::IsLabelled(disk, volume) => is_labelled(&mut self.rack, disk, volume),
+            Look::IsLong(from, to, wanted) => {
+                matches!(self.letters(from, to), Some((_, long)) if long == wanted)
+            }
+            Look::UnderWay(from, to, wanted) => {
+                matches!(self.letters(from, to), Some((count, _)) if count == wanted)
+            }
+            Look::Waits(at, wanted) => self.store.waiting(at) == wanted,
+        }
+    }
+
+    /// An event comes to a machine, or a node writes or reads: says whether it came out so.
+    fn acts(&mut self, step: Step, out: &mut Outbox) -> bool
+        requires { IsDesk (S.made self.old.store) (S.needs self.old.store) (R.state self.old.rack).sizes self.old.known }
+        ensures { IsDesk (S.made self.new.store) (S.needs self.new.store) (R.state self.new.rack).sizes self.new.known }
+    {
+        match step {
+            Step::Comes(from, to) => {
+                self.takes(Which::Oldest, from, to, 1000, out) == Told::Nothing
+            }
+            Step::ComesAt(which, from, to, reading) => {
+                self.takes(which, from, to, reading, out) == Told::Nothing
+            }
+            Step::Repeats(which, from, to, reading, wanted) => {
+                self.repeats(which, from, to, reading, out) == wanted
+            }
+            Step::Syncs(at) => self.ticks(at, &Input::Synced, out) == Told::Nothing,
+            Step::Ticks(at, reading, wanted) => {
+                self.ticks(at, &Input::Tick(reading), out) == wanted
+            }
+            Step::Reads(node, place) => reads(&mut self.store, node, place, out),
+            Step::Writes(node, place, byte, until) => {
+                let write = Write {
+                    node,
+                    place,
+                    byte,
+                    until,
+                };
+                writes(&mut self.store, self.alloc, write, out)
+            }
+            _ => self.changes(step),
+        }
+    }
+
+    /// Something befalls a machine, a disk or the state; or it is looked at. Says whether it came out so.
+    fn changes(&mut self, step: Step) -> bool
+        requires { IsDesk (S.made self.old.store) (S.needs self.old.store) (R.state self.old.rack).sizes self.old.known }
+        ensures { IsDesk (S.made self.new.store) (S.needs self.new.store) (R.state self.new.rack).sizes self.new.known }
+    {
+        match step {
+            Step::Crashes(disk, how) => crashes(&mut self.rack, disk, how),
+            Step::Knows(mode, epoch, boot_a, boot_b) => self.knows(DeviceRow {
+                mode,
+                epoch,
+                boot_a,
+                boot_b,
+            }),
+            Step::Labels(disk, volume) => labels(&mut self.rack, disk, volume),
+            Step::Shows(look) => self.shows(look),
+            Step::Starts(who, boot) => starts(&mut self.store, &mut self.rack, who, boot),
+            Step::Stops(at) => {
+                self.store.crash(at);
+                true
+            }
+            _ => false,
+        }
     }
 
     /// Takes a step, and says whether it came out so.
@@ -177,50 +440,52 @@ impl<S: Store, R: Rack> Desk<S, R> {
         requires { IsDesk (S.made self.old.store) (S.needs self.old.store) (R.state self.old.rack).sizes self.old.known }
         ensures { IsDesk (S.made self.new.store) (S.needs self.new.store) (R.state self.new.rack).sizes self.new.known }
     {
-        let alloc = self.alloc;
-        let mut out = Outbox::new(alloc);
-        let went = match step {
-            Writes(node, place, byte) => {
-                writes(&mut self.store, alloc, node, place, byte, &mut out)
-            }
-            IsDone(node, wanted) => self.store.done(node) == wanted,
-            Reads(node, place) => reads(&mut self.store, node, place, &mut out),
-            Brings(node, wanted) => brings(&mut self.store, node, wanted),
-            Comes(from, to) => self.comes(from, to, &mut out) == Some(false),
-            Ticks(at, reading, wanted) => {
-                self.ticks(at, &Input::Tick(reading), &mut out) == Some(wanted)
-            }
-            Syncs(at) => self.ticks(at, &Input::Synced, &mut out) == Some(false),
-            Waits(at, wanted) => self.store.waiting(at) == wanted,
-            Has(disk, sector, byte) => has(&mut self.rack, disk, sector, byte),
-            Stops(at) => {
-                self.store.crash(at);
-                true
-            }
-        };
-        went && self.post.send(alloc, out).is_ok()
+        let mut out = Outbox::new(self.alloc);
+        self.acts(step, &mut out) && self.post.send(self.alloc, out).is_ok()
     }
 
-    /// How many steps come out so, up to the first that doesn't.
-    fn all_go(&mut self, steps: &[Step]) -> u32
+    /// Takes steps, up to the first that doesn't come out so: how many do, and whether all do.
+    fn all_go(&mut self, steps: &[Step]) -> (u32, bool)
         requires { IsDesk (S.made self.old.store) (S.needs self.old.store) (R.state self.old.rack).sizes self.old.known }
         ensures { IsDesk (S.made self.new.store) (S.needs self.new.store) (R.state self.new.rack).sizes self.new.known }
     {
         let mut gone = 0u32;
         for step in steps {
             if !self.goes(*step) {
-                break;
+                return (gone, false);
             }
             gone = gone.saturating_add(1);
         }
-        gone
+        (gone, true)
+    }
+
+    /// Takes all parts, and says how many steps come out so up to the first that doesn't; nothing where all do.
+    fn first_wrong(&mut self, parts: &[Part]) -> Option<u32>
+        requires { IsDesk (S.made self.old.store) (S.needs self.old.store) (R.state self.old.rack).sizes self.old.known }
+        ensures { IsDesk (S.made self.new.store) (S.needs self.new.store) (R.state self.new.rack).sizes self.new.known }
+    {
+        let mut before = 0u32;
+        for part in parts {
+            for _ in 0..part.0 {
+                let (gone, all) = self.all_go(part.1);
+                before = before.saturating_add(gone);
+                if !all {
+                    return Some(before);
+                }
+            }
+        }
+        None
     }
 }
 
-/// How many of the steps come out so, over a rack in memory.
-fn runs(alloc: Global, steps: &[Step]) -> Result<u32, OutOfMemory> {
+/// The steps of parts over a rack in memory, of which these calls fail: nothing where all come out so, else how many come before the first that doesn't.
+pub(crate) fn runs(
+    alloc: Global,
+    faults: &[u64],
+    parts: &[Part],
+) -> Result<Option<u32>, OutOfMemory> {
     let known = endless(alloc, 2, 1)?;
-    let rack = MemRack::new(alloc, &[1, 1, 1, 17994, 17994], &[])?;
+    let rack = MemRack::new(alloc, &[1, 1, 1, 17994, 17994], faults)?;
     let store = Devices::new(alloc, 7, 2, 1, 1, &known)?;
     let mut desk = Desk {
         alloc,
@@ -229,13 +494,5 @@ fn runs(alloc: Global, steps: &[Step]) -> Result<u32, OutOfMemory> {
         rack,
         post: Post::new(alloc),
     };
-    Ok(desk.all_go(steps))
-}
-
-#[test]
-fn mirrored_devices_serve_nodes_by_letters(rt: HostRuntime) {
-    assert!(rt;
-        runs(rt.alloc(), &STEPS) == Ok(33),
-        "a write on both members, a read, and a member that is alone"
-    );
+    Ok(desk.first_wrong(parts))
 }

@@ -11,6 +11,8 @@ mod blocks;
 mod cases;
 #[cfg(test)]
 mod letters;
+#[cfg(test)]
+mod orders;
 mod toy;
 
 pub use toy::hear;

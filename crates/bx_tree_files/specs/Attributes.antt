@@ -1,7 +1,7 @@
 -- A file's attributes.
 use Rattle.std.specs.Prelude.{ℕ, ◌+◌, ◌/◌, ◌%◌, ◌^◌, ◌==◌, if◌then◌else◌, List, [], ◌∷◌, bit_or}
-use Rattle.bx_handles.specs.Handles as handles
-use Rattle.bx_handles.specs.Handles.{parts_of}
+use Rattle.bx_places.specs.Handles as handles
+use Rattle.bx_places.specs.Handles.{parts_of}
 use Rattle.bx_tree_files.specs.declared.file.File.{File}
 use Rattle.bx_tree_files.specs.Files.{size_of}
 

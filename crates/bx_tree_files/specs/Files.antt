@@ -4,7 +4,7 @@ use Rattle.std.specs.List.{list_any}
 use Rattle.std.specs.List.Sorted.{IsStrictlySortedBy}
 use Rattle.std.specs.Map.{keys_of}
 use Rattle.std.specs.Ordering.{nat_cmp}
-use Rattle.bx_handles.specs.Handles.{fileid, parts_of}
+use Rattle.bx_places.specs.Handles.{fileid, parts_of}
 use Rattle.bx_tree_files.specs.declared.file.File.{File}
 use Rattle.bx_tree_parts.specs.declared.fileids.Fileids.{Fileids}
 use Rattle.bx_tree_parts.specs.Fileids.{has_pair}

@@ -6,7 +6,7 @@ ghost use Rattle.bx_tree_files.specs.Files.{IsFile, size_of as body_size};
 
 use crate::file::{Body, DIRECTORY, File, LINK};
 use bx_base::{OutOfMemory, Words};
-use bx_handles::ChunkHandle;
+use bx_places::ChunkHandle;
 use std::alloc::Global;
 
 /// How many bytes a block has.

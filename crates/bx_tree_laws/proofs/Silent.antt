@@ -10,7 +10,7 @@ use Rattle.bx_model.specs.declared.reply.Reply.{Reply}
 use Rattle.bx_model.specs.declared.reply.Reply.TheVariants as reply
 use Rattle.bx_model.specs.declared.status.TheConstants.{ACCES, DQUOT, EXIST, ISDIR, NFS_OK, NOENT, NOTDIR, NOTEMPTY, NXIO, PERM, STALE}
 use Rattle.bx_model.specs.declared.tree.Tree.{Tree}
-use Rattle.bx_handles.specs.Handles.{file_text}
+use Rattle.bx_places.specs.Handles.{file_text}
 use Rattle.bx_model.specs.Directories.{readdir}
 use Rattle.bx_tree_files.specs.Entries.{entry_named, is_bad}
 use Rattle.bx_tree_files.specs.Files.{file_at, is_directory, is_link}

@@ -2,7 +2,7 @@
 use Rattle.std.proofs.Common.{◌≡◌, ℕ, ◌<◌, ◌^◌, Bool, true, false, List, [], replicate, Some, None, Option, refl, sym, ap, ◌∙◌, subst}
 use Rattle.std.specs.Prelude.{◌==◌, not, if◌then◌else◌, length, codes, bytes_eq, option_and_then, Result, Ok}
 use Rattle.std.proofs.lemmas.Option.{option_and_then_some}
-use Rattle.bx_handles.specs.Handles.{file_text}
+use Rattle.bx_places.specs.Handles.{file_text}
 use Rattle.bx_model.specs.declared.call.Args.{Args}
 use Rattle.bx_model.specs.declared.call.Call.{Call}
 use Rattle.bx_tree_files.specs.declared.sattr.Sattr.{Sattr}

@@ -2,8 +2,8 @@
 use Rattle.std.proofs.Common.{◌≡◌, ℕ, ◌<◌, ◌^◌, List, Some, refl, sym, ap, ◌∙◌}
 use Rattle.std.specs.Prelude.{option_and_then, Ok}
 use Rattle.std.proofs.lemmas.Option.{option_and_then_some}
-use Rattle.bx_handles.specs.Handles.{file_text, named}
-use Rattle.bx_handles.proofs.FileTexts.{text_names}
+use Rattle.bx_places.specs.Handles.{file_text, named}
+use Rattle.bx_places.proofs.FileTexts.{text_names}
 use Rattle.bx_tree_files.specs.declared.file.File.{File}
 use Rattle.bx_model.specs.declared.reply.Reply.TheVariants as reply
 use Rattle.bx_model.specs.declared.tree.Tree.{Tree}

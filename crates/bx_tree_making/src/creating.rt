@@ -15,8 +15,8 @@ ghost use Rattle.bx_tree_making.specs.Asks.{Answers, IsPlace, IsRefused, asked};
 use crate::making::{is_unused, make};
 use bx_base::{OutOfMemory, Raw};
 use bx_call_parts::{MOST_BYTES, resize_error};
-use bx_handles::file_handle;
 use bx_model::{ACCES, Call, EXIST, FBIG, NFS_OK, Reply, STALE, Tree, Want, may};
+use bx_places::file_handle;
 use bx_tree_changes::{directory_for, edit_and_tell, entry_error, entry_of};
 use bx_tree_files::{
     Body, Content, DIRECTORY, Edit, File, LINK, MODES, NameList, REGULAR, Sattr, given_or,

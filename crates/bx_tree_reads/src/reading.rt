@@ -9,8 +9,8 @@ ghost use Rattle.bx_model.specs.Reading.{named_file, attributes_reply as reply_o
 ghost use Rattle.bx_model.specs.Steps.{done};
 
 use bx_base::{OutOfMemory, Raw};
-use bx_handles::{file_handle, named_handle};
 use bx_model::{ACCES, Call, ISDIR, NOENT, NOTDIR, NXIO, Reply, STALE, Tree, Want, may};
+use bx_places::{file_handle, named_handle};
 use bx_tree_files::{BLOCK_LEN, Body, File, NameList, attributes, words_of};
 
 /// The most bytes that a READ gives (RFC 1094, section 2.3.9).

@@ -6,7 +6,7 @@ use Rattle.bx_layout.specs.declared.inode.Inode.{Inode}
 use Rattle.bx_layout.specs.Inodes.{SpellsInode}
 use Rattle.bx_layout.proofs.InodeFields.{inode_field, parts_of}
 use Rattle.bx_layout.proofs.Payloads.{inode_same}
-use Rattle.bx_fields.proofs.Whole.{padded_again}
+use Rattle.bx_base.proofs.Whole.{padded_again}
 use Rattle.bx_tree_files.specs.declared.file.File.{File}
 use Rattle.bx_tree_files.specs.Files.{file_at}
 use Rattle.bx_truth.specs.Stored.{Owner, Inodes, PageOf, DataOf, Stored}

@@ -2,7 +2,7 @@
 use Rattle.std.proofs.Common.{refl, ◌≡◌, ℕ, ◌^◌, ◌<◌, ◌≤◌, ◌⊎◌, inl, inr, arith}
 use Rattle.std.specs.Prelude.{◌≢◌}
 use Rattle.std.proofs.lemmas.List.{length-replicate}
-use Rattle.bx_fields.proofs.Whole.{length-padded}
+use Rattle.bx_base.proofs.Whole.{length-padded}
 use Rattle.bx_layout.specs.Areas.{area_text}
 use Rattle.bx_layout.specs.Blocks.{HasParts, IsOwn}
 use Rattle.bx_layout.specs.Inodes.{inode_text}
@@ -10,7 +10,7 @@ use Rattle.bx_layout.proofs.AreaFields.{length-area_text}
 use Rattle.bx_layout.proofs.InodeFields.{length-inode_text}
 use Rattle.bx_page.proofs.Whole.{length-page_bytes}
 use Rattle.bx_places.specs.Places.{IsBlock, block_area, block_slot}
-use Rattle.bx_handles.specs.Handles.{number_of, own_handle, parts_of}
+use Rattle.bx_places.specs.Handles.{number_of, own_handle, parts_of}
 use Rattle.bx_truth.specs.Opening.{area_block, root_block, page_block, free_block, empty_page, opening_inode, opening_slots, opening_truth}
 use Rattle.bx_truth.proofs.Cases.{same_or, eq_true, eq_false}
 use Rattle.bx_truth.proofs.OpeningSlots.{opening_area}

@@ -1,7 +1,7 @@
 -- The truth of a volume that was just made.
 use Rattle.std.specs.Prelude.{ℕ, ◌+◌, ◌^◌, ◌==◌, if◌then◌else◌, List, [], ◌∷◌, replicate, None}
-use Rattle.bx_fields.specs.Writing.{padded}
-use Rattle.bx_handles.specs.Handles.{number_of, own_handle}
+use Rattle.bx_base.specs.Writing.{padded}
+use Rattle.bx_places.specs.Handles.{number_of, own_handle}
 use Rattle.bx_layout.specs.declared.area.AreaBlock.{AreaBlock}
 use Rattle.bx_layout.specs.declared.block.Block.{Block}
 use Rattle.bx_layout.specs.declared.inode.Inode.{Inode}

@@ -2,8 +2,8 @@
 -- that one, of three pieces of which the second is a hole, whose tree has two levels, and a dead inode.
 use Rattle.std.specs.Prelude.{ℕ, ◌+◌, ◌*◌, ◌^◌, ◌==◌, if◌then◌else◌, List, [], ◌∷◌, ◌++◌, replicate, slice_index_or, Some, None}
 use Rattle.std.specs.Int.{w64, to_be_bytes}
-use Rattle.bx_fields.specs.Writing.{padded}
-use Rattle.bx_handles.specs.Handles.{number_of, own_handle}
+use Rattle.bx_base.specs.Writing.{padded}
+use Rattle.bx_places.specs.Handles.{number_of, own_handle}
 use Rattle.bx_layout.specs.declared.area.AreaBlock.{AreaBlock}
 use Rattle.bx_layout.specs.declared.block.Block.{Block}
 use Rattle.bx_layout.specs.declared.inode.Inode.{Inode}

@@ -3,8 +3,8 @@ use Rattle.std.proofs.Common.{◌≡◌, ℕ, suc, ◌+◌, ◌*◌, ◌<◌, �
 use Rattle.std.specs.List.{flat_map, AllByRecursion}
 use Rattle.std.proofs.lemmas.List.{length-map, take_at, drop_at}
 use Rattle.bx_disk.specs.Disks.{Image, sector_of}
-use Rattle.bx_fields.specs.Writing.{padded}
-use Rattle.bx_fields.proofs.Whole.{padded_again}
+use Rattle.bx_base.specs.Writing.{padded}
+use Rattle.bx_base.proofs.Whole.{padded_again}
 use Rattle.bx_rows.specs.declared.session.SessionRow.{SessionRow}
 use Rattle.bx_rows.specs.Words.{is_taken}
 use Rattle.bx_records.specs.declared.record_head.RecordHead.{RecordHead}

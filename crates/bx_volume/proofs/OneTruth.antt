@@ -3,8 +3,8 @@ use Rattle.std.proofs.Common.{◌≡◌, ℕ, zero, suc, ◌+◌, ◌*◌, ◌/�
 use Rattle.std.proofs.Common.{get_or, ◌%◌}
 use Rattle.std.specs.Int.{w32, w64, to_be_bytes}
 use Rattle.std.proofs.lemmas.List.{ext_get_or, get_or-take, get_or-drop, drop_at}
-use Rattle.bx_fields.specs.Writing.{padded}
-use Rattle.bx_fields.proofs.Whole.{length-padded}
+use Rattle.bx_base.specs.Writing.{padded}
+use Rattle.bx_base.proofs.Whole.{length-padded}
 use Rattle.bx_layout.proofs.BlockHeaders.{header_is, handle_in, kind_in}
 use Rattle.bx_disk.specs.Disks.{Image, sector_of}
 use Rattle.bx_calls.specs.Regions.{ReadsAs}

@@ -3,8 +3,8 @@ use Rattle.std.proofs.Common.{◌≡◌, ℕ, ◌+◌, ◌*◌, ◌/◌, ◌<◌
 use Rattle.std.specs.List.{flat_map, AllByRecursion}
 use Rattle.std.specs.Int.{w32, w64, to_be_bytes}
 use Rattle.std.proofs.lemmas.List.{length-append}
-use Rattle.bx_fields.specs.Writing.{padded}
-use Rattle.bx_fields.proofs.Whole.{length-padded}
+use Rattle.bx_base.specs.Writing.{padded}
+use Rattle.bx_base.proofs.Whole.{length-padded}
 use Rattle.bx_layout.specs.declared.block.Block.{Block}
 use Rattle.bx_layout.specs.Blocks.{HasParts, block_text}
 use Rattle.bx_records.specs.Drafts.{Changed}

@@ -1,7 +1,7 @@
 -- The records of the logs: a record stands behind an open gate, and a log's records are those from its first gate on.
 use Rattle.std.specs.Prelude.{◌≡◌, ℕ, ◌<◌, ◌≤◌, Bool, true, false, List, [], ◌∷◌, ◌++◌, length, map, Option, Some, None}
 use Rattle.std.specs.List.{flat_map, AllByRecursion}
-use Rattle.bx_fields.specs.Writing.{padded}
+use Rattle.bx_base.specs.Writing.{padded}
 use Rattle.bx_disk.specs.Disks.{Image}
 use Rattle.bx_calls.specs.Regions.{ReadsAs}
 use Rattle.bx_rows.specs.declared.session.SessionRow.{SessionRow}

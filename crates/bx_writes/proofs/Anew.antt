@@ -2,8 +2,8 @@
 use Rattle.std.proofs.Common.{◌≡◌, ℕ, ◌+◌, ◌-◌, ◌*◌, ◌%◌, ◌^◌, ◌<◌, ◌≤◌, arith, Bool, false, List, ◌∷◌, length, ◌++◌, Option, Some, None, Ok, sym, ap, ◌∙◌, subst, refl, inl, inr}
 use Rattle.std.specs.Prelude.{◌⊎◌, ◌≢◌, if◌then◌else◌, bytes_eq, option_and_then, All}
 use Rattle.std.proofs.lemmas.List.Elements.{All-append, All-cons, All-filter}
-use Rattle.bx_adding.specs.Rooms.{HasSpace}
-use Rattle.bx_adding.proofs.Spaces.{space_stays}
+use Rattle.bx_entries.specs.Rooms.{HasSpace}
+use Rattle.bx_entries.proofs.Spaces.{space_stays}
 use Rattle.bx_base.specs.declared.names.Mode.TheVariants.{Exclusive}
 use Rattle.bx_blink.specs.Hints.{HintsFit, Under}
 use Rattle.bx_blink.specs.Places.{IsPlaceOf}
@@ -14,10 +14,10 @@ use Rattle.bx_chunks.specs.Allocating.{Adds, AllocatesAt}
 use Rattle.bx_chunks.specs.Putting.{empty_of}
 use Rattle.bx_chunks.proofs.Allocates.{allocates_in}
 use Rattle.bx_dirs.proofs.Edited.{Edited, HasPageAt, edited_by}
-use Rattle.bx_hints.specs.Fitting.{ChangesOne, Continues, HintsFitAll, IsPageUnder}
-use Rattle.bx_hints.proofs.Later.{fit_later, fit_still}
-use Rattle.bx_hints.proofs.Pages.{one_block}
-use Rattle.bx_hints.proofs.Trees.{fit_other}
+use Rattle.bx_inodes.specs.Fitting.{ChangesOne, Continues, HintsFitAll, IsPageUnder}
+use Rattle.bx_inodes.proofs.Later.{fit_later, fit_still}
+use Rattle.bx_inodes.proofs.Pages.{one_block}
+use Rattle.bx_inodes.proofs.Trees.{fit_other}
 use Rattle.bx_inodes.specs.Inodes.{HoldsInode}
 use Rattle.bx_layout.specs.Areas.{generation_in}
 use Rattle.bx_layout.specs.declared.block.Block.{Block}

@@ -1,8 +1,8 @@
 -- The draft with the file's inode alone, where no piece is written yet.
 use Rattle.std.proofs.Common.{◌≡◌, ℕ, ◌-◌, ◌*◌, ◌<◌, arith, List, [], length, Some, sym, ap, ◌∙◌, subst, refl}
 use Rattle.std.specs.Prelude.{◌≢◌}
-use Rattle.bx_adding.proofs.Spaces.{space_of}
-use Rattle.bx_hints.proofs.Pages.{inode_is, one_block}
+use Rattle.bx_entries.proofs.Spaces.{space_of}
+use Rattle.bx_inodes.proofs.Pages.{inode_is, one_block}
 use Rattle.bx_inodes.specs.Writing.{PutsInode}
 use Rattle.bx_layout.specs.declared.block.Block.{Block}
 use Rattle.bx_layout.specs.declared.inode.Inode.{Inode}

@@ -2,14 +2,14 @@
 use Rattle.std.proofs.Common.{◌≡◌, ◌∙◌, ℕ, ◌+◌, ◌/◌, ◌%◌, ◌<◌, ◌⊎◌, arith, false, List, [], ◌∷◌, length, Option, Some, inl, inr, subst, sym, Ok, Err}
 use Rattle.std.proofs.Math.Nat.{eq-or-lt_of_le}
 use Rattle.std.specs.Prelude.{IfErr, IfOk, Result}
-use Rattle.bx_adding.specs.Lacking.{IfFirst}
+use Rattle.bx_entries.specs.Lacking.{IfFirst}
 use Rattle.bx_changes.specs.Stopping.{NeverFirst}
-use Rattle.bx_adding.proofs.Lacks.{first_so, never_first}
+use Rattle.bx_entries.proofs.Lacks.{first_so, never_first}
 use Rattle.bx_changes.specs.First.{ComesFirst}
 use Rattle.bx_changes.specs.declared.error.ChangeError.{ChangeError}
 use Rattle.bx_changes.specs.declared.error.ChangeError.TheVariants.{Stopped, Full}
-use Rattle.bx_handles.specs.Handles.{named}
-use Rattle.bx_hints.proofs.Pages.{inode_is}
+use Rattle.bx_places.specs.Handles.{named}
+use Rattle.bx_inodes.proofs.Pages.{inode_is}
 use Rattle.bx_inodes.specs.Inodes.{HoldsInode}
 use Rattle.bx_inodes.specs.Stops.{NeverInner}
 use Rattle.bx_inodes.specs.declared.stop.Stop.{Stop}

@@ -2,7 +2,7 @@
 use Rattle.std.proofs.Common.{◌≡◌, ℕ, ◌+◌, ◌-◌, ◌*◌, ◌^◌, ◌<◌, ◌≤◌, arith, Bool, true, false, List, length, ◌++◌, Option, Some, sym, ap, ◌∙◌, subst, refl, inr}
 use Rattle.std.specs.Prelude.{◌≢◌, if◌then◌else◌, bytes_eq, option_and_then}
 use Rattle.std.proofs.lemmas.Slice.Eq.{bytes_eq-Decides}
-use Rattle.bx_hints.proofs.Pages.{one_block}
+use Rattle.bx_inodes.proofs.Pages.{one_block}
 use Rattle.bx_layout.specs.declared.block.Block.{Block}
 use Rattle.bx_layout.specs.declared.inode.Inode.{Inode}
 use Rattle.bx_leaves.proofs.Written.{draft_elsewhere, own_not_slot}

@@ -14,7 +14,7 @@ use Rattle.bx_model.specs.declared.tree.Tree.{Tree}
 use Rattle.bx_tree_files.specs.declared.file.File.{File}
 use Rattle.bx_truth.specs.PageTrees.{PageTree}
 use Rattle.bx_views.specs.Truths.{Held, Hints, Truth}
-use Rattle.bx_handles.specs.Handles.{parts_of}
+use Rattle.bx_places.specs.Handles.{parts_of}
 use Rattle.bx_records.specs.Drafts.{Changed}
 use Rattle.bx_writes.proofs.Base.{base_written}
 use Rattle.bx_writes.specs.Bytes.{IsOver}

@@ -7,7 +7,7 @@ use Rattle.bx_blink.specs.Hints.{HintsFit, Under}
 use Rattle.bx_changes.specs.Growing.{LeavesTrees}
 use Rattle.bx_changes.specs.declared.error.ChangeError.{ChangeError}
 use Rattle.bx_changes.specs.declared.error.ChangeError.TheVariants.{Stopped, Full}
-use Rattle.bx_file_laws.specs.Keeping.{KeepsFiles}
+use Rattle.bx_ready.specs.Keeping.{KeepsFiles}
 use Rattle.bx_files.specs.Reads.{Tells}
 use Rattle.bx_inodes.specs.Stands.{Stands}
 use Rattle.bx_inodes.specs.declared.stop.Stop.{Stop}
@@ -27,18 +27,18 @@ use Rattle.bx_truth.specs.PageTrees.{IsTree, PageTree, handle_in, map_of}
 use Rattle.bx_truth.specs.Stored.{HasBody, IsRegular}
 use Rattle.bx_truth.proofs.Frames.{handle_back}
 use Rattle.bx_truth.proofs.OneFiles.{file_there}
-use Rattle.bx_hints.specs.Pages.{HasPages}
-use Rattle.bx_hints.proofs.Pages.{has_pages, inode_is}
+use Rattle.bx_inodes.specs.Pages.{HasPages}
+use Rattle.bx_inodes.proofs.Pages.{has_pages, inode_is}
 use Rattle.bx_truth.proofs.Put.{shown}
 use Rattle.bx_truth.proofs.Same.{chunk_is}
 use Rattle.bx_tree_files.specs.declared.file.Body.TheVariants.{Bytes}
 use Rattle.bx_sizes.proofs.Resized.{regular_bytes}
 use Rattle.bx_sizes.proofs.Stops.{not_lost}
 use Rattle.bx_views.specs.Truths.{Held, Hints, Truth}
-use Rattle.bx_adding.specs.Lacking.{IfFirst}
+use Rattle.bx_entries.specs.Lacking.{IfFirst}
 use Rattle.bx_changes.specs.Stopping.{StopsChange}
-use Rattle.bx_adding.proofs.Lacks.{first_if}
-use Rattle.bx_adding.proofs.Asked.{ready_block}
+use Rattle.bx_entries.proofs.Lacks.{first_if}
+use Rattle.bx_entries.proofs.Asked.{ready_block}
 use Rattle.bx_writes.specs.Lacking.{FindsEntry, MakesEntry}
 use Rattle.bx_writes.specs.Steps.{FoundAt, IsPrepared, IsRegularOf, MissesIn, PreparesIn}
 

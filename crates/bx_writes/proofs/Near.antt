@@ -2,14 +2,14 @@
 use Rattle.std.proofs.Common.{◌≡◌, ℕ, ◌<◌, List, [], length, arith, subst, sym, Some}
 use Rattle.std.specs.Prelude.{IfErr, IfOk, Result, Ok, Err}
 use Rattle.std.proofs.lemmas.Result.{IfOk-weaker}
-use Rattle.bx_adding.proofs.Lacks.{first_if}
-use Rattle.bx_adding.specs.Lacking.{IfFirst}
+use Rattle.bx_entries.proofs.Lacks.{first_if}
+use Rattle.bx_entries.specs.Lacking.{IfFirst}
 use Rattle.bx_base.specs.declared.names.Mode.{Mode}
 use Rattle.bx_base.specs.declared.names.Mode.TheVariants.{Exclusive}
 use Rattle.bx_blink.specs.Walks.{Reads, reads_with}
 use Rattle.bx_changes.specs.declared.error.ChangeError.{ChangeError}
 use Rattle.bx_changes.specs.declared.error.ChangeError.TheVariants.{Stopped, Full}
-use Rattle.bx_handles.specs.Handles.{named, parts_of}
+use Rattle.bx_places.specs.Handles.{named, parts_of}
 use Rattle.bx_inodes.specs.Inodes.{InodeAt, LiveAt}
 use Rattle.bx_inodes.specs.declared.stop.Stop.{Stop}
 use Rattle.bx_inodes.specs.declared.stop.Stop.TheVariants.{Need, Inner, Status, OutOfMemory}

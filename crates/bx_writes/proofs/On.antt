@@ -1,11 +1,11 @@
 -- What a draft of some pieces of a file has, to write one more over it.
 use Rattle.std.proofs.Common.{◌≡◌, ℕ, ◌+◌, ◌*◌, ◌^◌, ◌<◌, ◌≤◌, arith, Bool, List, length, Some, sym, ap, ◌∙◌, subst, refl}
 use Rattle.std.specs.Prelude.{◌≢◌, if◌then◌else◌}
-use Rattle.bx_adding.specs.Rooms.{HasSpace}
+use Rattle.bx_entries.specs.Rooms.{HasSpace}
 use Rattle.bx_chunks.proofs.Sums.{sum_same}
 use Rattle.bx_chunks.specs.Counting.{free_in, free_slots}
-use Rattle.bx_adding.proofs.Twice.{twice}
-use Rattle.bx_hints.proofs.Pages.{inode_is}
+use Rattle.bx_entries.proofs.Twice.{twice}
+use Rattle.bx_inodes.proofs.Pages.{inode_is}
 use Rattle.bx_layout.specs.declared.block.Block.{Block}
 use Rattle.bx_layout.specs.declared.inode.Inode.{Inode}
 use Rattle.bx_model.specs.declared.tree.Tree.{Tree}

@@ -1,8 +1,8 @@
 -- What stops a piece that is put: a block that is needed, and want of blocks or of memory, never what the draft has.
 use Rattle.std.proofs.Common.{◌≡◌, ℕ, ◌+◌, ◌-◌, ◌*◌, ◌^◌, ◌<◌, ◌≤◌, arith, true, false, List, ◌++◌, length, Option, Some, None, sym, ◌∙◌, subst, inl, inr, Ok, Err}
 use Rattle.std.specs.Prelude.{IsSome}
-use Rattle.bx_adding.proofs.Spaces.{finds_space}
-use Rattle.bx_changes.specs.Stopping.{NeverFirst, StopsChange}
+use Rattle.bx_entries.proofs.Spaces.{finds_space}
+use Rattle.bx_changes.specs.Stopping.{NeverFirst, StopsChange, StopsByChunks}
 use Rattle.bx_blink.specs.Hints.{Under}
 use Rattle.bx_blink.specs.declared.error.BlinkError.{BlinkError}
 use Rattle.bx_blink.specs.declared.error.BlinkError.TheVariants as tree_error
@@ -11,7 +11,7 @@ use Rattle.bx_changes.specs.declared.error.ChangeError.{ChangeError}
 use Rattle.bx_chunks.specs.Allocating.{AllocatesAt}
 use Rattle.bx_chunks.specs.declared.error.ChunkError.{ChunkError}
 use Rattle.bx_chunks.specs.declared.error.ChunkError.TheVariants.{Need, Stale, Full, OutOfMemory, Crowded}
-use Rattle.bx_adding.proofs.Leaves.{leaf_block}
+use Rattle.bx_entries.proofs.Leaves.{leaf_block}
 use Rattle.bx_layout.specs.declared.inode.Inode.{Inode}
 use Rattle.bx_leaves.specs.Changes.{InsertsIn, NeedsUnheld}
 use Rattle.bx_leaves.specs.Leaves.{InsertsAt, OnLeafPath}
@@ -28,7 +28,6 @@ use Rattle.bx_truth.specs.PageTrees.{PageTree, map_of}
 use Rattle.bx_views.specs.Truths.{Held, Hints, Truth, with_draft}
 use Rattle.bx_writes.proofs.Anew.{none_then, under_two}
 use Rattle.bx_writes.specs.Steps.{MayPut, PutsBlock, PutsOn}
-use Rattle.bx_changes.specs.Stopping.{StopsByChunks}
 
 some_none : (o : Option (List ℕ)) → o ≡ None → IsSome o → ⊥
 some_none None none some = let both : false ≡ true = some in absurd cc

@@ -11,9 +11,9 @@ use Rattle.bx_changes.specs.Growing.{IfFull, IsChangeBy, NeedsBy}
 use Rattle.bx_changes.specs.declared.error.ChangeError.{ChangeError}
 use Rattle.bx_changes.specs.declared.error.ChangeError.TheVariants.{Stopped, Full}
 use Rattle.bx_changes.proofs.FileChanged.{changed_is_put}
-use Rattle.bx_handles.specs.Handles.{named}
-use Rattle.bx_hints.specs.Fitting.{HintsFitAll}
-use Rattle.bx_hints.proofs.Pages.{inode_is}
+use Rattle.bx_places.specs.Handles.{named}
+use Rattle.bx_inodes.specs.Fitting.{HintsFitAll}
+use Rattle.bx_inodes.proofs.Pages.{inode_is}
 use Rattle.bx_inodes.specs.declared.stop.Stop.{Stop}
 use Rattle.bx_inodes.specs.declared.stop.Stop.TheVariants.{Need, Inner, Status, OutOfMemory}
 use Rattle.bx_inodes.specs.Heads.{head_of}

@@ -1,6 +1,6 @@
 -- What WRITE has written first, and where nothing is wanted: bytes to be cleared, or room for the entry of a piece.
 use Rattle.std.specs.Prelude.{◌≡◌, ℕ, ◌+◌, ◌/◌, ◌%◌, ◌<◌, ◌≤◌, ◌⊎◌, false, List, length, None, Some}
-use Rattle.bx_handles.specs.Handles.{named}
+use Rattle.bx_places.specs.Handles.{named}
 use Rattle.bx_inodes.specs.Inodes.{HoldsInode}
 use Rattle.bx_layout.specs.declared.inode.Inode.{Inode}
 use Rattle.bx_page.specs.Contents.{value_of}

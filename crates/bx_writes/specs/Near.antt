@@ -3,7 +3,7 @@ use Rattle.std.specs.Prelude.{◌≡◌, ℕ, ◌+◌, ◌<◌, ◌⊎◌, true,
 use Rattle.bx_base.specs.declared.names.Mode.TheVariants.{Exclusive}
 use Rattle.bx_blink.specs.Walks.{reads_with}
 use Rattle.bx_chunks.specs.Taking.{TakesSlots}
-use Rattle.bx_handles.specs.Handles.{named, parts_of}
+use Rattle.bx_places.specs.Handles.{named, parts_of}
 use Rattle.bx_inodes.specs.Inodes.{LiveAt}
 use Rattle.bx_layout.specs.declared.inode.Inode.{Inode}
 use Rattle.bx_records.specs.Drafts.{Changed}

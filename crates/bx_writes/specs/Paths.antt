@@ -4,7 +4,7 @@ use Rattle.bx_base.specs.declared.names.Mode.{Mode}
 use Rattle.bx_base.specs.declared.names.Mode.TheVariants.{Exclusive}
 use Rattle.bx_blink.specs.Walks.{reads_with}
 use Rattle.bx_files.specs.Paths.{Finds, OnSearch}
-use Rattle.bx_handles.specs.Handles.{named, parts_of}
+use Rattle.bx_places.specs.Handles.{named, parts_of}
 use Rattle.bx_inodes.specs.Inodes.{LiveAt}
 use Rattle.bx_inodes.specs.Stops.{OnInode}
 use Rattle.bx_layout.specs.declared.inode.Inode.{Inode}

@@ -4,7 +4,7 @@ use Rattle.bx_base.specs.declared.names.Mode.TheVariants.{Exclusive}
 use Rattle.bx_changes.specs.Growing.{IsNearlyFull, LeavesTrees}
 use Rattle.bx_changes.specs.declared.error.ChangeError.{ChangeError}
 use Rattle.bx_changes.specs.declared.error.ChangeError.TheVariants.{Stopped, Full}
-use Rattle.bx_hints.specs.Fitting.{HintsFitAll}
+use Rattle.bx_inodes.specs.Fitting.{HintsFitAll}
 use Rattle.bx_inodes.specs.declared.stop.Stop.TheVariants.{Need, Inner, Status, OutOfMemory}
 use Rattle.bx_inodes.specs.Inodes.{IsInodeOf}
 use Rattle.bx_inodes.specs.Stands.{Stands}

@@ -1,8 +1,8 @@
 -- What a draft has of a file's bytes, from its last pieces on.
 use Rattle.std.specs.Prelude.{◌≡◌, ℕ, ◌+◌, ◌-◌, ◌*◌, ◌<◌, ◌≤◌, List, Some}
-use Rattle.bx_adding.specs.Rooms.{HasSpace}
+use Rattle.bx_entries.specs.Rooms.{HasSpace}
 use Rattle.bx_chunks.specs.Counting.{free_slots}
-use Rattle.bx_hints.specs.Fitting.{HintsFitAll}
+use Rattle.bx_inodes.specs.Fitting.{HintsFitAll}
 use Rattle.bx_inodes.specs.Inodes.{HoldsInode}
 use Rattle.bx_layout.specs.declared.block.Block.{Block}
 use Rattle.bx_layout.specs.declared.inode.Inode.{Inode}

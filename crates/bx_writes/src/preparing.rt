@@ -5,7 +5,7 @@ ghost use Rattle.bx_changes.specs.Procedures.{HoldsFirst, IfFull, NeedsBy, NoSlo
 ghost use Rattle.bx_files.specs.Paths.{Finds};
 ghost use Rattle.bx_layout.specs.declared.inode.Inode.{Inode as Kept};
 ghost use Rattle.bx_truth.specs.Keys.{content_key as key_of_content};
-ghost use Rattle.bx_adding.specs.Lacking.{IfFirst};
+ghost use Rattle.bx_entries.specs.Lacking.{IfFirst};
 ghost use Rattle.bx_ready.specs.Lacking.{FindsRoom, MakesRoom};
 ghost use Rattle.bx_ready.specs.Ready.{OnReadyPath};
 ghost use Rattle.bx_writes.specs.Lacking.{FindsEntry, MakesEntry};

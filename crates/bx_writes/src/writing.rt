@@ -1,7 +1,7 @@
 //! WRITE.
 
 ghost use Rattle.std.specs.Prelude.{◌≡◌, ◌≢◌, ◌+◌, ◌≤◌, ◌<◌, ℕ, List, IfOk, IfErr, IsSome, Err, Some, length};
-ghost use Rattle.bx_adding.specs.Lacking.{IfFirst};
+ghost use Rattle.bx_entries.specs.Lacking.{IfFirst};
 ghost use Rattle.bx_changes.specs.Procedures.{ComesFirst, Exclusive, Hints, HintsFitAll, HoldsFirst, IfFull, IsChangeBy, IsHeldDraft, IsInode, IsInodeOf, IsTruth, NeedsBy, Stands, Tree, Truth, block_at as place_of, named, with_draft};
 ghost use Rattle.bx_layout.specs.declared.inode.Inode.{Inode as Kept};
 ghost use Rattle.bx_model.specs.Writing.{write as write_of};
@@ -17,10 +17,10 @@ use crate::laying::lay;
 use bx_base::Mode;
 use bx_changes::ChangeError;
 use bx_files::PIECE;
-use bx_handles::named_handle;
 use bx_inodes::{Stop, inode_at};
 use bx_layout::Inode;
 use bx_model::{Call, Reply, STALE};
+use bx_places::named_handle;
 use bx_reads::attributes_by;
 use bx_records::Draft;
 use bx_sizes::{clear, grows_over};

@@ -10,8 +10,8 @@ use Rattle.bx_attempts.proofs.Attempted.{by_change, by_making, by_stopping, by_w
 use Rattle.bx_attempts.proofs.First.{create_first, create_ready, link_first, mkdir_first, mkdir_ready, rename_first, setattr_first, symlink_first, write_first}
 use Rattle.bx_changes.specs.declared.error.ChangeError.{ChangeError}
 use Rattle.bx_changes.specs.declared.error.ChangeError.TheVariants.{Stopped}
-use Rattle.bx_create.specs.Creating.{OnCreate}
-use Rattle.bx_create.specs.Making.{OnMaking}
+use Rattle.bx_creating.specs.Paths.{OnCreate}
+use Rattle.bx_creating.specs.Making.{OnMaking}
 use Rattle.bx_entries.specs.Finding.{OnRemoval}
 use Rattle.bx_entries.specs.declared.finding.Removable.TheVariants as removable
 use Rattle.bx_model.specs.declared.call.Args.TheVariants.{Link, Make, Name, Rename, Set, Symlink, Write}

@@ -2,7 +2,7 @@ use Rattle.std.proofs.Common.{◌≡◌, ◌+◌, ◌*◌, ℕ, sym, ap, subst, 
 use Rattle.bx_audit_slots.specs.declared.slots.UsedSlot.{UsedSlot}
 use Rattle.bx_audit_slots.specs.UsedSlots.{AreUsedBelow, IsFreeMarked}
 use Rattle.bx_audit_slots.proofs.InUse.{free_marked, pass_unused, push_used}
-use Rattle.bx_handles.specs.Handles.{number_of}
+use Rattle.bx_places.specs.Handles.{number_of}
 use Rattle.bx_audit_slots.proofs.slots.put_slot.Goals as goal
 
 pub returns-then-dead-clause-torn : goal.returns-then-dead-clause-torn

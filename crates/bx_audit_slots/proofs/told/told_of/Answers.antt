@@ -1,7 +1,7 @@
 use Rattle.std.proofs.Common.{◌<◌, ap, subst, ◌∙◌}
 use Rattle.bx_audit_slots.proofs.Numbers.{told_in}
-use Rattle.bx_handles.specs.declared.chunk_handle.ChunkHandle.{ChunkHandle}
-use Rattle.bx_handles.specs.Handles.{block_of}
+use Rattle.bx_places.specs.declared.chunk_handle.ChunkHandle.{ChunkHandle}
+use Rattle.bx_places.specs.Handles.{block_of}
 use Rattle.bx_audit_slots.proofs.told.told_of.Goals as goal
 
 pub returns : goal.returns

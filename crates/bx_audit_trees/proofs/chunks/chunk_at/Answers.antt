@@ -1,7 +1,7 @@
 use Rattle.std.proofs.Common.{◌≡◌, ℕ, arith, sym, ap, ◌∙◌, subst}
 use Rattle.bx_audit_trees.proofs.Headers.{names_none, still_shows}
-use Rattle.bx_handles.specs.declared.chunk_handle.ChunkHandle.{ChunkHandle}
-use Rattle.bx_handles.specs.Handles.{block_of, parts_of}
+use Rattle.bx_places.specs.declared.chunk_handle.ChunkHandle.{ChunkHandle}
+use Rattle.bx_places.specs.Handles.{block_of, parts_of}
 use Rattle.bx_homes.proofs.Sectors.{of_some, of_none}
 use Rattle.bx_layout.specs.declared.block.Block.{Block}
 use Rattle.bx_truth.specs.Chunks.{block_at}

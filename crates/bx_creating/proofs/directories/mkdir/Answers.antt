@@ -4,8 +4,8 @@ use Rattle.bx_tree_laws.proofs.Makings.{mkdir_keeps}
 use Rattle.bx_creating.specs.Inodes.{directory_inode}
 use Rattle.bx_creating.proofs.Created.{comes_so, last_is, last_mkdir, makes, mkdir_is, not_found, not_placed, placed, told}
 use Rattle.bx_model.specs.Making.{mkdir}
-use Rattle.bx_adding.specs.Lacking.{MakesPlace}
-use Rattle.bx_adding.proofs.Lacks.{enters, first_so, full_so}
+use Rattle.bx_entries.specs.Lacking.{MakesPlace}
+use Rattle.bx_entries.proofs.Lacks.{enters, first_so, full_so}
 use Rattle.bx_creating.proofs.First.{made_first, stop_comes}
 use Rattle.bx_entries.specs.declared.taking.Known.{Known}
 use Rattle.bx_creating.proofs.directories.mkdir.Goals as goal

@@ -4,7 +4,7 @@ use Rattle.bx_tree_files.specs.declared.file.Body.TheVariants.{Bytes}
 use Rattle.bx_tree_files.specs.Times.{is_given}
 use Rattle.bx_creating.specs.Inodes.{file_inode}
 use Rattle.bx_creating.proofs.NewFiles.{enough, full, keeps, last, last_told, makes_it, not_made, place, placed_file, refused_so}
-use Rattle.bx_adding.specs.Lacking.{MakesEither}
+use Rattle.bx_entries.specs.Lacking.{MakesEither}
 use Rattle.bx_creating.proofs.First.{made_first}
 use Rattle.bx_model.specs.Making.{create_new}
 use Rattle.bx_creating.proofs.files.create_new.Goals as goal

@@ -4,8 +4,8 @@ use Rattle.bx_tree_laws.proofs.Makings.{symlink_keeps}
 use Rattle.bx_creating.specs.Inodes.{link_inode}
 use Rattle.bx_creating.proofs.Created.{comes_so, last_link_is, last_symlink, makes, not_found, not_placed, placed_link, symlink_is}
 use Rattle.bx_model.specs.Making.{symlink}
-use Rattle.bx_adding.specs.Lacking.{MakesPlace}
-use Rattle.bx_adding.proofs.Lacks.{enters, first_so, full_so}
+use Rattle.bx_entries.specs.Lacking.{MakesPlace}
+use Rattle.bx_entries.proofs.Lacks.{enters, first_so, full_so}
 use Rattle.bx_creating.proofs.First.{made_first, stop_comes}
 use Rattle.bx_entries.specs.declared.taking.Known.{Known}
 use Rattle.bx_creating.proofs.links.symlink.Goals as goal

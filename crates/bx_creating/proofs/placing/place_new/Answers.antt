@@ -1,11 +1,11 @@
 use Rattle.std.proofs.Common.{inl, inr}
 use Rattle.bx_creating.proofs.Placed.{enter_stops, make_stops, may_enter, places, room_stops}
-use Rattle.bx_adding.specs.Finding.{OnRoomPath}
-use Rattle.bx_adding.specs.Lacking.{MakesEither}
-use Rattle.bx_adding.proofs.Lacks.{full_so, never_first}
-use Rattle.bx_adding.proofs.Stopped.{wider}
+use Rattle.bx_entries.specs.RoomFinding.{OnRoomPath}
+use Rattle.bx_entries.specs.Lacking.{MakesEither}
+use Rattle.bx_entries.proofs.Lacks.{full_so, never_first}
+use Rattle.bx_entries.proofs.Stopped.{wider}
 use Rattle.bx_dirs.specs.Changes.{OnAddPath, entry_of}
-use Rattle.bx_handles.specs.Handles.{parts_of}
+use Rattle.bx_places.specs.Handles.{parts_of}
 use Rattle.bx_creating.specs.Placing.{OnPlacing}
 use Rattle.bx_creating.proofs.Made.{first_near}
 use Rattle.bx_creating.proofs.placing.place_new.Goals as goal

@@ -1,5 +1,5 @@
 use Rattle.std.proofs.Common.{refl, sym, ap, Ok, ◌∙◌}
-use Rattle.bx_handles.specs.Handles.{file_text}
+use Rattle.bx_places.specs.Handles.{file_text}
 use Rattle.bx_model.specs.declared.reply.Reply.{Reply}
 use Rattle.bx_tree_files.specs.Attributes.{attributes_of}
 use Rattle.bx_reads.proofs.Told.{over_none, size_fits}

@@ -1,5 +1,5 @@
 use Rattle.std.proofs.Common.{◌≡◌, ℕ, List, [], ap, ◌∙◌}
-use Rattle.bx_fields.specs.Writing.{padded}
+use Rattle.bx_base.specs.Writing.{padded}
 use Rattle.bx_layout.specs.Inodes.{inode_text}
 use Rattle.bx_truth.specs.Opening.{opening_inode, root_block}
 use Rattle.bx_format.proofs.blocks.inode_block.Goals as goal

@@ -1,8 +1,8 @@
 use Rattle.std.proofs.Common.{ap, ◌∙◌}
-use Rattle.bx_fields.specs.Writing.{padded}
+use Rattle.bx_base.specs.Writing.{padded}
 use Rattle.bx_layout.specs.declared.area.AreaBlock.{AreaBlock}
 use Rattle.bx_layout.specs.Areas.{area_text}
-use Rattle.bx_handles.specs.Handles.{number_of}
+use Rattle.bx_places.specs.Handles.{number_of}
 use Rattle.bx_truth.specs.Opening.{area_block}
 use Rattle.bx_format.proofs.blocks.own_block.Goals as goal
 

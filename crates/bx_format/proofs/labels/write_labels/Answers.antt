@@ -1,5 +1,5 @@
 use Rattle.std.proofs.Common.{◌≡◌, ℕ, ◌∙◌, ap, length, arith}
-use Rattle.bx_fields.specs.Writing.{padded}
+use Rattle.bx_base.specs.Writing.{padded}
 use Rattle.bx_layout.specs.Labels.{label_text}
 use Rattle.bx_format.proofs.Labelled.{behind_more, labels_more}
 use Rattle.bx_format.proofs.Spared.{spares_label, spares_then}

@@ -1,4 +1,4 @@
-use Rattle.bx_fields.proofs.Whole.{padded_again}
+use Rattle.bx_base.proofs.Whole.{padded_again}
 use Rattle.bx_layout.proofs.AreaFields.{area_field}
 use Rattle.bx_layout.proofs.InodeFields.{inode_field, parts_of}
 use Rattle.bx_layout.proofs.Payloads.{area_same, inode_same}

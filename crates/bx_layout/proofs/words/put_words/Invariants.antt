@@ -1,6 +1,6 @@
 use Rattle.std.proofs.Common.{take}
 use Rattle.bx_base.specs.Bytes.{words}
-use Rattle.bx_fields.specs.Writing.{Writes}
+use Rattle.bx_base.specs.Writing.{Writes}
 use Rattle.bx_layout.proofs.words.put_words.Given as goal
 
 abbrev pub invariant-loop-number : goal.invariant-loop-number

@@ -1,7 +1,7 @@
 use Rattle.std.specs.Int.{w32}
 use Rattle.std.proofs.lemmas.Result.{err_from_is_err_and}
-use Rattle.bx_fields.specs.Reading.{number_at, list_at}
-use Rattle.bx_fields.proofs.Lists.{goes_on, ends, is_done}
+use Rattle.bx_base.specs.Reading.{number_at, list_at}
+use Rattle.bx_base.proofs.Lists.{goes_on, ends, is_done}
 use Rattle.bx_layout.proofs.words.words_of.Goals as goal
 
 pub returns-in_err-word : goal.returns-in_err-word

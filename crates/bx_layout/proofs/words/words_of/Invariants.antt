@@ -1,7 +1,7 @@
 use Rattle.std.proofs.Common.{◌≡◌, ◌-◌}
 use Rattle.std.specs.Int.{w32}
-use Rattle.bx_fields.specs.Reading.{number_at, list_at}
-use Rattle.bx_fields.proofs.Lists.{with_front}
+use Rattle.bx_base.specs.Reading.{number_at, list_at}
+use Rattle.bx_base.proofs.Lists.{with_front}
 use Rattle.bx_layout.proofs.words.words_of.Given as goal
 
 abbrev pub invariant-loop : goal.invariant-loop

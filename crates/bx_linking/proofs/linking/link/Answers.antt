@@ -5,7 +5,7 @@ use Rattle.bx_reads.proofs.Told.{over_none}
 use Rattle.bx_records.specs.Drafts.{Changed}
 use Rattle.bx_views.specs.Truths.{with_draft}
 use Rattle.bx_linking.proofs.Comes.{inode_never, is_changed, is_first, is_stopped, no_file, no_file_named, stop_comes}
-use Rattle.bx_adding.specs.Lacking.{MakesPlace}
+use Rattle.bx_entries.specs.Lacking.{MakesPlace}
 use Rattle.bx_base.specs.declared.names.Mode.TheVariants.{Exclusive}
 use Rattle.bx_layout.specs.declared.inode.Inode.{Inode}
 use Rattle.bx_model.specs.Making.{link}

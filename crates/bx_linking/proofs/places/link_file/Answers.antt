@@ -1,6 +1,6 @@
 use Rattle.std.proofs.Common.{false, List, sym, subst}
 use Rattle.std.specs.Prelude.{Ok, Err}
-use Rattle.bx_adding.specs.Entering.{EntersIn, MayEnter}
+use Rattle.bx_entries.specs.Entering.{EntersIn, MayEnter}
 use Rattle.bx_records.specs.Drafts.{Changed}
 use Rattle.bx_linking.proofs.Linked.{enters, links, stopped}
 use Rattle.bx_linking.proofs.places.link_file.Goals as goal

@@ -3,8 +3,8 @@ use Rattle.bx_dirs.specs.Changes.{OnAddPath, entry_of}
 use Rattle.bx_model.specs.Reading.{named_file}
 use Rattle.bx_linking.specs.Linking.{OnInto, OnTest, linking}
 use Rattle.bx_linking.proofs.Comes.{both, into, is_linked, lacks_room, needs_by, needs_if, never_if, no_directory, no_name, not_linked, stop_first}
-use Rattle.bx_adding.proofs.Lacks.{enters, first_so, full_never, full_so, so_ok}
-use Rattle.bx_adding.specs.Lacking.{MakesPlace, ReadyToEnter}
+use Rattle.bx_entries.proofs.Lacks.{enters, first_so, full_never, full_so, so_ok}
+use Rattle.bx_entries.specs.Lacking.{MakesPlace, ReadyToEnter}
 use Rattle.bx_layout.specs.declared.inode.Inode.{Inode}
 use Rattle.bx_linking.proofs.places.link_into.Goals as goal
 

@@ -1,6 +1,6 @@
 use Rattle.std.proofs.Common.{◌≡◌, ℕ, None, Some}
 use Rattle.bx_cache.specs.Cached.{block_at}
-use Rattle.bx_engine.specs.Calls.{IsAtOnceCall}
+use Rattle.bx_lone_machine.specs.Calls.{IsAtOnceCall}
 use Rattle.bx_layout.specs.declared.block.Block.{Block}
 use Rattle.bx_nfs.specs.Wire.{ReadsAs}
 use Rattle.bx_lone_service.proofs.AtOnce.{not_at_once, step_stays}

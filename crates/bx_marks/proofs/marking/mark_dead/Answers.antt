@@ -1,5 +1,5 @@
 use Rattle.std.proofs.Common.{◌<◌, Err, rules, subst}
-use Rattle.bx_handles.specs.declared.chunk_handle.ChunkHandle.{ChunkHandle}
+use Rattle.bx_places.specs.declared.chunk_handle.ChunkHandle.{ChunkHandle}
 use Rattle.bx_layout.specs.Areas.{MarksDead}
 use Rattle.bx_records.specs.Drafts.{with_block}
 use Rattle.bx_truth.specs.Chunks.{own_block}

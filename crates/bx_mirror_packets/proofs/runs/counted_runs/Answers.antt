@@ -1,7 +1,7 @@
 use Rattle.std.proofs.Common.{ap, ◌∙◌}
 use Rattle.std.proofs.lemmas.Result.{err_from_is_err_and}
-use Rattle.bx_fields.specs.Reading.{list_at}
-use Rattle.bx_fields.proofs.Lists.{goes_on, ends, is_done}
+use Rattle.bx_base.specs.Reading.{list_at}
+use Rattle.bx_base.proofs.Lists.{goes_on, ends, is_done}
 use Rattle.bx_records.specs.Runs.{KindAndRuns}
 use Rattle.bx_mirror_packets.specs.Reading.{run_at}
 use Rattle.bx_mirror_packets.proofs.runs.counted_runs.Goals as goal

@@ -1,6 +1,6 @@
 use Rattle.std.proofs.Common.{◌≡◌, ◌-◌}
-use Rattle.bx_fields.specs.Reading.{list_at}
-use Rattle.bx_fields.proofs.Lists.{with_front}
+use Rattle.bx_base.specs.Reading.{list_at}
+use Rattle.bx_base.proofs.Lists.{with_front}
 use Rattle.bx_mirror_packets.specs.Reading.{run_at}
 use Rattle.bx_mirror_packets.proofs.runs.counted_runs.Given as goal
 

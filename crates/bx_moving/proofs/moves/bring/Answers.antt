@@ -1,7 +1,7 @@
 use Rattle.std.proofs.Common.{[], List, inl, refl}
 use Rattle.bx_records.specs.Drafts.{Changed}
 use Rattle.bx_moving.specs.Edits.{no_edit}
-use Rattle.bx_moving.specs.Moves.{OnBringing, OnClearing, brought, cleared}
+use Rattle.bx_moving.specs.Moves.{OnBringing, OnClearingName, brought, cleared}
 use Rattle.bx_moving.proofs.Brought.{may_come}
 use Rattle.bx_moving.proofs.Steps.{next_rests, over_stopped, stops_by, then_grows}
 use Rattle.bx_moving.proofs.moves.bring.Goals as goal
@@ -20,5 +20,5 @@ returns-in-Ok-clause-step g c = λ truth tree old_name m.
 
 pub returns-in-Err-clause-need : goal.returns-in-Err-clause-need
 returns-in-Err-clause-need g c =
-    over_stopped c.args.areas (g.V.View.held c.args.view.now) (g.V.View.hints c.args.view.now) [] (OnClearing (g.V.View.held c.args.view.now) (g.V.View.hints c.args.view.now) c.args.areas c.args.moving.target c.args.name.now c.args.replaced []) (OnBringing (g.V.View.held c.args.view.now) (g.V.View.hints c.args.view.now) c.args.areas c.args.moving c.args.name.now c.args.replaced) no_edit
+    over_stopped c.args.areas (g.V.View.held c.args.view.now) (g.V.View.hints c.args.view.now) [] (OnClearingName (g.V.View.held c.args.view.now) (g.V.View.hints c.args.view.now) c.args.areas c.args.moving.target c.args.name.now c.args.replaced []) (OnBringing (g.V.View.held c.args.view.now) (g.V.View.hints c.args.view.now) c.args.areas c.args.moving c.args.name.now c.args.replaced) no_edit
     (λ at mode on. inl on) (List Changed) c.in-Err.stop c.in-Err.ensures.need

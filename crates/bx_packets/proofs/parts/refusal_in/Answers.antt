@@ -1,6 +1,6 @@
 use Rattle.std.proofs.Common.{arith}
 use Rattle.std.proofs.lemmas.Result.{err_from_is_err_and}
-use Rattle.bx_fields.proofs.Whole.{all_met}
+use Rattle.bx_base.proofs.Whole.{all_met}
 use Rattle.bx_packets.specs.Reading.{NoRefusal, SpellsRefusal}
 use Rattle.bx_packets.proofs.Bodies.{no_refusal, refusal_ends, refusal_read}
 use Rattle.bx_packets.proofs.parts.refusal_in.Goals as goal

@@ -1,6 +1,6 @@
 use Rattle.std.proofs.Common.{arith}
 use Rattle.std.proofs.lemmas.Result.{err_from_is_err_and}
-use Rattle.bx_fields.proofs.Whole.{all_met}
+use Rattle.bx_base.proofs.Whole.{all_met}
 use Rattle.bx_packets.specs.Reading.{NoVote, SpellsVote}
 use Rattle.bx_packets.proofs.Bodies.{no_vote, vote_ends, vote_read}
 use Rattle.bx_packets.proofs.parts.vote_in.Goals as goal

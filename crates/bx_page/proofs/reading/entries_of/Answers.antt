@@ -1,6 +1,6 @@
 use Rattle.std.proofs.lemmas.Result.{err_from_is_err_and}
-use Rattle.bx_fields.specs.Reading.{list_at}
-use Rattle.bx_fields.proofs.Lists.{goes_on, ends, is_done}
+use Rattle.bx_base.specs.Reading.{list_at}
+use Rattle.bx_base.proofs.Lists.{goes_on, ends, is_done}
 use Rattle.bx_page.specs.Reading.{entry_at}
 use Rattle.bx_page.proofs.reading.entries_of.Goals as goal
 

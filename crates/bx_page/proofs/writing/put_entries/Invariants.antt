@@ -1,6 +1,6 @@
 use Rattle.std.proofs.Common.{take}
 use Rattle.std.specs.List.{flat_map}
-use Rattle.bx_fields.specs.Writing.{Writes}
+use Rattle.bx_base.specs.Writing.{Writes}
 use Rattle.bx_page.specs.Spelling.{entry_bytes}
 use Rattle.bx_page.proofs.writing.put_entries.Given as goal
 

@@ -1,8 +1,8 @@
 use Rattle.std.proofs.Common.{subst, sym, ◌∙◌, arith}
 use Rattle.std.specs.List.{flat_map}
 use Rattle.std.proofs.lemmas.List.{take_all}
-use Rattle.bx_fields.specs.Writing.{Writes}
-use Rattle.bx_fields.proofs.Written.{writes_then}
+use Rattle.bx_base.specs.Writing.{Writes}
+use Rattle.bx_base.proofs.Written.{writes_then}
 use Rattle.bx_layout.specs.Blocks.{HasParts, block_text}
 use Rattle.bx_records.specs.Drafts.{Changed}
 use Rattle.bx_redo.proofs.Pieces.{filled, length_all, room_at, one_more}

@@ -1,6 +1,6 @@
 use Rattle.std.proofs.Common.{take}
 use Rattle.std.specs.List.{flat_map}
-use Rattle.bx_fields.specs.Writing.{Writes}
+use Rattle.bx_base.specs.Writing.{Writes}
 use Rattle.bx_layout.specs.Blocks.{block_text}
 use Rattle.bx_records.specs.Drafts.{Changed}
 use Rattle.bx_redo.proofs.text.put_blocks.Given as goal

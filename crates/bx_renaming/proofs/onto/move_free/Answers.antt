@@ -1,6 +1,6 @@
 use Rattle.std.proofs.Common.{Option, None, ℕ, subst}
 use Rattle.std.specs.Prelude.{Ok}
-use Rattle.bx_ways.specs.Ways.{TellsError}
+use Rattle.bx_moving.specs.Ways.{TellsError}
 use Rattle.bx_renaming.specs.Renaming.{depth_errors, moving_so}
 use Rattle.bx_renaming.proofs.Comes.{free_fails, free_passes, stopped_so}
 use Rattle.bx_renaming.proofs.Passed.{free, free_comes}

@@ -1,6 +1,6 @@
 use Rattle.std.proofs.Common.{Option, Some, ℕ, subst}
 use Rattle.std.specs.Prelude.{Ok}
-use Rattle.bx_ways.specs.Ways.{TellsError}
+use Rattle.bx_moving.specs.Ways.{TellsError}
 use Rattle.bx_renaming.specs.Renaming.{moving_so, onto_errors}
 use Rattle.bx_renaming.proofs.Comes.{both_passed, over_fails, over_passes, stopped_so}
 use Rattle.bx_renaming.proofs.Passed.{over, over_comes}

@@ -22,7 +22,7 @@ returns-in_err-replay g c =
     let why = c.in_err-replay.ensures in
     record {
       leaves = λ source_tells.
-          rw (p.1, p.2) (begin_stops {A = Unit {0}} (λ _ _ _. Unit {0}) (λ _. 0) (g.K.Sink.tells c.args.out.now × g.B.Rack.tells c.args.bench.now) (IsShownBy (g.B.Rack.state c.begin.new.bench)) c.in_err-replay.field-0.0 _ _ _ (g.K.Sink.written c.args.out.now) _ _ _ _ why.cause
+          rw (p.1, p.2) (begin_stops {A = Unit {0}} (λ _ _ _. Unit {0}) (λ _. 0) (λ _. 0) (g.K.Sink.tells c.args.out.now × g.B.Rack.tells c.args.bench.now) (IsShownBy (g.B.Rack.state c.begin.new.bench)) c.in_err-replay.field-0.0 _ _ _ (g.K.Sink.written c.args.out.now) _ _ _ _ why.cause
           (rw (ap (λ (r : _). r.ahead) c.in_ok-reader.ensures) at (why.reads source_tells)));
       course = λ source_tells bench_tells. rw p.1 tt;
       dropped = λ disk sector tells. rw p.1 tt;
@@ -47,6 +47,7 @@ lines-init g c =
         few = omega arith;
         most = began.most ∙ ap (λ (r : _). r.most) c.in_ok-reader.ensures;
       };
+      nodes = began.nodes;
       latest = omega (arith, began.latest);
       ready = began.ready;
       source_same = began.first;
@@ -58,14 +59,14 @@ lines-init g c =
       holds = began.holds;
       read = λ source_tells.
           let begun = rw (ap (λ (r : _). r.ahead) c.in_ok-reader.ensures) at (began.reads source_tells) in
-          rw (began.up, began.clock) (heading_read _ _ begun.volume begun.nodes begun.devices begun.areas begun.in_place begun.begins);
+          rw (began.up, began.clock) (heading_read _ _ begun.volume _ begun.devices begun.areas begun.in_place begun.begins);
       come = λ source_tells bench_tells.
           let begun = rw (ap (λ (r : _). r.ahead) c.in_ok-reader.ensures) at (began.reads source_tells) in
           let held = began.holds bench_tells in
-          rw (began.up, began.clock) (comes_first g.M.Service.rests g.M.Service.returns g.M.Service.turns _ _ begun.volume begun.nodes begun.devices begun.areas _ begun.in_place begun.begins
-          (λ left crashed. let shows = g.met.M.Service.shown _ _ left held.0 held.1 began.ready held.2 crashed in (shows.next, shows.stands)));
+          rw (began.up, began.clock) (comes_first g.M.Service.rests g.M.Service.returns g.M.Service.turns _ _ begun.volume _ begun.devices begun.areas _ begun.in_place begun.begins
+          (λ left crashed. let shows = rw began.nodes.of_service at (g.met.M.Service.shown _ _ left held.0 held.1 began.ready held.2 crashed) in (shows.next, shows.stands)));
       going = λ source_tells sink_tells bench_tells.
-          begins_going _ _ _ _ _ _ _ _ (rw (began.up, began.clock) refl) began.none_wait began.desk (rw (ap (λ (r : _). r.ahead) c.in_ok-reader.ensures) at (began.begins source_tells bench_tells));
+          begins_going _ _ _ _ _ _ _ _ _ (rw (began.up, began.clock) refl) began.none_wait began.desks (rw (ap (λ (r : _). r.ahead) c.in_ok-reader.ensures) at (began.begins source_tells bench_tells));
     }
 
 pub returns-in_err-line : goal.returns-in_err-line
@@ -100,6 +101,7 @@ lines-preserved g c =
         few = few;
         most = c.in_ok-line.ensures.most ∙ c.lines.invariant.running.most;
       };
+      nodes = c.in_ok-step.ensures.nodes.0;
       latest = c.in_ok-step.ensures.latest;
       ready = c.in_ok-step.ensures.ready;
       source_same = c.in_ok-line.ensures.first ∙ c.lines.invariant.source_same;
@@ -123,12 +125,12 @@ lines-preserved g c =
           let after = c.in_ok-step.ensures.holds held.0 held.1 told held.2 in
           comes_on g.M.Service.rests g.M.Service.returns g.M.Service.turns _ _ _ _ _ c.lines.number c.in-Some.line _ _ (c.lines.invariant.come source_tells bench_tells) (omega (arith, few)) begins place
           c.in_ok-step.ensures.hears (c.in_ok-step.ensures.moves held.0 held.1 told held.2)
-          (λ left crashed. let shows = g.met.M.Service.shown _ _ left after.0 after.1 c.in_ok-step.ensures.ready after.2 crashed in (shows.next, shows.stands));
+          (λ left crashed. let shows = rw c.in_ok-step.ensures.nodes.0.of_service at (g.met.M.Service.shown _ _ left after.0 after.1 c.in_ok-step.ensures.ready after.2 crashed) in (shows.next, shows.stands));
       going = λ source_tells sink_tells bench_tells.
           let going = c.lines.invariant.going source_tells sink_tells bench_tells in
           let begins = rw c.in-Some.is at (c.in_ok-line.ensures.gives (c.lines.invariant.source_tells source_tells)) in
           going_on _ _ _ _ _ _ _ _ _ _ _ _ _ c.lines.number c.in-Some.line _ _ _ going begins
-          (c.in_ok-step.ensures.does going.tree going.doubt going.done _ (c.lines.invariant.sink_tells sink_tells) (c.lines.invariant.bench_tells bench_tells) going.holds (omega (arith, going.count, few)) going.stands);
+          (c.in_ok-step.ensures.does going.tree going.doubts going.done _ (c.lines.invariant.sink_tells sink_tells) (c.lines.invariant.bench_tells bench_tells) going.holds (omega (arith, going.count, few)) going.waiting_are going.stands);
     }
 
 pub returns-in_err-step : goal.returns-in_err-step
@@ -146,7 +148,7 @@ returns-in_err-step g c =
           (was.read source_tells) (λ tells. was.going source_tells tells.0 tells.1) (omega (arith, few)) begins place why.cause _ why.hears
           (λ tells.
           let going = was.going source_tells tells.0 tells.1 in
-          why.does going.tree going.doubt going.done _ (was.sink_tells tells.0) (was.bench_tells tells.1) going.holds (omega (arith, going.count, few)) going.stands));
+          why.does going.tree going.doubts going.done _ (was.sink_tells tells.0) (was.bench_tells tells.1) going.holds (omega (arith, going.count, few)) going.waiting_are going.stands));
       course = λ source_tells bench_tells. rw p.1 tt;
       dropped = λ disk sector tells. rw p.1 tt;
       disk_when = rw (p.1, p.2) (λ is source_tells. absurd (step_no_disk c.in_err-step.field-0.0 _ _ _ why.cause (err_is _ _ _ refl is)));
@@ -173,7 +175,7 @@ returns g c =
           (rw ends.0 at (was.read source_tells)) ends.1 (λ tells. rw ends.0 at (was.going source_tells tells.0 tells.1)) ended.cause
           (λ tells.
           let going = rw ends.0 at (was.going source_tells tells.0 tells.1) in
-          ended.ends going.tree going.doubt (was.sink_tells tells.0) (was.bench_tells tells.1) going.holds);
+          ended.ends going.tree going.doubts (was.sink_tells tells.0) (was.bench_tells tells.1) going.holds);
       course = λ source_tells bench_tells.
           let ends = rw c.in_default.is at (read.gives (was.source_tells source_tells)) in
           on_ok_weaker c.finish.result (λ drops. all_come g.M.Service.rests g.M.Service.returns g.M.Service.turns _ _ c.lines.number _ _ (rw ends.0 at (was.come source_tells bench_tells)) drops)

@@ -1,7 +1,7 @@
 use Rattle.std.proofs.lemmas.Result.{err_from_is_err_and}
-use Rattle.bx_fields.specs.Reading.{list_at}
+use Rattle.bx_base.specs.Reading.{list_at}
 use Rattle.bx_rows.specs.Reading.{device_at}
-use Rattle.bx_fields.proofs.Lists.{goes_on, ends, is_done}
+use Rattle.bx_base.proofs.Lists.{goes_on, ends, is_done}
 use Rattle.bx_rows.proofs.reading.device_rows.Goals as goal
 
 pub returns-in_err-row : goal.returns-in_err-row

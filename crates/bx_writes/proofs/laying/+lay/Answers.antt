@@ -1,10 +1,10 @@
 use Rattle.std.proofs.Common.{◌≡◌, ◌∙◌, ◌+◌, ◌-◌, ◌*◌, ◌<◌, ℕ, List, [], ◌++◌, length, arith, subst, sym, refl}
 use Rattle.std.specs.Prelude.{min}
 use Rattle.std.proofs.lemmas.List.{take-append-drop}
-use Rattle.bx_adding.proofs.Lacks.{so_ok}
+use Rattle.bx_entries.proofs.Lacks.{so_ok}
 use Rattle.bx_writes.proofs.First.{alone_first, find_all, find_behind, one_makes, put_first, rest_makes}
 use Rattle.bx_chunks.specs.Taking.{TakesSlots}
-use Rattle.bx_handles.specs.Handles.{parts_of}
+use Rattle.bx_places.specs.Handles.{parts_of}
 use Rattle.bx_writes.specs.Laid.{LacksSlot}
 use Rattle.bx_writes.proofs.Entries.{alone_full, alone_is, first_full, put_full, rest_full}
 use Rattle.bx_writes.proofs.Laid.{alone_laid, first_needs, from_next, none_of, one_piece, prepare_stops, put_needs, reaches, rest_needs, rest_stops, some_of}

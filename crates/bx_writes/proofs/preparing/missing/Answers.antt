@@ -2,8 +2,8 @@ use Rattle.std.proofs.Common.{ℕ, List, [], Option, Err, subst}
 use Rattle.bx_leaves.specs.Changes.{NeedsUnheld}
 use Rattle.bx_ready.specs.Ready.{OnReadyPath, ReadiesIn}
 use Rattle.bx_records.specs.Drafts.{Changed}
-use Rattle.bx_adding.proofs.Lacks.{not_first}
-use Rattle.bx_adding.proofs.Stopped.{full_stops, needs_stop}
+use Rattle.bx_entries.proofs.Lacks.{not_first}
+use Rattle.bx_entries.proofs.Stopped.{full_stops, needs_stop}
 use Rattle.bx_chunks.specs.Taking.{NoSlots, TakesSlots}
 use Rattle.bx_ready.specs.Lacking.{MakesRoom}
 use Rattle.bx_truth.specs.Keys.{content_key}

@@ -5,7 +5,7 @@ use Rattle.bx_truth.specs.PageTrees.{handle_in, map_of}
 use Rattle.bx_chunks.specs.Taking.{TakesSlots}
 use Rattle.bx_writes.proofs.First.{found_first, value_first}
 use Rattle.bx_writes.proofs.Missing.{entry_found, entry_makes, entry_there, found_in, misses_in, value_stops}
-use Rattle.bx_adding.proofs.Lacks.{full_if}
+use Rattle.bx_entries.proofs.Lacks.{full_if}
 use Rattle.bx_writes.proofs.Known.{found_full, none_known, some_known}
 use Rattle.bx_writes.specs.Lacking.{MakesEntry}
 use Rattle.bx_writes.proofs.preparing.prepare.Goals as goal

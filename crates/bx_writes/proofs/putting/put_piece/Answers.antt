@@ -4,7 +4,7 @@ use Rattle.bx_ready.proofs.Lengths.{one_more}
 use Rattle.bx_records.specs.Drafts.{Changed}
 use Rattle.bx_truth.specs.Chunks.{block_at}
 use Rattle.bx_views.specs.Attempts.{IsHeldDraft}
-use Rattle.bx_adding.proofs.Lacks.{full_if}
+use Rattle.bx_entries.proofs.Lacks.{full_if}
 use Rattle.bx_writes.specs.Laid.{FoundBy}
 use Rattle.bx_writes.proofs.Entries.{over_laid}
 use Rattle.bx_writes.proofs.InPlace.{in_place}

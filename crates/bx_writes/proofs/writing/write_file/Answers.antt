@@ -13,21 +13,21 @@ use Rattle.bx_writes.specs.Grown.{grown}
 use Rattle.bx_writes.specs.Laying.{GrowsTo, pieces_of}
 use Rattle.std.proofs.Common.{◌≡◌, ◌∙◌, ◌+◌, ◌*◌, ◌/◌, ◌%◌, ◌<◌, ◌^◌, ℕ, List, true, Err, length, arith, ap, subst, sym, inl, inr}
 use Rattle.bx_changes.specs.Changes.{Changes}
-use Rattle.bx_hints.specs.Fitting.{HintsFitAll}
+use Rattle.bx_inodes.specs.Fitting.{HintsFitAll}
 use Rattle.bx_model.specs.Writing.{write}
 use Rattle.bx_records.specs.Drafts.{Changed}
 use Rattle.bx_sizes.proofs.First.{behind_end, never_stops}
 use Rattle.bx_sizes.proofs.Resized.{leaves_trees, regular_bytes}
 use Rattle.bx_sizes.specs.Lengths.{grows_over}
 use Rattle.bx_views.specs.Truths.{with_draft}
-use Rattle.bx_adding.proofs.Lacks.{first_so, so_ok}
+use Rattle.bx_entries.proofs.Lacks.{first_so, so_ok}
 use Rattle.bx_writes.proofs.First.{first_by, ready_to_lay, told_first, value_first}
 use Rattle.bx_writes.proofs.Laid.{none_of, some_of}
 use Rattle.bx_writes.specs.Lacking.{FindEntries, MakesEntries, PreparesWritten, ReadyToLay}
 use Rattle.bx_writes.proofs.Near.{lays_nothing, lays_some, told_none, told_so}
 use Rattle.bx_writes.specs.Laid.{IsLaid}
 use Rattle.bx_writes.specs.Near.{LaysNear, ReadiesNear}
-use Rattle.bx_handles.specs.Handles.{parts_of}
+use Rattle.bx_places.specs.Handles.{parts_of}
 use Rattle.bx_writes.proofs.Wrote.{accepted, bytes as file_bytes, clear_stops, full, grows, kind_is, lay_stops, nothing, told_changes, told_hints, wrote}
 use Rattle.bx_writes.proofs.writing.write_file.Goals as goal
 

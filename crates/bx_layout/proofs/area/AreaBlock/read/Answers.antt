@@ -1,5 +1,5 @@
 use Rattle.std.proofs.Common.{arith}
-use Rattle.bx_fields.proofs.Whole.{zeros_none, zeros_some}
+use Rattle.bx_base.proofs.Whole.{zeros_none, zeros_some}
 use Rattle.bx_layout.specs.declared.area.AreaBlock.{AreaBlock}
 use Rattle.bx_layout.specs.Areas.{SpellsArea}
 use Rattle.bx_layout.specs.AreaReading.{area_at}

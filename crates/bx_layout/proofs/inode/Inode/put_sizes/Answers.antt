@@ -1,4 +1,4 @@
-use Rattle.bx_fields.proofs.Written.{writes_then}
+use Rattle.bx_base.proofs.Written.{writes_then}
 use Rattle.bx_layout.proofs.inode.Inode.put_sizes.Goals as goal
 
 pub returns : goal.returns

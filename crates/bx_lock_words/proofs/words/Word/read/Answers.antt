@@ -1,6 +1,6 @@
 use Rattle.std.proofs.Common.{arith, sym, subst, ◌∙◌}
-use Rattle.bx_fields.specs.Reading.{Fails}
-use Rattle.bx_fields.specs.declared.error.ReadError.{ReadError}
+use Rattle.bx_base.specs.Reading.{Fails}
+use Rattle.bx_base.specs.declared.error.ReadError.{ReadError}
 use Rattle.bx_lock_words.specs.Reading.{word_at}
 use Rattle.bx_lock_words.proofs.Spelled.{empty_is, not_empty, reads_end, reads_none, reads_whole}
 use Rattle.bx_lock_words.proofs.words.Word.read.Goals as goal

@@ -1,52 +1,44 @@
-use Rattle.std.proofs.Common.{◌≡◌, ⊎_elim, Option, None, ap, inl, inr, refl, sym, ◌∙◌, subst}
-use Rattle.std.specs.Prelude.{map}
-use Rattle.bx_base.specs.declared.names.Point.{Point}
-use Rattle.bx_lone_machine.specs.Machine.{calls_of, record_of}
-use Rattle.bx_lone_machine.specs.Rounds.{IsOfRound}
-use Rattle.bx_lone_repair.proofs.Results.{on_err}
-use Rattle.bx_lone_service.specs.Calls.{taking_of}
-use Rattle.bx_lone_service.proofs.Rounding.{answers, goes_on}
+use Rattle.std.proofs.Common.{◌≡◌, [], ◌∷◌, None, Some, ap, arith, refl, sym, ◌∙◌}
+use Rattle.bx_lone_service.specs.Stages.{IsHolding, tidies_at, waits_of}
+use Rattle.bx_lone_service.proofs.Nodes.{at_first, says}
+use Rattle.bx_lone_service.proofs.Tidies.{some_in, tidied, tidies_stay}
 use Rattle.bx_lone_service.proofs.service.LoneServiceService.round.Goals as goal
 
-pub returns-in_default-2-clause-rounds : goal.returns-in_default-2-clause-rounds
-returns-in_default-2-clause-rounds g c = λ tree doubt tells holding.
-    let old = c.in-Up.machine in
-    let new = c.tidy.new.machine in
-    let y = g.B.Rack.state c.round.new.bench in
-    let said = c.in_ok-acted.ensures in
-    let tidied = c.in_ok-tidy.ensures in
-    let holds = rw c.in-Up.is at holding in
-    let ready = rw c.in-Up.is at c.requires.ready in
-    let calls : calls_of new ≡ calls_of old = tidied.calls ∙ rw c.in_default-2.is at said.calls in
-    let moments = rw c.in_default-2.is at said.moments in
-    rw c.in-Up.is (goes_on old new _ _ ready.0 (tidied.ready _ said.ready) y c.args.moment tree doubt holds.1 calls
-    (subst (λ (r : Option Point). IsOfRound c.args.moment (record_of old) r None) (sym tidied.record) moments)
-    (tidied.holds y tree (rw c.in_default-2.is at (said.holds tree tells holds.0))))
+pub returns-in_default-clause-rounds : goal.returns-in_default-clause-rounds
+returns-in_default-clause-rounds g c = λ tree doubts tells holds.
+    rw c.in_ok-events.ensures.items (says (IsHolding c.advance.new.self.stage (g.B.Rack.state c.advance.new.bench)) c.args.moment (waits_of c.args.self.now.stage) (waits_of c.advance.new.self.stage) (at_first c.args.self.now.stage) tree doubts None
+    (rw c.in_default.is at (c.in_ok-event.ensures.rounds tree (doubts 0) tells holds)))
 
-pub returns-in_default-2-clause-cleans : goal.returns-in_default-2-clause-cleans
-returns-in_default-2-clause-cleans g c = λ tree doubt tells holding under over.
-    let holds = rw c.in-Up.is at holding in
-    c.in_ok-tidy.ensures.clean (g.B.Rack.state c.round.new.bench) tree (rw c.in_default-2.is at (c.in_ok-acted.ensures.holds tree tells holds.0)) under over
+pub returns-clause-rounds : goal.returns-clause-rounds
+returns-clause-rounds g c = λ tree doubts tells holds.
+    rw (c.in_ok-push.ensures.items, c.in_ok-events.ensures.items) (says (IsHolding c.advance.new.self.stage (g.B.Rack.state c.advance.new.bench)) c.args.moment (waits_of c.args.self.now.stage) (waits_of c.advance.new.self.stage) (at_first c.args.self.now.stage) tree doubts
+    (Some c.in-Some.event) (rw c.in-Some.is at (c.in_ok-event.ensures.rounds tree (doubts 0) tells holds)))
 
-pub returns-in-Up-clause-rounds : goal.returns-in-Up-clause-rounds
-returns-in-Up-clause-rounds g c = λ tree doubt tells holding.
-    let holds = rw c.in-Up.is at holding in
-    let ready = rw c.in-Up.is at c.requires.ready in
-    rw c.in-Up.is (answers c.in-Up.machine c.round.new.self _ _ ready.0 c.in_ok-acted.ensures.ready (g.B.Rack.state c.round.new.bench) c.args.moment tree doubt holds.1
-    c.in-Some.acted (rw c.in-Some.is at c.in_ok-acted.ensures.calls) (rw c.in-Some.is at c.in_ok-acted.ensures.moments) (rw c.in-Some.is at (c.in_ok-acted.ensures.holds tree tells holds.0)))
+pub returns-in_default-clause-returns : goal.returns-in_default-clause-returns
+returns-in_default-clause-returns g c = λ tree doubts tells holds none_rose empty. rw c.in_default.is at (c.in_ok-event.ensures.returns tree (doubts 0) tells holds none_rose)
 
-pub returns-in_default-2-clause-turns : goal.returns-in_default-2-clause-turns
-returns-in_default-2-clause-turns g c =
-    let calls : calls_of c.tidy.new.machine ≡ calls_of c.in-Up.machine = c.in_ok-tidy.ensures.calls ∙ rw c.in_default-2.is at c.in_ok-acted.ensures.calls in
-    rw c.in-Up.is (record { up = refl; calls = inl (ap (map taking_of) calls); still = λ down. absurd cc })
+pub returns-clause-returns : goal.returns-clause-returns
+returns-clause-returns g c = λ tree doubts tells holds none_rose empty.
+    absurd (let both : c.in-Some.event ∷ [] ≡ [] = sym (c.in_ok-push.ensures.items ∙ rw c.in_ok-events.ensures.items refl) ∙ empty in cc)
 
-pub returns-in-Up-clause-turns : goal.returns-in-Up-clause-turns
-returns-in-Up-clause-turns g c =
-    let takes = rw c.in-Some.is at c.in_ok-acted.ensures.calls in
-    rw c.in-Up.is (record { up = refl; calls = inr (taking_of takes.0, ap (map taking_of) takes.1); still = λ down. absurd cc })
+pub returns-in_default-clause-tidies : goal.returns-in_default-clause-tidies
+returns-in_default-clause-tidies g c = λ node. tidies_stay c.args.self.now.tidies c.advance.new.self.tidies c.in_ok-event.ensures.tidies node
 
--- a tidy wants memory only where nothing is under way, and so no disk failed
-pub returns-in_err-tidy-clause-memory : goal.returns-in_err-tidy-clause-memory
-returns-in_err-tidy-clause-memory g c =
-    on_err (g.B.Rack.faults c.round.new.bench ≡ g.B.Rack.faults c.args.bench.now) c.from_residual-in_err-tidy.result
-    (⊎_elim (λ same. same) (λ busy. absurd (busy c.in_err-tidy.ensures.wants)) c.in_ok-acted.ensures.failed)
+pub returns-clause-tidies : goal.returns-clause-tidies
+returns-clause-tidies g c = λ node. tidies_stay c.args.self.now.tidies c.advance.new.self.tidies c.in_ok-event.ensures.tidies node
+
+pub returns-in_default-clause-cleans : goal.returns-in_default-clause-cleans
+returns-in_default-clause-cleans g c = λ tree doubts node tells holds under over.
+    let both = tidied c.args.self.now.tidies c.advance.new.self.tidies node under over in
+    c.in_ok-event.ensures.cleans tree (doubts 0) tells holds both.0 both.1
+
+pub returns-clause-cleans : goal.returns-clause-cleans
+returns-clause-cleans g c = λ tree doubts node tells holds under over.
+    let both = tidied c.args.self.now.tidies c.advance.new.self.tidies node under over in
+    c.in_ok-event.ensures.cleans tree (doubts 0) tells holds both.0 both.1
+
+pub returns-in_default-clause-tidies_on : goal.returns-in_default-clause-tidies_on
+returns-in_default-clause-tidies_on g c = λ call waits. ap (λ (t : _). tidies_at t call.node) (c.in_ok-event.ensures.tidies_on (some_in _ call waits))
+
+pub returns-clause-tidies_on : goal.returns-clause-tidies_on
+returns-clause-tidies_on g c = λ call waits. ap (λ (t : _). tidies_at t call.node) (c.in_ok-event.ensures.tidies_on (some_in _ call waits))

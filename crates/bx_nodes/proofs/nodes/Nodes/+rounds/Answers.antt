@@ -15,9 +15,11 @@ use Rattle.bx_nodes.specs.Asks.{KeepsUnneeded}
 use Rattle.bx_nodes.specs.Sending.{BeginsBy}
 use Rattle.bx_nodes.specs.Standing.{Asking, Stand}
 use Rattle.bx_nodes.specs.Turns.{Turned, Waits}
+use Rattle.bx_nodes.proofs.Calling.{AnswersThere, answers_still, answers_then, begun_there, held_there, idle_there, session_begun, session_held, session_then, session_tried, tried_rests, tried_there}
 use Rattle.bx_nodes.proofs.Leading.{later_turned, turned_later, turned_on, turned_still}
 use Rattle.bx_nodes.proofs.Machines.{count_waiting, if_new, if_then, is_some_there, of_there, there_is, under_then}
 use Rattle.bx_nodes.proofs.Turning.{all_need, busy, fewer_wait, rested_there, some_sent, waiting_same}
+use Rattle.bx_nodes.proofs.Tidying.{tidy_begun, tidy_held, tidy_then, tidy_tried}
 use Rattle.bx_nodes.proofs.nodes.Nodes.+rounds.Goals as goal
 
 pub returns-in-Some-clause-stands : goal.returns-in-Some-clause-stands
@@ -66,7 +68,7 @@ returns-in-Some-clause-waits g t c =
     let is_own : IsSome own = subst (λ s. IsSome (g.S.Store.own s node)) (sym c.in_ok-said.ensures.parts.2) (subst (λ s. IsSome (g.S.Store.own s node)) (sym c.in_ok-give_back.ensures.parts.2) c.requires.sessions.1) in
     if_new (slice_get tried.machines.items node) (slice_get new.machines.items node) (BeginsBy c.args.reading c.in-Some.begun own c.args.lease.until out)
     (Waits g.O.Owners e new.engine node c.args.reading c.args.lease.session out (Asking g.G.Register g.O.Owners new node)) some_tried
-    (λ a b begins. busy g.O.Owners e new.engine given.owners node c.args.reading c.args.lease.session out (Asking g.G.Register g.O.Owners new node) b (some_sent own c.args.lease.until begins.runs out is_own begins.sent))
+    (λ a b begins. busy g.O.Owners e new.engine given.owners node c.args.reading c.args.lease.session out (Asking g.G.Register g.O.Owners new node) b (some_sent own c.args.lease.until begins.sends.runs out is_own begins.sends.sent))
     c.in_ok-begin.ensures.begins
 
 pub ask_all-requires-clause-blocks : goal.ask_all-requires-clause-blocks
@@ -190,3 +192,194 @@ returns-clause-stands g t c = λ x letters clocks course tree session up stands 
     later_turned (e.step c.args.self.now.engine) (λ later. Stand g.G.Register g.O.Owners g.S.Store e given x (letters ++ c.give_back.new.out) clocks later tree) Final course tree c.append.new.self.items one
     (subst (λ en. Turned (e.step en) Final one.later tree c.append.new.self.items) c.in_ok-give_back.ensures.parts.1
     (subst (λ (l : List Said). Turned (e.step given.engine) Final one.later tree l) (sym c.in_ok-append.ensures.items) (turned_on (e.step given.engine) (Stand g.G.Register g.O.Owners g.S.Store e tried x (letters ++ c.give_back.new.out) clocks) Final one.later tree c.in_ok-said.field-0.said.items c.in_ok-more.more.items two (subst (λ en. Turned (e.step en) Final two.later two.next c.in_ok-more.more.items) c.in_ok-said.ensures.parts.3 five))))
+
+pub returns-in-Some-clause-answers : goal.returns-in-Some-clause-answers
+returns-in-Some-clause-answers g t c =
+    let node = c.args.node in
+    let items = c.args.self.now.machines.items in
+    let given = c.give_back.new.self in
+    let tried = c.attempt.new.self in
+    let moment = c.args.reading in
+    let less = subst (λ (n : ℕ). node < n) (sym c.in_ok-give_back.ensures.count) c.requires.there.0 in
+    let some_given = is_some_there given.machines.items node less in
+    let some_tried = is_some_there tried.machines.items node (subst (λ (n : ℕ). node < n) (sym c.in_ok-said.ensures.count) less) in
+    let said = c.in_ok-said.field-0.said.items in
+    let new = c.begin.new.self in
+    let one = held_there moment (slice_get items node) (slice_get given.machines.items node) c.requires.rests c.in_ok-give_back.ensures.only in
+    let two = begun_there moment (slice_get given.machines.items node) (slice_get tried.machines.items node) (slice_get new.machines.items node) c.in_ok-said.field-0 c.in-Some.begun (g.S.Store.own tried.store node) c.args.lease.until (g.S.Store.out_of new.store node)
+    c.in_ok-give_back.ensures.rests c.in_ok-said.ensures.goes c.in-Some.is c.in_ok-begin.ensures.begins in
+    answers_then moment [] said (slice_get items node) (slice_get given.machines.items node) (slice_get new.machines.items node) some_given one two
+
+pub returns-in-Some-clause-session : goal.returns-in-Some-clause-session
+returns-in-Some-clause-session g t c =
+    let node = c.args.node in
+    let items = c.args.self.now.machines.items in
+    let given = c.give_back.new.self in
+    let tried = c.attempt.new.self in
+    let moment = c.args.reading in
+    let less = subst (λ (n : ℕ). node < n) (sym c.in_ok-give_back.ensures.count) c.requires.there.0 in
+    let some_given = is_some_there given.machines.items node less in
+    let some_tried = is_some_there tried.machines.items node (subst (λ (n : ℕ). node < n) (sym c.in_ok-said.ensures.count) less) in
+    let said = c.in_ok-said.field-0.said.items in
+    let new = c.begin.new.self in
+    session_then (slice_get items node) (slice_get tried.machines.items node) (slice_get new.machines.items node) some_tried
+    (session_then (slice_get items node) (slice_get given.machines.items node) (slice_get tried.machines.items node) some_given
+    (session_held (slice_get items node) (slice_get given.machines.items node) c.in_ok-give_back.ensures.only) (session_tried (slice_get given.machines.items node) (slice_get tried.machines.items node) c.in_ok-said.ensures.only))
+    (session_begun moment c.in-Some.begun (g.S.Store.own tried.store node) c.args.lease.until (g.S.Store.out_of new.store node) (slice_get tried.machines.items node) (slice_get new.machines.items node) c.in_ok-begin.ensures.begins)
+
+pub returns-in-Some-clause-tidy : goal.returns-in-Some-clause-tidy
+returns-in-Some-clause-tidy g t c =
+    let node = c.args.node in
+    let items = c.args.self.now.machines.items in
+    let given = c.give_back.new.self in
+    let tried = c.attempt.new.self in
+    let moment = c.args.reading in
+    let less = subst (λ (n : ℕ). node < n) (sym c.in_ok-give_back.ensures.count) c.requires.there.0 in
+    let some_given = is_some_there given.machines.items node less in
+    let some_tried = is_some_there tried.machines.items node (subst (λ (n : ℕ). node < n) (sym c.in_ok-said.ensures.count) less) in
+    let said = c.in_ok-said.field-0.said.items in
+    let new = c.begin.new.self in
+    tidy_then (slice_get items node) (slice_get tried.machines.items node) (slice_get new.machines.items node) some_tried
+    (tidy_then (slice_get items node) (slice_get given.machines.items node) (slice_get tried.machines.items node) some_given
+    (tidy_held (slice_get items node) (slice_get given.machines.items node) c.in_ok-give_back.ensures.only) (tidy_tried (slice_get given.machines.items node) (slice_get tried.machines.items node) c.in_ok-said.ensures.only))
+    (tidy_begun moment c.in-Some.begun (g.S.Store.own tried.store node) c.args.lease.until (g.S.Store.out_of new.store node) (slice_get tried.machines.items node) (slice_get new.machines.items node) c.in_ok-begin.ensures.begins)
+
+pub returns-then-is_empty-clause-answers : goal.returns-then-is_empty-clause-answers
+returns-then-is_empty-clause-answers g t c =
+    let node = c.args.node in
+    let items = c.args.self.now.machines.items in
+    let given = c.give_back.new.self in
+    let tried = c.attempt.new.self in
+    let moment = c.args.reading in
+    let less = subst (λ (n : ℕ). node < n) (sym c.in_ok-give_back.ensures.count) c.requires.there.0 in
+    let some_given = is_some_there given.machines.items node less in
+    let some_tried = is_some_there tried.machines.items node (subst (λ (n : ℕ). node < n) (sym c.in_ok-said.ensures.count) less) in
+    let said = c.in_ok-said.field-0.said.items in
+    let new = c.ask_all.new.self in
+    let rests = tried_rests (slice_get given.machines.items node) (slice_get tried.machines.items node) some_given c.in_ok-said.ensures.only c.in_ok-give_back.ensures.rests in
+    let one = held_there moment (slice_get items node) (slice_get given.machines.items node) c.requires.rests c.in_ok-give_back.ensures.only in
+    let two = tried_there moment (slice_get given.machines.items node) (slice_get tried.machines.items node) c.in_ok-said.field-0 (idle_there (slice_get given.machines.items node) c.in_ok-give_back.ensures.rests) c.in_ok-said.ensures.only c.in_ok-said.ensures.goes c.in_default.is in
+    let three = held_there moment (slice_get tried.machines.items node) (slice_get new.machines.items node) rests c.in_ok-ask_all.ensures.only in
+    answers_still moment said (slice_get items node) (slice_get tried.machines.items node) (slice_get new.machines.items node) some_tried
+    (answers_then moment [] said (slice_get items node) (slice_get given.machines.items node) (slice_get tried.machines.items node) some_given one two) three
+
+pub returns-then-is_empty-clause-session : goal.returns-then-is_empty-clause-session
+returns-then-is_empty-clause-session g t c =
+    let node = c.args.node in
+    let items = c.args.self.now.machines.items in
+    let given = c.give_back.new.self in
+    let tried = c.attempt.new.self in
+    let moment = c.args.reading in
+    let less = subst (λ (n : ℕ). node < n) (sym c.in_ok-give_back.ensures.count) c.requires.there.0 in
+    let some_given = is_some_there given.machines.items node less in
+    let some_tried = is_some_there tried.machines.items node (subst (λ (n : ℕ). node < n) (sym c.in_ok-said.ensures.count) less) in
+    let said = c.in_ok-said.field-0.said.items in
+    let new = c.ask_all.new.self in
+    session_then (slice_get items node) (slice_get tried.machines.items node) (slice_get new.machines.items node) some_tried
+    (session_then (slice_get items node) (slice_get given.machines.items node) (slice_get tried.machines.items node) some_given
+    (session_held (slice_get items node) (slice_get given.machines.items node) c.in_ok-give_back.ensures.only) (session_tried (slice_get given.machines.items node) (slice_get tried.machines.items node) c.in_ok-said.ensures.only))
+    (session_held (slice_get tried.machines.items node) (slice_get new.machines.items node) c.in_ok-ask_all.ensures.only)
+
+pub returns-then-is_empty-clause-tidy : goal.returns-then-is_empty-clause-tidy
+returns-then-is_empty-clause-tidy g t c =
+    let node = c.args.node in
+    let items = c.args.self.now.machines.items in
+    let given = c.give_back.new.self in
+    let tried = c.attempt.new.self in
+    let moment = c.args.reading in
+    let less = subst (λ (n : ℕ). node < n) (sym c.in_ok-give_back.ensures.count) c.requires.there.0 in
+    let some_given = is_some_there given.machines.items node less in
+    let some_tried = is_some_there tried.machines.items node (subst (λ (n : ℕ). node < n) (sym c.in_ok-said.ensures.count) less) in
+    let said = c.in_ok-said.field-0.said.items in
+    let new = c.ask_all.new.self in
+    tidy_then (slice_get items node) (slice_get tried.machines.items node) (slice_get new.machines.items node) some_tried
+    (tidy_then (slice_get items node) (slice_get given.machines.items node) (slice_get tried.machines.items node) some_given
+    (tidy_held (slice_get items node) (slice_get given.machines.items node) c.in_ok-give_back.ensures.only) (tidy_tried (slice_get given.machines.items node) (slice_get tried.machines.items node) c.in_ok-said.ensures.only))
+    (tidy_held (slice_get tried.machines.items node) (slice_get new.machines.items node) c.in_ok-ask_all.ensures.only)
+
+pub returns-clause-answers : goal.returns-clause-answers
+returns-clause-answers g t c =
+    let node = c.args.node in
+    let items = c.args.self.now.machines.items in
+    let given = c.give_back.new.self in
+    let tried = c.attempt.new.self in
+    let moment = c.args.reading in
+    let less = subst (λ (n : ℕ). node < n) (sym c.in_ok-give_back.ensures.count) c.requires.there.0 in
+    let some_given = is_some_there given.machines.items node less in
+    let some_tried = is_some_there tried.machines.items node (subst (λ (n : ℕ). node < n) (sym c.in_ok-said.ensures.count) less) in
+    let said = c.in_ok-said.field-0.said.items in
+    let new = c.rounds.new.self in
+    let one = held_there moment (slice_get items node) (slice_get given.machines.items node) c.requires.rests c.in_ok-give_back.ensures.only in
+    let two = tried_there moment (slice_get given.machines.items node) (slice_get tried.machines.items node) c.in_ok-said.field-0 (idle_there (slice_get given.machines.items node) c.in_ok-give_back.ensures.rests) c.in_ok-said.ensures.only c.in_ok-said.ensures.goes c.in_default.is in
+    subst (λ (l : List Said). AnswersThere moment l (slice_get items node) (slice_get new.machines.items node)) (sym c.in_ok-append.ensures.items)
+    (answers_then moment said c.in_ok-more.more.items (slice_get items node) (slice_get tried.machines.items node) (slice_get new.machines.items node) some_tried
+    (answers_then moment [] said (slice_get items node) (slice_get given.machines.items node) (slice_get tried.machines.items node) some_given one two) c.in_ok-more.ensures.answers)
+
+pub returns-clause-session : goal.returns-clause-session
+returns-clause-session g t c =
+    let node = c.args.node in
+    let items = c.args.self.now.machines.items in
+    let given = c.give_back.new.self in
+    let tried = c.attempt.new.self in
+    let moment = c.args.reading in
+    let less = subst (λ (n : ℕ). node < n) (sym c.in_ok-give_back.ensures.count) c.requires.there.0 in
+    let some_given = is_some_there given.machines.items node less in
+    let some_tried = is_some_there tried.machines.items node (subst (λ (n : ℕ). node < n) (sym c.in_ok-said.ensures.count) less) in
+    let said = c.in_ok-said.field-0.said.items in
+    let new = c.rounds.new.self in
+    session_then (slice_get items node) (slice_get tried.machines.items node) (slice_get new.machines.items node) some_tried
+    (session_then (slice_get items node) (slice_get given.machines.items node) (slice_get tried.machines.items node) some_given
+    (session_held (slice_get items node) (slice_get given.machines.items node) c.in_ok-give_back.ensures.only) (session_tried (slice_get given.machines.items node) (slice_get tried.machines.items node) c.in_ok-said.ensures.only))
+    c.in_ok-more.ensures.session
+
+pub returns-clause-tidy : goal.returns-clause-tidy
+returns-clause-tidy g t c =
+    let node = c.args.node in
+    let items = c.args.self.now.machines.items in
+    let given = c.give_back.new.self in
+    let tried = c.attempt.new.self in
+    let moment = c.args.reading in
+    let less = subst (λ (n : ℕ). node < n) (sym c.in_ok-give_back.ensures.count) c.requires.there.0 in
+    let some_given = is_some_there given.machines.items node less in
+    let some_tried = is_some_there tried.machines.items node (subst (λ (n : ℕ). node < n) (sym c.in_ok-said.ensures.count) less) in
+    let said = c.in_ok-said.field-0.said.items in
+    let new = c.rounds.new.self in
+    tidy_then (slice_get items node) (slice_get tried.machines.items node) (slice_get new.machines.items node) some_tried
+    (tidy_then (slice_get items node) (slice_get given.machines.items node) (slice_get tried.machines.items node) some_given
+    (tidy_held (slice_get items node) (slice_get given.machines.items node) c.in_ok-give_back.ensures.only) (tidy_tried (slice_get given.machines.items node) (slice_get tried.machines.items node) c.in_ok-said.ensures.only))
+    c.in_ok-more.ensures.tidy
+
+pub returns-in-Some-clause-own : goal.returns-in-Some-clause-own
+returns-in-Some-clause-own g t c = λ other.
+    let one = c.in_ok-give_back.ensures.own other in
+    let two = c.in_ok-begin.ensures.parts.1 ∙ c.in_ok-said.ensures.parts.1 in
+    (ap (λ w. g.O.Owners.own w other) two ∙ one.0, ap (λ w. g.O.Owners.end_of w other) two ∙ one.1)
+
+pub returns-then-is_empty-clause-own : goal.returns-then-is_empty-clause-own
+returns-then-is_empty-clause-own g t c = λ other.
+    let one = c.in_ok-give_back.ensures.own other in
+    let two = c.in_ok-said.ensures.parts.1 in
+    let three = c.in_ok-ask_all.ensures.own other in
+    (three.0 ∙ ap (λ w. g.O.Owners.own w other) two ∙ one.0, three.1 ∙ ap (λ w. g.O.Owners.end_of w other) two ∙ one.1)
+
+pub returns-clause-own : goal.returns-clause-own
+returns-clause-own g t c = λ other.
+    let one = c.in_ok-give_back.ensures.own other in
+    let two = c.in_ok-said.ensures.parts.1 in
+    let three = c.in_ok-more.ensures.own other in
+    (three.0 ∙ ap (λ w. g.O.Owners.own w other) two ∙ one.0, three.1 ∙ ap (λ w. g.O.Owners.end_of w other) two ∙ one.1)
+
+pub returns-in-Some-clause-store : goal.returns-in-Some-clause-store
+returns-in-Some-clause-store g t c =
+    let node = c.args.node in
+    (c.in_ok-begin.ensures.store node).0 ∙ ap (λ s. g.S.Store.own s node) (c.in_ok-said.ensures.parts.2 ∙ c.in_ok-give_back.ensures.parts.2)
+
+pub returns-then-is_empty-clause-store : goal.returns-then-is_empty-clause-store
+returns-then-is_empty-clause-store g t c =
+    let node = c.args.node in
+    (c.in_ok-ask_all.ensures.own node).2 ∙ ap (λ s. g.S.Store.own s node) (c.in_ok-said.ensures.parts.2 ∙ c.in_ok-give_back.ensures.parts.2)
+
+pub returns-clause-store : goal.returns-clause-store
+returns-clause-store g t c =
+    let node = c.args.node in
+    c.in_ok-more.ensures.store ∙ ap (λ s. g.S.Store.own s node) (c.in_ok-said.ensures.parts.2 ∙ c.in_ok-give_back.ensures.parts.2)

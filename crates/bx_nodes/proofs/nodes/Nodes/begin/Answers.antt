@@ -1,115 +1,45 @@
-use Rattle.std.proofs.Common.{◌≡◌, ◌∙◌, Some, sym, ap}
+use Rattle.std.proofs.lemmas.Result.{on_ok_weaker}
 use Rattle.std.specs.Prelude.{slice_get}
-use Rattle.std.proofs.lemmas.Option.{slice_get-get_or}
 use Rattle.bx_node_cache.specs.Kept.{held_in, hint_in}
 use Rattle.bx_node_tries.specs.Tries.{IsToBegin}
-use Rattle.bx_node_steps.specs.Ready.{IsReady}
 use Rattle.bx_node_steps.specs.declared.machine.Machine.{Machine}
-use Rattle.bx_node_steps.specs.declared.machine.Stage.TheVariants.{Idle}
-use Rattle.bx_nodes.proofs.Beginning.{begun_there, held_draft, numbered}
-use Rattle.bx_node_steps.proofs.Fitting.{begin_fits, begun_ready, ready_at}
-use Rattle.bx_nodes.proofs.Machines.{of_there, put_there, set_there, was_there}
+use Rattle.bx_nodes.proofs.Beginning.{held_draft, numbered, works}
+use Rattle.bx_nodes.proofs.Machines.{if_both, if_some}
+use Rattle.bx_nodes.specs.Sending.{BeginsBy, SendsBody, WorksOver}
+use Rattle.bx_views.specs.Attempts.{IsHeldDraft}
 use Rattle.bx_nodes.proofs.nodes.Nodes.begin.Goals as goal
 
-pub begin-requires-clause-held : goal.begin-requires-clause-held
-begin-requires-clause-held g c =
+pub send-requires-clause-held : goal.send-requires-clause-held
+send-requires-clause-held g c =
     let self = c.args.self.now in
-    let items = self.machines.items in
-    let before = c.index_mut.result.now in
-    let engine = self.engine in
     let e = g.E.Engine in
     let begun = c.args.begun in
-    let was : slice_get items c.args.node ≡ Some before = slice_get-get_or items c.args.node before c.requires.there ∙ ap (λ (m : Machine). Some m) (sym c.index_mut.ensures.value) in
-    let fair = of_there (λ (machine : Machine). IsToBegin e engine (held_in machine.cache.kept) (hint_in machine.cache.hinted) c.args.moment begun) (slice_get items c.args.node) before was c.requires.begun in
-    held_draft c.args.moment (e.areas engine) (held_in before.cache.kept) (e.path engine begun.call.client begun.call.message (held_in before.cache.kept) (hint_in before.cache.hinted)) begun.call begun.attempt c.asked_by-recording.result c.asked_by-recording.ensures fair.tried.fair
+    if_some (slice_get self.machines.items c.args.node) (λ (machine : Machine). IsToBegin e self.engine (held_in machine.cache.kept) (hint_in machine.cache.hinted) c.args.moment begun)
+    (λ (machine : Machine). IsHeldDraft (held_in machine.cache.kept) c.asked_by.result.pending.draft)
+    (λ machine is. held_draft c.args.moment (e.areas self.engine) (held_in machine.cache.kept) (e.path self.engine begun.call.client begun.call.message (held_in machine.cache.kept) (hint_in machine.cache.hinted)) begun.call begun.attempt c.asked_by.result c.asked_by.ensures is.tried.fair)
+    c.requires.begun
 
-pub returns-in_err-runs-clause-others : goal.returns-in_err-runs-clause-others
-returns-in_err-runs-clause-others g c = record { others = λ other ne. set_there c.args.self.now.machines.items c.args.node other c.begin.new.self ne }
-
-pub write-requires-clause-runs : goal.write-requires-clause-runs
-write-requires-clause-runs g c =
-    let items = c.args.self.now.machines.items in
-    let before = c.index_mut.result.now in
-    let was : slice_get items c.args.node ≡ Some before = slice_get-get_or items c.args.node before c.requires.there ∙ ap (λ (m : Machine). Some m) (sym c.index_mut.ensures.value) in
-    let made = g.S.Store.made c.args.self.now.store in
-    let areas = g.E.Engine.areas c.args.self.now.engine in
-    let asked = g.S.Store.asked c.args.self.now.store c.args.node in
-    begin_fits made areas asked before c.begin.new.self (of_there (IsReady made areas asked) (slice_get items c.args.node) before was c.requires.ready) c.asked_by-recording.result c.in_ok-runs.runs c.in_ok-runs.ensures
-    (of_there (λ (m : Machine). m.stage ≡ Idle) (slice_get items c.args.node) before was c.requires.idle)
-
-pub returns-in_err-write-clause-others : goal.returns-in_err-write-clause-others
-returns-in_err-write-clause-others g c = record { others = λ other ne. set_there c.args.self.now.machines.items c.args.node other c.begin.new.self ne }
+pub send-requires-clause-numbered : goal.send-requires-clause-numbered
+send-requires-clause-numbered g c = numbered c.args.moment c.args.begun.call c.args.begun.attempt c.asked_by.result c.asked_by.ensures
 
 pub returns-clause-stands : goal.returns-clause-stands
 returns-clause-stands g c = λ x letters clocks course tree session up stands own ends lives mine.
     let self = c.args.self.now in
-    let items = self.machines.items in
-    let before = c.index_mut.result.now in
-    let engine = self.engine in
     let e = g.E.Engine in
     let begun = c.args.begun in
-    let was : slice_get items c.args.node ≡ Some before = slice_get-get_or items c.args.node before c.requires.there ∙ ap (λ (m : Machine). Some m) (sym c.index_mut.ensures.value) in
-    let made = g.S.Store.made self.store in
-    let own_is : g.S.Store.own self.store c.args.node ≡ Some session = sym (stands.at.parts.own c.args.node up) ∙ own in
-    let areas = e.areas engine in
-    let asked = g.S.Store.asked self.store c.args.node in
-    let ready = of_there (IsReady made areas asked) (slice_get items c.args.node) before was c.requires.ready in
-    let idle = of_there (λ (m : Machine). m.stage ≡ Idle) (slice_get items c.args.node) before was c.requires.idle in
-    let fair = of_there (λ (machine : Machine). IsToBegin e engine (held_in machine.cache.kept) (hint_in machine.cache.hinted) c.args.moment begun) (slice_get items c.args.node) before was c.requires.begun in
-    let wrote = c.in_ok-write.ensures in
-    begun_there g.G.Register g.O.Owners g.S.Store (e.stands engine) (e.step engine) self.register self.owners self.store c.write.new.self x letters c.args.out.now c.write.new.out clocks items course tree
-    c.args.node session c.args.until before c.begin.new.self stands up own ends lives was (of_there (λ (m : Machine). m.session ≡ Some session) (slice_get items c.args.node) before was mine) c.requires.none_out
-    (record { legal = λ y past. g.met.G.Register.legal self.register y past; allowed = λ y past s. g.met.G.Register.allowed self.register y past s; loses = λ y past all. g.met.G.Register.loses self.register y past all })
-    (record {
-      leases = λ past n s end. g.met.O.Owners.leases self.owners past n s end;
-      lives = λ past s end. g.met.O.Owners.lives self.owners past s end;
-      alone = λ past s other block hold. g.met.O.Owners.alone self.owners past s other block hold;
-      opened = λ past n s. g.met.O.Owners.was_opened self.owners past n s;
-      loses = λ past all. g.met.O.Owners.loses self.owners past all;
-    })
-    (record { nothing_out = λ y past n s. g.met.S.Store.nothing_out self.store y past n s })
-    (e.free engine) (e.areas engine) c.args.moment (e.path engine) begun c.asked_by-recording.result c.in_ok-runs.runs idle fair.tried.fair fair.tried.gives c.asked_by-recording.ensures c.in_ok-runs.ensures
-    (record {
-      fits = begin_fits made areas asked before c.begin.new.self ready c.asked_by-recording.result c.in_ok-runs.runs c.in_ok-runs.ensures idle;
-      keeps = λ y past kept is_up may. wrote.keeps y past session kept is_up own_is may;
-      goes_on = λ y past kept is_up may. wrote.goes_on y past session kept is_up own_is may;
-      is_out = wrote.is_out session own_is;
-      others = wrote.others;
-      own = λ other. (wrote.stays other).0;
-      asked = λ other. (wrote.stays other).1;
-      sent = wrote.sent;
-      made = wrote.made;
-    })
-    ready.devices ready.areas
+    c.send.ensures.stands x letters clocks course tree session up stands own ends lives mine
+    (if_some (slice_get self.machines.items c.args.node) (λ (machine : Machine). IsToBegin e self.engine (held_in machine.cache.kept) (hint_in machine.cache.hinted) c.args.moment begun)
+    (WorksOver e self.engine c.asked_by.result)
+    (λ machine is truth t holds agrees. works (e.stands self.engine) (e.step self.engine) (e.free self.engine truth) c.args.moment begun.call truth t begun.attempt c.asked_by.result c.asked_by.ensures (is.tried.gives truth t holds agrees))
+    c.requires.begun)
 
 pub returns-clause-begins : goal.returns-clause-begins
 returns-clause-begins g c =
     let items = c.args.self.now.machines.items in
-    let before = c.index_mut.result.now in
-    let was : slice_get items c.args.node ≡ Some before = slice_get-get_or items c.args.node before c.requires.there ∙ ap (λ (m : Machine). Some m) (sym c.index_mut.ensures.value) in
-    was_there _ (slice_get items c.args.node) before was (put_there _ items c.args.node c.begin.new.self before was (record {
-      recording = c.asked_by-recording.result;
-      asks = c.asked_by-recording.ensures;
-      runs = c.in_ok-runs.runs;
-      begins = c.in_ok-runs.ensures;
-      sent = λ session own_is. c.in_ok-write.ensures.is_out session own_is;
-    }))
-
-pub returns-clause-ready : goal.returns-clause-ready
-returns-clause-ready g c =
-    let self = c.args.self.now in
-    let items = self.machines.items in
-    let before = c.index_mut.result.now in
-    let was : slice_get items c.args.node ≡ Some before = slice_get-get_or items c.args.node before c.requires.there ∙ ap (λ (m : Machine). Some m) (sym c.index_mut.ensures.value) in
-    let made = g.S.Store.made self.store in
-    let areas = g.E.Engine.areas c.args.self.now.engine in
-    let asked = g.S.Store.asked c.args.self.now.store c.args.node in
-    let wrote = c.in_ok-write.ensures in
-    put_there (IsReady (g.S.Store.made c.write.new.self) areas (g.S.Store.asked c.write.new.self c.args.node)) items c.args.node c.begin.new.self before was
-    (ready_at made (g.S.Store.made c.write.new.self) areas asked (g.S.Store.asked c.write.new.self c.args.node) c.begin.new.self wrote.made (wrote.stays c.args.node).1
-    (begun_ready made areas asked before c.begin.new.self (of_there (IsReady made areas asked) (slice_get items c.args.node) before was c.requires.ready) c.asked_by-recording.result c.in_ok-runs.runs c.in_ok-runs.ensures
-    (of_there (λ (m : Machine). m.stage ≡ Idle) (slice_get items c.args.node) before was c.requires.idle)
-    (numbered c.args.moment c.args.begun.call c.args.begun.attempt c.asked_by-recording.result c.asked_by-recording.ensures)))
-
-pub returns-clause-others : goal.returns-clause-others
-returns-clause-others g c = record { others = λ other ne. set_there c.args.self.now.machines.items c.args.node other c.begin.new.self ne }
+    let node = c.args.node in
+    let own = g.S.Store.own c.args.self.now.store node in
+    let out = g.S.Store.out_of c.send.new.self.store node in
+    on_ok_weaker c.send.result
+    (λ sends. if_both (slice_get items node) (slice_get c.send.new.self.machines.items node) (SendsBody c.asked_by.result own c.args.until out) (BeginsBy c.args.moment c.args.begun own c.args.until out)
+    (λ a b sent. record { recording = c.asked_by.result; asks = c.asked_by.ensures; sends = sent }) sends)
+    c.send.ensures.sends

@@ -3,6 +3,7 @@ use Rattle.bx_node_events.proofs.Registered.{HandedLaws}
 use Rattle.bx_node_events.proofs.Stopping.{OwnersStop, RegisterStops, StoreStops, but_for}
 use Rattle.bx_node_steps.specs.Seen.{seen}
 use Rattle.bx_nodes.specs.Stopping.{with_down}
+use Rattle.bx_nodes.proofs.Calling.{empties_apart}
 use Rattle.bx_nodes.proofs.Stopping.{all_stand, with_parts}
 use Rattle.bx_nodes.proofs.nodes.Nodes.crash.Goals as goal
 
@@ -44,6 +45,7 @@ returns-clause-stops g c = λ x letters clocks course tree stands.
       later = all.later;
       chain = all.chain;
       knew = all.knew;
+      logs = all.logs;
       stands = with_parts g.G.Register g.O.Owners g.S.Store e.stands e.step c.crash.new.self new.register c.crash-2.new.self new.owners c.crash-3.new.self new.store self.engine new.engine parts.0 parts.1 parts.2 parts.3
           x letters (with_down clocks who) (seen new.machines.items) all.later tree all.stands;
     }
@@ -60,3 +62,6 @@ returns-clause-holds g c = λ node block differ.
     let apart = c.crash-2.ensures.apart node block differ in
     subst (λ owners. (g.O.Owners.hold owners node block ≡ g.O.Owners.hold c.args.self.now.owners node block) × (g.O.Owners.request owners node block ≡ g.O.Owners.request c.args.self.now.owners node block)
     × (g.O.Owners.is_separate → g.O.Owners.asks owners node ≡ g.O.Owners.asks c.args.self.now.owners node)) (sym c.empty.ensures.parts.1) apart
+
+pub returns-clause-apart : goal.returns-clause-apart
+returns-clause-apart g c = λ node apart. empties_apart c.args.who c.args.self.now.machines.items c.empty.new.self.machines.items c.empty.ensures.empties node apart

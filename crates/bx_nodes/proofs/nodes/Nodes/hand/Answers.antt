@@ -1,4 +1,4 @@
-use Rattle.std.proofs.Common.{inl, ◌++◌, None, Option, Result, Ok, Err, OnOk, sym, subst}
+use Rattle.std.proofs.Common.{◌∙◌, ⊎_elim, inl, inr, ◌++◌, None, Option, Result, Ok, Err, OnOk, refl, sym, ap, subst}
 use Rattle.bx_global.specs.declared.change.Change.{Change}
 use Rattle.bx_global.specs.declared.state.GlobalState.{GlobalState}
 use Rattle.bx_node_events.proofs.Faulted.{register_faulted, store_faulted}
@@ -9,6 +9,8 @@ use Rattle.bx_node_machines.specs.Nodes.{NodesStand}
 use Rattle.bx_node_steps.specs.Seen.{seen}
 use Rattle.bx_nodes.specs.Taking.{with_reading}
 use Rattle.bx_nodes.proofs.Ending.{err_back}
+use Rattle.bx_nodes.proofs.Machines.{ok_so}
+use Rattle.bx_nodes.proofs.Readying.{ready_handed}
 use Rattle.bx_nodes.proofs.nodes.Nodes.hand.Goals as goal
 
 -- where a call succeeds, what it promises of success holds
@@ -102,6 +104,7 @@ returns-clause-stands g c = λ letters clocks course tree tells up steady comes 
     record {
       later = all.0;
       grows = all.1;
+      logs = all.3;
       stands = subst (λ machines. NodesStand g.G.Register g.O.Owners g.S.Store (e.stands new.engine) (e.step new.engine) new.register new.owners new.store z then_letters then_clocks (seen machines.items) all.0 tree) (sym parts.3)
           (subst (λ engine. NodesStand g.G.Register g.O.Owners g.S.Store (e.stands engine) (e.step engine) new.register new.owners new.store z then_letters then_clocks (seen self.machines.items) all.0 tree) (sym parts.2)
           (subst (λ store. NodesStand g.G.Register g.O.Owners g.S.Store (e.stands self.engine) (e.step self.engine) new.register new.owners store z then_letters then_clocks (seen self.machines.items) all.0 tree) (sym parts.1)
@@ -146,7 +149,7 @@ returns-in_err-take-clause-faulted g c = λ letters clocks course tree tells up 
     } in
     let all = register_faulted g.G.Register g.O.Owners g.S.Store (e.stands self.engine) (e.step self.engine) laws self.register c.take.new.self self.owners self.store x y letters box clocks (seen self.machines.items) at input course tree
     stands up comes register_took in
-    record { later = all.0; grows = all.1; stands = all.2 }
+    record { later = all.0; grows = all.1; logs = all.3; stands = all.2 }
 
 pub returns-in_err-shift-clause-faulted : goal.returns-in_err-shift-clause-faulted
 returns-in_err-shift-clause-faulted g c = λ letters clocks course tree tells up steady comes stands fault.
@@ -220,5 +223,23 @@ returns-in_err-shift-clause-faulted g c = λ letters clocks course tree tells up
     record {
       later = all.0;
       grows = all.1;
+      logs = all.3;
       stands = but_for g.G.Register g.O.Owners g.S.Store (e.stands self.engine) (e.step self.engine) c.take.new.self c.take-2.new.self c.take-3.new.self z at (letters ++ box) (with_reading clocks input) (seen self.machines.items) all.0 tree all.2;
     }
+
+pub returns-clause-ready : goal.returns-clause-ready
+returns-clause-ready g c = λ node ready. ok_so _ c.offer.result
+    (let parts = c.offer.ensures.parts in
+    let did = c.in_ok-shift.ensures in
+    ready_handed g.S.Store g.E.Engine c.args.self.now c.offer.new.self node parts.3 parts.2 (ap (λ s. g.S.Store.made s) parts.1 ∙ did.made)
+    (λ differ. ap (λ s. g.S.Store.asked s node) parts.1 ∙ did.new_session node (λ same. differ (ap (λ s. g.S.Store.own s node) parts.1 ∙ same)))
+    (⊎_elim (λ differ. inl (λ same. differ (sym (ap (λ s. g.S.Store.own s node) parts.1) ∙ same))) (λ same. inr (ap (λ s. g.S.Store.asked s node) parts.1 ∙ same)) (did.asked node)) ready)
+
+pub returns-clause-ready_faulted : goal.returns-clause-ready_faulted
+returns-clause-ready_faulted g c = λ node ready fault. absurd (c.offer.ensures.no_fault fault)
+
+pub returns-in_err-shift-clause-ready_faulted : goal.returns-in_err-shift-clause-ready_faulted
+returns-in_err-shift-clause-ready_faulted g c = λ node ready fault.
+    let fails = err_back c.from_residual-in_err-shift.result _ c.from_residual-in_err-shift.ensures.1 fault in
+    let did = c.in_err-shift.ensures in
+    ready_handed g.S.Store g.E.Engine c.args.self.now (record c.args.self.now { register = c.take.new.self; owners = c.take-2.new.self; store = c.take-3.new.self }) node refl refl did.made (did.new_session_faulted node fails) (did.asked_faulted node fails) ready

@@ -5,6 +5,7 @@ use Rattle.bx_node_events.proofs.Registered.{HandedLaws}
 use Rattle.bx_node_events.proofs.Starting.{OwnersStart, RegisterStarts, StoreTries, starts}
 use Rattle.bx_node_events.proofs.Stopping.{OwnersStop, StoreStops}
 use Rattle.bx_node_steps.specs.Seen.{seen}
+use Rattle.bx_nodes.proofs.Calling.{empties_apart}
 use Rattle.bx_nodes.proofs.Ending.{err_back}
 use Rattle.bx_nodes.proofs.Stopping.{empty_stands, with_parts}
 use Rattle.bx_nodes.proofs.nodes.Nodes.restart.Goals as goal
@@ -184,3 +185,12 @@ returns-else-is_err-clause-stands g c = λ letters clocks course tree tells down
     register_starts owners_start (λ node same. c.restart-2.ensures.own (may_start node same).separate.0 node same)
     store_tries (λ node same. (did.own (may_start node same).separate.1 node same).0) in
     record { later = all.0; chain = all.1; stands = all.2 })
+
+pub returns-in_err-restart-clause-apart : goal.returns-in_err-restart-clause-apart
+returns-in_err-restart-clause-apart g c = λ node apart. empties_apart c.args.who c.args.self.now.machines.items c.empty.new.self.machines.items c.empty.ensures.empties node apart
+
+pub returns-then-is_err-clause-apart : goal.returns-then-is_err-clause-apart
+returns-then-is_err-clause-apart g c = λ node apart. empties_apart c.args.who c.args.self.now.machines.items c.empty.new.self.machines.items c.empty.ensures.empties node apart
+
+pub returns-else-is_err-clause-apart : goal.returns-else-is_err-clause-apart
+returns-else-is_err-clause-apart g c = λ node apart. empties_apart c.args.who c.args.self.now.machines.items c.empty.new.self.machines.items c.empty.ensures.empties node apart

@@ -1,4 +1,6 @@
-use Rattle.std.proofs.Common.{◌++◌, sym, subst}
+use Rattle.std.proofs.Common.{◌∙◌, ◌++◌, IfSome, sym, subst}
+use Rattle.std.specs.Prelude.{slice_get}
+use Rattle.bx_node_steps.specs.Calls.{AreApart}
 use Rattle.bx_facts.specs.Chains.{Chain, GrowsBy}
 use Rattle.bx_nodes.specs.Taking.{with_reading}
 use Rattle.bx_nodes.proofs.nodes.Nodes.take.Goals as goal
@@ -7,4 +9,8 @@ pub returns-then-matches-clause-stopped : goal.returns-then-matches-clause-stopp
 returns-then-matches-clause-stopped g c = λ letters clocks course tree tells up steady comes stands fault.
     let heard = c.hand-taken.ensures.faulted letters clocks course tree tells up steady comes stands fault in
     let all = c.crash.ensures.stops (g.R.Rack.state c.hand-taken.new.rack) (letters ++ c.args.out.now) (with_reading clocks c.args.input.now) heard.later tree heard.stands in
-    record { later = all.later; grows = subst (λ (chain : Chain). GrowsBy course.register.proposed course.register.chain chain) (sym all.chain) heard.grows; stands = all.stands }
+    record { later = all.later; grows = subst (λ (chain : Chain). GrowsBy course.register.proposed course.register.chain chain) (sym all.chain) heard.grows; logs = all.logs ∙ heard.logs; stands = all.stands }
+
+pub returns-then-matches-clause-apart : goal.returns-then-matches-clause-apart
+returns-then-matches-clause-apart g c = λ node apart.
+    c.crash.ensures.apart node (subst (λ m. IfSome (slice_get m.items node) AreApart) (sym c.hand-taken.ensures.machines.0) apart)

@@ -1,9 +1,9 @@
 use Rattle.std.proofs.Common.{◌≡◌, ℕ, List, Option, Some, Result, Ok, length, ap, subst, ◌∙◌, arith}
 use Rattle.std.specs.Prelude.{IfOk, IfNone, IfSome}
 use Rattle.bx_base.specs.declared.memory.OutOfMemory.{OutOfMemory}
-use Rattle.bx_fields.specs.declared.error.ReadError.{ReadError}
-use Rattle.bx_fields.specs.Reading.{AreZeros, Gives, IsBeforeZeros}
-use Rattle.bx_fields.proofs.Whole.{zeros_none, zeros_some}
+use Rattle.bx_base.specs.declared.error.ReadError.{ReadError}
+use Rattle.bx_base.specs.Reading.{AreZeros, Gives, IsBeforeZeros}
+use Rattle.bx_base.proofs.Whole.{zeros_none, zeros_some}
 use Rattle.bx_page.specs.Contents.{Contents}
 use Rattle.bx_page.specs.Parts.{seen}
 use Rattle.bx_page.specs.Reading.{contents_at}

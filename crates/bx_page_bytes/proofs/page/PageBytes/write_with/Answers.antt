@@ -1,6 +1,6 @@
 use Rattle.std.proofs.Common.{◌≡◌, ◌+◌, length, subst, sym, ap, refl, ◌∙◌, arith}
 use Rattle.std.proofs.lemmas.List.{length-append}
-use Rattle.bx_fields.specs.Writing.{Writes}
+use Rattle.bx_base.specs.Writing.{Writes}
 use Rattle.bx_page.specs.Contents.{Contents, size, high_bytes}
 use Rattle.bx_page.specs.Spelling.{Spells}
 use Rattle.bx_page.proofs.Edits.{with_page}

@@ -1,5 +1,5 @@
 use Rattle.std.proofs.Common.{◌≡◌, ◌+◌, ◌-◌, length, subst, sym, ap, ◌∙◌, arith}
-use Rattle.bx_fields.specs.Writing.{Writes}
+use Rattle.bx_base.specs.Writing.{Writes}
 use Rattle.bx_page.specs.Contents.{Contents, size, high_bytes}
 use Rattle.bx_page.specs.Spelling.{Spells}
 use Rattle.bx_page_bytes.specs.Pages.{head_bytes}

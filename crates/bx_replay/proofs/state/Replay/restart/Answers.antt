@@ -8,24 +8,26 @@ use Rattle.bx_replay.proofs.Answered.{stands_but}
 use Rattle.bx_replay.proofs.Causes.{same_least}
 use Rattle.bx_replay.proofs.Printing.{breaks_here}
 use Rattle.bx_replay.proofs.Rounding.{goes_found, told_after, untold}
-use Rattle.bx_replay.proofs.Standing.{stands_same, stands_silent}
+use Rattle.bx_replay.proofs.Standing.{none_waits, stands_silent}
 use Rattle.bx_replay.proofs.state.Replay.restart.Goals as goal
 
 pub returns-then-is_up : goal.returns-then-is_up
 returns-then-is_up g c = record {
-  restarts = λ tree doubt greatest reading done start sink_tells bench_tells holds room place steady stands.
+  restarts = λ tree doubts greatest reading done start sink_tells bench_tells holds room place steady are stands.
       let is_up : g.M.Service.up c.args.self.now.service ≡ true = sym c.is_up.ensures ∙ c.if-is_up.true in
       record {
         tree = tree;
-        doubt = doubt;
+        doubts = doubts;
         holds = holds;
         lines = [];
-        stands = stands_silent tree _ _ _ doubt _ done start _ room stands (Restart reading) _ tt place (tt, steady, tt) (ap (λ (up : Bool). machines_at up (max greatest reading)) is_up);
+        waiting_are = are;
+        stands = stands_silent tree _ _ doubts _ done start _ room stands (Restart reading) _ tt place (tt, steady, tt) (ap (λ (up : Bool). machines_at c.args.self.now.nodes up (max greatest reading)) is_up);
       };
   moves = λ reading. (refl, λ _. refl);
-  back = λ tree doubt bench_tells holds down. absurd (let both = sym down ∙ sym c.is_up.ensures ∙ c.if-is_up.true in cc);
-  holds = λ tree doubt bench_tells holds. (tree, doubt, holds);
+  back = λ tree doubts bench_tells holds down. absurd (let both = sym down ∙ sym c.is_up.ensures ∙ c.if-is_up.true in cc);
+  holds = λ tree doubts bench_tells holds. (tree, doubts, holds);
   up = sym c.is_up.ensures ∙ c.if-is_up.true;
+  nodes = (c.requires.nodes, refl);
   latest = refl;
   ready = c.requires.ready;
   cause = tt;
@@ -39,11 +41,12 @@ pub returns-in_err-point : goal.returns-in_err-point
 returns-in_err-point g c =
     let p = err_from_is_err_and c.from_residual.result c.from_residual.ensures.1 in
     record {
-      restarts = λ tree doubt greatest reading done start sink_tells bench_tells holds room place steady stands. rw (p.1, p.2) (inl refl);
+      restarts = λ tree doubts greatest reading done start sink_tells bench_tells holds room place steady are stands. rw (p.1, p.2) (inl refl);
       moves = λ reading. (c.restart.ensures.sizes, λ up. absurd (let both = sym up ∙ sym c.is_up.ensures ∙ c.if-is_up.false in cc));
-      back = λ tree doubt bench_tells holds down same. rw p.1 tt;
-      holds = λ tree doubt bench_tells holds. rw p.1 tt;
+      back = λ tree doubts bench_tells holds down same. rw p.1 tt;
+      holds = λ tree doubts bench_tells holds. rw p.1 tt;
       up = rw p.1 tt;
+      nodes = rw p.1 tt;
       latest = rw p.1 tt;
       ready = rw p.1 tt;
       cause = rw (p.1, p.2) tt;
@@ -58,18 +61,20 @@ returns-in_err-print_lines g c =
     let p = err_from_is_err_and c.from_residual-in_err-print_lines.result c.from_residual-in_err-print_lines.ensures.1 in
     let why = c.in_err-print_lines.ensures in
     record {
-      restarts = λ tree doubt greatest reading done start sink_tells bench_tells holds room place steady stands.
+      restarts = λ tree doubts greatest reading done start sink_tells bench_tells holds room place steady are stands.
           let p = err_from_is_err_and c.from_residual-in_err-print_lines.result c.from_residual-in_err-print_lines.ensures.1 in
-          let begun = stands_same tree _ _ (g.M.Service.waits c.restart.new.self) _ doubt _ _ start _ c.in_ok-point.ensures.waits (stands_silent tree _ _ _ doubt _ done start (g.K.Sink.written c.args.out.now) room stands (Restart reading) (machines_at (g.M.Service.up c.restart.new.self) (max greatest reading)) tt place (tt, steady, tt) (ap (λ (up : Bool). machines_at up (max greatest reading)) c.in_ok-point.ensures.up)) in
-          let finds = rw c.in-Some.is at (c.in_ok-point.ensures.restarts tree doubt bench_tells holds) in
+          let begun = stands_silent tree _ _ doubts _ done start (g.K.Sink.written c.args.out.now) room stands (Restart reading) (machines_at c.args.self.now.nodes (g.M.Service.up c.restart.new.self) (max greatest reading)) tt place (tt, steady, tt) (ap (λ (up : Bool). machines_at c.args.self.now.nodes up (max greatest reading)) c.in_ok-point.ensures.up) in
+          let waiting_now = none_waits (g.M.Service.waits c.args.self.now.service) (g.M.Service.waits c.restart.new.self) done (Restart reading) tt are (g.met.M.Service.idle c.args.self.now.service (sym c.is_up.ensures ∙ c.if-is_up.false)) c.in_ok-point.ensures.waits in
+          let finds = rw c.in-Some.is at (c.in_ok-point.ensures.restarts tree doubts bench_tells holds) in
           rw (p.1, p.2) (untold (g.M.Service.holds c.restart.new.self (g.B.Rack.state c.restart.new.bench)) _ _ _ _ (Restart reading) done start (g.K.Sink.written c.args.out.now) (Acted c.in-Some.point ∷ [])
-          (goes_found _ (Restart reading) tt done start tree _ _ _ doubt _ [] _ begun c.in-Some.point finds)
+          (goes_found _ (Restart reading) tt done start tree _ (g.M.Service.waits c.restart.new.self) _ doubts _ [] _ begun waiting_now c.in-Some.point finds.0 finds.1)
           c.in_err-print_lines.field-0.0 _ _ _ _ _ _ stands.output c.in_err-print_lines.ensures.cause (c.in_err-print_lines.ensures.prints sink_tells) c.in_err-print_lines.ensures.in_range
-          (breaks_here tree _ _ _ doubt _ (Restart reading) [] done start _ begun));
+          (breaks_here tree _ _ doubts _ (Restart reading) [] done start _ begun));
       moves = λ reading. (c.restart.ensures.sizes, λ up. absurd (let both = sym up ∙ sym c.is_up.ensures ∙ c.if-is_up.false in cc));
-      back = λ tree doubt bench_tells holds down same. rw p.1 tt;
-      holds = λ tree doubt bench_tells holds. rw p.1 tt;
+      back = λ tree doubts bench_tells holds down same. rw p.1 tt;
+      holds = λ tree doubts bench_tells holds. rw p.1 tt;
       up = rw p.1 tt;
+      nodes = rw p.1 tt;
       latest = rw p.1 tt;
       ready = rw p.1 tt;
       cause = rw (p.1, p.2) why.cause;
@@ -80,22 +85,25 @@ returns-in_err-print_lines g c =
     }
 
 pub returns-in_ok-print_lines-clause-restarts : goal.returns-in_ok-print_lines-clause-restarts
-returns-in_ok-print_lines-clause-restarts g c = λ tree doubt greatest reading done start sink_tells bench_tells holds room place steady stands.
-    let begun = stands_same tree _ _ (g.M.Service.waits c.restart.new.self) _ doubt _ _ start _ c.in_ok-point.ensures.waits (stands_silent tree _ _ _ doubt _ done start (g.K.Sink.written c.args.out.now) room stands (Restart reading) (machines_at (g.M.Service.up c.restart.new.self) (max greatest reading)) tt place (tt, steady, tt) (ap (λ (up : Bool). machines_at up (max greatest reading)) c.in_ok-point.ensures.up)) in
-    let finds = rw c.in-Some.is at (c.in_ok-point.ensures.restarts tree doubt bench_tells holds) in
+returns-in_ok-print_lines-clause-restarts g c = λ tree doubts greatest reading done start sink_tells bench_tells holds room place steady are stands.
+    let begun = stands_silent tree _ _ doubts _ done start (g.K.Sink.written c.args.out.now) room stands (Restart reading) (machines_at c.args.self.now.nodes (g.M.Service.up c.restart.new.self) (max greatest reading)) tt place (tt, steady, tt) (ap (λ (up : Bool). machines_at c.args.self.now.nodes up (max greatest reading)) c.in_ok-point.ensures.up) in
+    let waiting_now = none_waits (g.M.Service.waits c.args.self.now.service) (g.M.Service.waits c.restart.new.self) done (Restart reading) tt are (g.met.M.Service.idle c.args.self.now.service (sym c.is_up.ensures ∙ c.if-is_up.false)) c.in_ok-point.ensures.waits in
+    let finds = rw c.in-Some.is at (c.in_ok-point.ensures.restarts tree doubts bench_tells holds) in
     told_after (g.M.Service.holds c.restart.new.self (g.B.Rack.state c.restart.new.bench)) _ _ _ _ (Restart reading) done start (g.K.Sink.written c.args.out.now) (Acted c.in-Some.point ∷ [])
-    (goes_found _ (Restart reading) tt done start tree _ _ _ doubt _ [] _ begun c.in-Some.point finds) _ (c.in_ok-print_lines.ensures.prints sink_tells) c.in_ok-print_lines.ensures.in_range
+    (goes_found _ (Restart reading) tt done start tree _ (g.M.Service.waits c.restart.new.self) _ doubts _ [] _ begun waiting_now c.in-Some.point finds.0 finds.1) _ (c.in_ok-print_lines.ensures.prints sink_tells) c.in_ok-print_lines.ensures.in_range
 
 pub returns-in_default-clause-restarts : goal.returns-in_default-clause-restarts
-returns-in_default-clause-restarts g c = λ tree doubt greatest reading done start sink_tells bench_tells holds room place steady stands.
-    let begun = stands_same tree _ _ (g.M.Service.waits c.restart.new.self) _ doubt _ _ start _ c.in_ok-point.ensures.waits (stands_silent tree _ _ _ doubt _ done start (g.K.Sink.written c.args.out.now) room stands (Restart reading) (machines_at (g.M.Service.up c.restart.new.self) (max greatest reading)) tt place (tt, steady, tt) (ap (λ (up : Bool). machines_at up (max greatest reading)) c.in_ok-point.ensures.up)) in
-    let returns = rw c.in_default.is at (c.in_ok-point.ensures.restarts tree doubt bench_tells holds) in
+returns-in_default-clause-restarts g c = λ tree doubts greatest reading done start sink_tells bench_tells holds room place steady are stands.
+    let begun = stands_silent tree _ _ doubts _ done start (g.K.Sink.written c.args.out.now) room stands (Restart reading) (machines_at c.args.self.now.nodes (g.M.Service.up c.restart.new.self) (max greatest reading)) tt place (tt, steady, tt) (ap (λ (up : Bool). machines_at c.args.self.now.nodes up (max greatest reading)) c.in_ok-point.ensures.up) in
+    let waiting_now = none_waits (g.M.Service.waits c.args.self.now.service) (g.M.Service.waits c.restart.new.self) done (Restart reading) tt are (g.met.M.Service.idle c.args.self.now.service (sym c.is_up.ensures ∙ c.if-is_up.false)) c.in_ok-point.ensures.waits in
+    let returns = rw c.in_default.is at (c.in_ok-point.ensures.restarts tree doubts bench_tells holds) in
     record {
       tree = tree;
-      doubt = returns.now;
+      doubts = returns.now;
       holds = returns.holds;
       lines = [];
-      stands = stands_but tree _ _ _ doubt returns.now _ _ start _ begun returns.was;
+      waiting_are = waiting_now;
+      stands = stands_but tree _ _ doubts returns.now _ _ start _ begun returns.was;
     }
 
 pub returns-in_ok-print_lines-clause-moves : goal.returns-in_ok-print_lines-clause-moves

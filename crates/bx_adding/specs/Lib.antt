@@ -1,4 +1,0 @@
-pub mod Rooms
-pub mod Entering
-pub mod Finding
-pub mod Lacking

@@ -1,0 +1,9 @@
+//! A cluster, one event at a time: the contract under a replay and under a server.
+#![tactic(auto)]
+
+mod cluster;
+mod outcome;
+
+pub use bx_world_events::{Event, EventError, Shows};
+pub use cluster::Cluster;
+pub use outcome::{Outcome, ReplyOut};

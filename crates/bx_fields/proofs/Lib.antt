@@ -1,4 +1,0 @@
-pub mod Fields
-pub mod Written
-pub mod Whole
-pub mod Lists

@@ -1,5 +1,0 @@
-use Rattle.bx_hints.proofs.Pages.{has_pages}
-use Rattle.bx_hints.proofs.laws.a_file_has_pages.Goals as goal
-
-pub returns : goal.returns
-returns c = has_pages

@@ -1,5 +1,0 @@
-use Rattle.bx_hints.proofs.Later.{fit_later}
-use Rattle.bx_hints.proofs.laws.hints_fit_later.Goals as goal
-
-pub returns : goal.returns
-returns c = fit_later

@@ -1,5 +1,0 @@
-use Rattle.bx_hints.proofs.Trees.{fit_other}
-use Rattle.bx_hints.proofs.laws.one_tree_has_the_hints.Goals as goal
-
-pub returns : goal.returns
-returns c = fit_other

@@ -1,0 +1,43 @@
+use Rattle.std.proofs.Common.{◌≡◌, List, ◌++◌, refl, sym, subst, arith, ap, ◌∙◌}
+use Rattle.std.proofs.lemmas.List.{append-nil}
+use Rattle.bx_node_openings.specs.Opening.{opening_clocks}
+use Rattle.bx_node_rounds.proofs.Nodes.{if_ok_both, if_ok_with, on_ok_pair, on_ok_with, sessions_turn, turn_of, turn_ready, turn_stands}
+use Rattle.bx_nodes.specs.Standing.{Stand}
+use Rattle.bx_post.specs.declared.packets.Letter.{Letter}
+use Rattle.bx_node_rounds.proofs.cluster.Cluster.turn.Goals as goal
+
+pub returns-clause-turns : goal.returns-clause-turns
+returns-clause-turns g c =
+    let ready = c.requires.ready.1.nodes in
+    let said = c.turn.ensures in
+    if_ok_with _ _ _ c.turn.result
+    (λ items answers also. turn_of c.args.moment c.args.node c.args.self.now.nodes c.turn.new.self items.items (let less = c.requires.there in omega (arith, less, ready.counted)) said.count answers also.0 also.1 said.others (ready.apart c.args.node))
+    said.answers (on_ok_pair _ _ c.turn.result said.session said.tidies)
+
+pub returns-clause-sessions : goal.returns-clause-sessions
+returns-clause-sessions g c =
+    on_ok_with _ _ _ c.turn.result
+    (λ items turned session. sessions_turn c.args.moment c.args.node c.args.self.now.nodes.machines.items c.turn.new.self.machines.items items.items turned)
+    (returns-clause-turns g c) c.turn.ensures.session
+
+pub returns-clause-ready : goal.returns-clause-ready
+returns-clause-ready g c = λ sizes is_ready.
+    let said = c.turn.ensures in
+    on_ok_with _ _ _ c.turn.result
+    (λ items turn mine. record {
+      nodes = turn_ready g.G.Register g.S.Store g.E.Engine c.args.self.now is_ready.nodes c.args.moment c.args.node c.turn.new.self items.items turn c.requires.there said.count said.parts said.elsewhere mine;
+      replicas = rw said.parts.0 is_ready.replicas;
+      long = rw said.parts.2 is_ready.long;
+    })
+    (returns-clause-turns g c) said.ready
+
+pub returns-clause-stands : goal.returns-clause-stands
+returns-clause-stands g c = λ sizes x tree is_ready standing.
+    let said = c.turn.ensures in
+    let none : standing.letters ++ c.new-out.result ≡ standing.letters = ap (λ (l : List Letter). standing.letters ++ l) c.new-out.ensures ∙ append-nil standing.letters in
+    if_ok_both _ _ _ c.turn.result
+    (λ items turned turn. turn_stands g.G.Register g.S.Store g.E.Engine c.args.self.now is_ready.nodes g.O.Owners c.args.moment c.args.node c.turn.new.self items.items turn c.requires.there x tree
+    (standing.letters ++ c.turn.new.out) standing.course standing.told turned)
+    (said.stands x standing.letters opening_clocks standing.course tree refl (omega arith)
+    (subst (λ (l : List Letter). Stand g.G.Register g.O.Owners g.S.Store g.E.Engine c.args.self.now.nodes x l opening_clocks standing.course tree) (sym none) standing.stands))
+    (returns-clause-turns g c)

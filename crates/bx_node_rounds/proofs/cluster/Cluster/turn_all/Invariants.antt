@@ -1,0 +1,19 @@
+use Rattle.std.proofs.Common.{◌≡◌, ℕ, List}
+use Rattle.bx_disk.specs.Disks.{Disks}
+use Rattle.bx_node_rounds.specs.Rounds.{AreTurns, IsReady, Rounded, Standing, all_said, session_at}
+use Rattle.bx_node_rounds.proofs.cluster.Cluster.turn_all.Given as goal
+
+abbrev pub invariant-loop-node : goal.invariant-loop-node
+invariant-loop-node g l = record {
+  turns : AreTurns l.moment l.node l.fn.self.nodes.machines.items l.self.nodes.machines.items l.told.items;
+  ready : (sizes : List ℕ) → IsReady g.G.Register g.S.Store g.E.Engine l.fn.self sizes → IsReady g.G.Register g.S.Store g.E.Engine l.self sizes;
+  stands : (sizes : List ℕ) (x : Disks) (tree : _) → IsReady g.G.Register g.S.Store g.E.Engine l.fn.self sizes → Standing g.G.Register g.O.Owners g.S.Store g.E.Engine l.fn.self x tree
+      → Rounded g.E.Engine l.fn.self.nodes.engine (Standing g.G.Register g.O.Owners g.S.Store g.E.Engine l.self x) tree (all_said l.told.items);
+  count : l.self.count ≡ l.fn.self.count;
+  members : l.self.members ≡ l.fn.self.members;
+  latest : l.self.latest ≡ l.fn.self.latest;
+  register : g.G.Register.made l.self.nodes.register ≡ g.G.Register.made l.fn.self.nodes.register;
+  store : g.S.Store.made l.self.nodes.store ≡ g.S.Store.made l.fn.self.nodes.store;
+  sessions : (node : ℕ) → session_at l.self.nodes.machines.items node ≡ session_at l.fn.self.nodes.machines.items node;
+  engine : l.self.nodes.engine ≡ l.fn.self.nodes.engine;
+}

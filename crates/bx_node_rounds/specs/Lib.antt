@@ -1,0 +1,3 @@
+pub mod Quiet
+pub mod Rounds
+pub use Rattle.bx_nodes.specs.Tells

@@ -1,0 +1,130 @@
+-- How nodes stand that are driven in rounds, and what a round makes of them.
+use Rattle.std.specs.Prelude.{◌≡◌, ◌≢◌, ℕ, ◌+◌, ◌*◌, ◌<◌, ◌≤◌, List, [], ◌++◌, Contains, IfSome, IsSomeAnd, Option, None, Some, length, map, option_map, reverse, slice_get, slice_index}
+use Rattle.bx_disk.specs.Disks.{Disks}
+use Rattle.bx_facts.specs.declared.register.Register as register
+use Rattle.bx_facts.specs.declared.store.Store as store
+use Rattle.bx_facts.specs.Disks.{HasRoom}
+use Rattle.bx_facts.specs.Writes.{store_room}
+use Rattle.bx_node_openings.specs.Opening.{opening_clocks}
+use Rattle.bx_node_rounds.specs.declared.cluster.Cluster.{Cluster}
+use Rattle.bx_node_rounds.specs.declared.cluster.Parts.{Parts}
+use Rattle.bx_node_rounds.specs.declared.rounds.Told.{Told}
+use Rattle.bx_node_steps.specs.Calls.{Acting, AnswersCalls, AreApart, CallOf, WaitsAt, under_way}
+use Rattle.bx_node_steps.specs.Tidying.{TidyGoes}
+use Rattle.bx_node_steps.specs.declared.machine.Machine.{Machine}
+use Rattle.bx_node_tries.specs.Tries.{LeadsBack}
+use Rattle.bx_node_tries.specs.declared.round.Said.{Said}
+use Rattle.bx_nodes.specs.Standing.{BeReady, OfNode, Stand}
+use Rattle.bx_owners.specs.declared.owners.Owners as owners
+use Rattle.bx_plain_parts.specs.declared.parts.Shape.{Shape}
+use Rattle.bx_post.specs.declared.packets.Letter.{Letter}
+use Rattle.bx_views.specs.declared.engine.Engine as engine
+use Rattle.bx_volume.specs.Overlay.{Logs}
+use Rattle.bx_volume.specs.Records.{Logged}
+use Rattle.bx_world_standing.specs.Standing.{Course}
+
+-- ---- calls that wait
+
+-- a call waits at a node
+abbrev pub Waits : List Machine → ℕ → CallOf → Type 0
+Waits machines node call = IsSomeAnd (slice_get machines node) (λ machine. WaitsAt machine call)
+
+-- The calls that wait have numbers from 1 up to one, and two that have one number wait at one node.
+pub record AreNumbered (latest : ℕ) (machines : List Machine) : Type 0 where
+  pub least : (node : ℕ) (call : CallOf) → Waits machines node call → 0 < call.number
+  pub most : (node : ℕ) (call : CallOf) → Waits machines node call → call.number ≤ latest
+  pub alone : (node other : ℕ) (call twin : CallOf) → Waits machines node call → Waits machines other twin → twin.number ≡ call.number → other ≡ node
+
+-- What the logs have was told: it is of no call that waits, nor of one that comes later.
+pub record AreTold (latest : ℕ) (machines : List Machine) (logs : Logs) : Type 0 where
+  pub came : (slot : ℕ) (one : Logged) → Contains (logs slot) one → one.head.call ≤ latest
+  pub none : (slot : ℕ) (one : Logged) (node : ℕ) (call : CallOf) → Contains (logs slot) one → Waits machines node call → call.number ≢ one.head.call
+
+-- none waits
+abbrev pub NoneWaits : List Machine → Type 0
+NoneWaits machines = (node : ℕ) (call : CallOf) → Waits machines node call → ⊥
+
+-- ---- what else nodes have
+
+-- a node has what it has under this session
+abbrev pub HasSession : List Machine → ℕ → Option ℕ → Type 0
+HasSession machines node session = IfSome (slice_get machines node) (λ machine. machine.session ≡ session)
+
+abbrev pub session_at : List Machine → ℕ → Option (Option ℕ)
+session_at machines node = option_map (λ (machine : Machine). machine.session) (slice_get machines node)
+
+-- the call whose record is written at a node
+abbrev pub acting_in : Option Machine → Option Acting
+acting_in None = None
+acting_in (Some machine) = under_way machine
+
+abbrev pub acting_at : List Machine → ℕ → Option Acting
+acting_at machines node = acting_in (slice_get machines node)
+
+-- Nodes have what they had under the sessions that they had it under, and write the records that they wrote.
+pub record HaveStill (old new : List Machine) : Type 0 where
+  pub sessions : (node : ℕ) → session_at new node ≡ session_at old node
+  pub acting : (node : ℕ) → acting_at new node ≡ acting_at old node
+
+-- ---- turns
+
+-- what is told of a turn of a node
+abbrev pub at_node : ℕ → Said → Told
+at_node node said = record { node = node; said = said }
+
+-- One node has its turn at a moment: it answers calls, its tidy goes on, and all other nodes are as they were.
+pub record IsTurn (moment node : ℕ) (old new : List Machine) (said : List Said) : Type 0 where
+  pub answers : (machine : Machine) → slice_get old node ≡ Some machine → IsSomeAnd (slice_get new node) (λ now. AnswersCalls moment machine now said)
+  pub tidies : (machine : Machine) → slice_get old node ≡ Some machine → IsSomeAnd (slice_get new node) (TidyGoes machine)
+  pub sessions : session_at new node ≡ session_at old node
+  pub others : (other : ℕ) → other ≢ node → slice_get new other ≡ slice_get old other
+
+-- The first so many nodes have their turns, in their order.
+pub data AreTurns (moment : ℕ) : ℕ → List Machine → List Machine → List Told → Type 0 where
+  NoTurns : (machines : List Machine) → AreTurns moment 0 machines machines []
+  OneMore : (node : ℕ) (old middle new : List Machine) (told : List Told) (said : List Said) → AreTurns moment node old middle told → IsTurn moment node middle new said
+      → AreTurns moment (node + 1) old new (told ++ map (at_node node) said)
+
+-- the answers that are told
+abbrev pub all_said : List Told → List Said
+all_said told = map (λ one. one.said) told
+
+-- ---- clusters
+
+module _ {G O S E T : Type 0} (g : register.Ghosts G) (st : store.Ghosts S) (e : engine.Ghosts E T) where
+  -- What a cluster is made of is for so many nodes, devices and areas, and the store was asked for nothing yet.
+  pub record AreFor (parts : Parts G O S E T) (shape : Shape) : Type 0 where
+    pub made : ((st.made parts.store).devices ≡ shape.devices) × ((st.made parts.store).areas ≡ shape.areas)
+    pub engine : e.areas parts.engine ≡ shape.areas
+    pub nodes : g.nodes parts.register ≡ shape.nodes
+    pub idle : st.is_new parts.store
+
+  -- A cluster has as many nodes as it says, each may use its parts, and no two calls that wait at it have one number.
+  pub record AreReady (cluster : Cluster G O S E T) : Type 0 where
+    pub counted : length cluster.nodes.machines.items ≡ cluster.count
+    pub registers : g.nodes cluster.nodes.register ≡ cluster.count
+    pub members : cluster.members ≡ 2 * (st.made cluster.nodes.store).devices
+    pub few : cluster.members ≤ 8
+    pub ready : (node : ℕ) → BeReady st e cluster.nodes node
+    pub apart : (node : ℕ) → OfNode cluster.nodes node AreApart
+    pub numbered : AreNumbered cluster.latest cluster.nodes.machines.items
+
+  -- Its nodes are ready, and the disks of its members are long enough.
+  pub record IsReady (cluster : Cluster G O S E T) (sizes : List ℕ) : Type 0 where
+    pub nodes : AreReady cluster
+    pub replicas : HasRoom (g.needs cluster.nodes.register) sizes
+    pub long : (disk : ℕ) → 3 ≤ disk → disk < 3 + 2 * (st.made cluster.nodes.store).devices → store_room (st.made cluster.nodes.store) ≤ slice_index sizes disk
+
+module _ {G O S E T : Type 0} (g : register.Ghosts G) (o : owners.Ghosts O) (st : store.Ghosts S) (e : engine.Ghosts E T) where
+  -- A cluster stands on these disks for a tree, all of its machines up, whatever was done and whatever letters are under way; and what its logs have was told.
+  pub record Standing (cluster : Cluster G O S E T) (x : Disks) (tree : T) : Type 0 where
+    pub letters : List Letter
+    pub course : Course
+    pub stands : Stand g o st e cluster.nodes x letters opening_clocks course tree
+    pub told : AreTold cluster.latest cluster.nodes.machines.items course.logs
+
+-- The answers lead to a next tree, for which something stands.
+pub record Rounded {E T : Type 0} (e : engine.Ghosts E T) (engine_is : E) (Stands_then : T → Type 0) (tree : T) (said : List Said) : Type 0 where
+  pub next : T
+  pub leads : LeadsBack (e.step engine_is) tree (reverse said) next
+  pub stands : Stands_then next

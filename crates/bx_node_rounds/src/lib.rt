@@ -1,0 +1,11 @@
+//! The nodes of a cluster, all of whose machines are on one machine, driven in rounds: what waits at members is done, and each node has its turn.
+#![tactic(auto)]
+
+mod calls;
+mod cluster;
+mod quiet;
+mod rounds;
+mod ticks;
+
+pub use cluster::{Cluster, Parts};
+pub use rounds::Told;

@@ -1,0 +1,148 @@
+-- What a tidy does to its node.
+use Rattle.std.proofs.Common.{◌≡◌, ◌∙◌, ⊎_elim, inl, inr, ℕ, All, List, [], ◌∷◌, Option, None, Some, IfSome, refl, sym, ap, subst}
+use Rattle.std.specs.Prelude.{option_map, true}
+use Rattle.std.specs.List.{AllByRecursion}
+use Rattle.std.proofs.lemmas.List.Elements.{All-weaker}
+use Rattle.bx_base.specs.declared.names.Mode.{Mode}
+use Rattle.bx_facts.proofs.Lists.{behind, front}
+use Rattle.bx_facts.specs.Writes.{Sent}
+use Rattle.bx_node_cache.specs.Kept.{held_in, hint_in}
+use Rattle.bx_node_steps.proofs.Answering.{fits_numbered, idle_numbered, same_calls}
+use Rattle.bx_node_steps.specs.Calls.{acting_of, call_written, point_in, under_way}
+use Rattle.bx_node_steps.specs.Logging.{FitsStage}
+use Rattle.bx_node_steps.specs.Tidying.{Ends, GoesOn, NoTidy, TidyGoes, area_of, tidying}
+use Rattle.bx_node_steps.specs.declared.machine.Machine.{Machine}
+use Rattle.bx_node_steps.specs.declared.machine.Mark.{Mark}
+use Rattle.bx_node_steps.specs.declared.machine.Stage.{Stage}
+use Rattle.bx_node_steps.specs.declared.machine.Stage.TheVariants as stages
+use Rattle.bx_node_steps.specs.declared.machine.Tidy.{Tidy}
+use Rattle.bx_node_tries.specs.declared.round.Waiting.{Waiting}
+use Rattle.bx_nodes.proofs.Calling.{AnswersWell}
+use Rattle.bx_nodes.proofs.Machines.{if_between, if_both, of_there, was_there}
+use Rattle.bx_nodes.proofs.Noting.{each_on}
+use Rattle.bx_nodes.proofs.Tidying.{SameTidy}
+use Rattle.bx_nodes.specs.Asks.{KeepsUnneeded, KeepsUnwanted, OnlyHolds}
+use Rattle.bx_nodes.specs.Cleaning.{CleansArea}
+use Rattle.bx_nodes.specs.Sending.{SendsBody, WorksOver}
+use Rattle.bx_nodes.specs.Turns.{HasCause, Waits}
+use Rattle.bx_nodes.specs.Turns.HasCause.{AskedBack, Needs, Over, Writes}
+use Rattle.bx_owners.specs.declared.owners.Owners as owners
+use Rattle.bx_records.specs.Drafts.{Changed}
+use Rattle.bx_views.specs.Attempts.{Tidies}
+use Rattle.bx_views.specs.Truths.{IsTruth, Truth}
+use Rattle.bx_views.specs.declared.attempt.Attempt.{Attempt}
+use Rattle.bx_views.specs.declared.attempt.Attempt.TheVariants.{Inner}
+use Rattle.bx_views.specs.declared.engine.Engine as engine
+
+-- ---- what becomes of a tidy
+
+-- it rests
+abbrev pub resting : Option Tidy → Option Tidy
+resting = option_map (λ tidy. record { tick = tidy.tick; rests = true })
+
+pub rest_goes : (a : Machine) → TidyGoes a (record a { tidy = resting a.tidy })
+rest_goes a = by a.tidy refl
+  where
+    by : (found : Option Tidy) → a.tidy ≡ found → TidyGoes a (record a { tidy = resting a.tidy })
+    by None is = NoTidy is (ap resting is)
+    by (Some tidy) is = GoesOn tidy (record { tick = tidy.tick; rests = true }) is (ap resting is) refl
+
+-- it stays before it goes on
+pub same_goes : (a b c : Machine) → SameTidy a b → TidyGoes b c → TidyGoes a c
+same_goes a b c same (NoTidy is is_then) = NoTidy (sym same ∙ is) is_then
+same_goes a b c same (GoesOn before then_is is now tick) = GoesOn before then_is (sym same ∙ is) now tick
+same_goes a b c same (Ends before is now none) = Ends before (sym same ∙ is) now none
+
+-- or behind that, and so do the calls
+pub goes_same : (a b : Machine) (mark : Option Mark) → TidyGoes a b → TidyGoes a (record b { mark = mark })
+goes_same a b mark (NoTidy is is_then) = NoTidy is is_then
+goes_same a b mark (GoesOn before then_is is now tick) = GoesOn before then_is is now tick
+goes_same a b mark (Ends before is now none) = Ends before is now none
+
+-- ---- what it cleans
+
+module _ (IsClean : ℕ → Type 0) (areas : ℕ) where
+  pub cleans_same : (was is : Option Tidy) → is ≡ was → CleansArea IsClean areas was is
+  cleans_same None is same = tt
+  cleans_same (Some tidy) is same = subst (λ (t : Option Tidy). CleansArea IsClean areas (Some tidy) t) (sym same) tt
+
+  pub cleans_rest : (was : Option Tidy) → CleansArea IsClean areas was (resting was)
+  cleans_rest None = tt
+  cleans_rest (Some tidy) = tt
+
+  pub cleans_end : (was : Option Tidy) (tidy : Tidy) → was ≡ Some tidy → IsClean (area_of areas tidy) → CleansArea IsClean areas was None
+  cleans_end was tidy is clean = subst (λ (t : Option Tidy). CleansArea IsClean areas t None) (sym is) clean
+
+-- ---- calls that wait meanwhile
+
+pub unseen_answers : (moment areas : ℕ) (a : Machine) (ticks : ℕ) (tidy : Option Tidy) → FitsStage areas a.log a.stage → AnswersWell moment [] a (record a { ticks = ticks; tidy = tidy })
+unseen_answers moment areas a ticks tidy fits apart = same_calls moment a (record a { ticks = ticks; tidy = tidy }) refl refl refl (fits_numbered areas a fits) apart
+
+-- A tidy's record is of no call.
+pub sent_answers : (moment at : ℕ) (draft : List Changed) (own : Option ℕ) (until : ℕ) (out : Option Sent) (a b : Machine) → a.stage ≡ stages.Idle → SendsBody (tidying draft at) own until out a b → AnswersWell moment [] a b
+sent_answers moment at draft own until out a b idle sends apart =
+    same_calls moment a b sends.begins.calls
+    (ap (λ (m : Machine). call_written m.stage) sends.begins.only ∙ sym (ap call_written idle))
+    (ap under_way sends.begins.only ∙ sym (ap (λ (s : Stage). acting_of (call_written s) (point_in a.log.work)) idle))
+    (idle_numbered a idle) apart
+
+-- ---- what it does to the tree: nothing
+
+pub tidy_works : {E T : Type 0} (e : engine.Ghosts E T) (engine_is : E) (area moment : ℕ) (machine : Machine) (draft : List Changed) (attempt : Attempt) → attempt ≡ Inner draft
+    → ((truth : Truth) (tree : T) → IsTruth (held_in machine.cache.kept) truth → e.stands engine_is truth (hint_in machine.cache.hinted) tree → Tidies (e.stands engine_is) (e.is_clean engine_is truth area) truth tree attempt)
+    → WorksOver e engine_is (tidying draft moment) machine
+tidy_works e engine_is area moment machine draft attempt is gives truth tree holds agrees =
+    let gave = subst (λ (one : Attempt). Tidies (e.stands engine_is) (e.is_clean engine_is truth area) truth tree one) is (gives truth tree holds agrees) in
+    record { next = tree; step = refl; leads = gave.1 }
+
+-- ---- what waits where it asks for blocks
+
+module _ {O E T : Type 0} (o : owners.Ghosts O) (e : engine.Ghosts E T) (engine_is : E) (node moment session : ℕ) (out : Option Sent) (IsAsked IsAsked_then : ℕ → Type 0) (on : (at : ℕ) → IsAsked at → IsAsked_then at) where
+  more_needs : (middle : Machine) (newest : Option ℕ) (needs : List (List (ℕ × Mode))) (wants : List (ℕ × Mode)) (call : Waiting) → HasCause e engine_is middle moment out newest needs call → HasCause e engine_is middle moment out newest (wants ∷ needs) call
+  more_needs middle newest needs wants call (Over is) = Over is
+  more_needs middle newest needs wants call (Writes some) = Writes some
+  more_needs middle newest needs wants call (AskedBack is) = AskedBack is
+  more_needs middle newest needs wants call (Needs wanted tried there) = Needs wanted tried (behind wants needs wanted there)
+
+  still_kept : (needs : List (List (ℕ × Mode))) (wants : List (ℕ × Mode)) (middle a b : Machine) → KeepsUnneeded needs middle a → KeepsUnwanted wants a b → KeepsUnneeded (wants ∷ needs) middle b
+  still_kept needs wants middle a b kept keeps at = ⊎_elim
+      (λ same. ⊎_elim (λ was. inl (same ∙ was)) (λ needed. inr (needed.0, behind wants needs needed.0 needed.1, needed.2)) (kept at))
+      (λ wanted. inr (wants, front wants needs, wanted)) (keeps at)
+
+  pub wanted_waits : (wants : List (ℕ × Mode)) (a b : Machine) → OnlyHolds a b → KeepsUnwanted wants a b → AllByRecursion (λ wanted. IsAsked_then wanted.0) wants → Waits o e engine_is node moment session out IsAsked a
+      → Waits o e engine_is node moment session out IsAsked_then b
+  wanted_waits wants a b only keeps asks waits = record {
+    owners_are = waits.owners_are;
+    middle = waits.middle;
+    given = waits.given;
+    newest = waits.newest;
+    noted = waits.noted;
+    needs = wants ∷ waits.needs;
+    causes = subst (λ (l : List Waiting). All (HasCause e engine_is waits.middle moment out waits.newest (wants ∷ waits.needs)) l) (sym (ap (λ (m : Machine). m.calls.items) only))
+        (All-weaker (HasCause e engine_is waits.middle moment out waits.newest waits.needs) (HasCause e engine_is waits.middle moment out waits.newest (wants ∷ waits.needs)) (more_needs waits.middle waits.newest waits.needs wants) a.calls.items waits.causes);
+    asking = ⊎_elim (λ some. inl some) (λ all. inr (asks, each_on IsAsked IsAsked_then on waits.needs all)) waits.asking;
+    keeps = ⊎_elim (λ some. inl some) (λ kept. inr (still_kept waits.needs wants waits.middle a b kept keeps)) waits.keeps;
+  }
+
+-- ---- nodes in their list
+
+pub goes_there : (old middle new : Option Machine) → (middle ≡ None → ⊥) → IfSome old (λ a. IfSome middle (SameTidy a)) → IfSome middle (λ a. IfSome new (TidyGoes a)) → IfSome old (λ a. IfSome new (TidyGoes a))
+goes_there old middle new some same goes = if_between old middle new SameTidy TidyGoes TidyGoes some same_goes same goes
+
+pub goes_noted : (old middle new : Option Machine) (b : Machine) (mark : Option Mark) → (middle ≡ None → ⊥) → middle ≡ Some b → new ≡ Some (record b { mark = mark }) → IfSome old (λ a. IfSome middle (TidyGoes a)) → IfSome old (λ a. IfSome new (TidyGoes a))
+goes_noted None middle new b mark some was is goes = tt
+goes_noted (Some a) middle new b mark some was is goes = was_there (TidyGoes a) new (record b { mark = mark }) is (goes_same a b mark (of_there (TidyGoes a) middle b was goes))
+
+module _ (IsClean : ℕ → Type 0) (areas : ℕ) where
+  -- what a tidy cleaned from one turn of its node to another
+  abbrev pub Cleans : Machine → Machine → Type 0
+  Cleans a b = CleansArea IsClean areas a.tidy b.tidy
+
+  pub cleans_kept : (old new : Option Machine) → IfSome old (λ a. IfSome new (SameTidy a)) → IfSome old (λ a. IfSome new (Cleans a))
+  cleans_kept old new same = if_both old new SameTidy Cleans (λ a b is. cleans_same IsClean areas a.tidy b.tidy is) same
+
+  pub cleans_then : (old middle new : Option Machine) → (middle ≡ None → ⊥) → IfSome old (λ a. IfSome middle (SameTidy a)) → IfSome middle (λ a. IfSome new (Cleans a)) → IfSome old (λ a. IfSome new (Cleans a))
+  cleans_then old middle new some same cleans = if_between old middle new SameTidy Cleans Cleans some (λ a b c is cleaned. subst (λ (t : Option Tidy). CleansArea IsClean areas t c.tidy) is cleaned) same cleans
+
+  pub then_cleans : (old middle new : Option Machine) → (middle ≡ None → ⊥) → IfSome old (λ a. IfSome middle (Cleans a)) → IfSome middle (λ a. IfSome new (SameTidy a)) → IfSome old (λ a. IfSome new (Cleans a))
+  then_cleans old middle new some cleans same = if_between old middle new Cleans SameTidy Cleans some (λ a b c cleaned is. subst (λ (t : Option Tidy). CleansArea IsClean areas a.tidy t) (sym is) cleaned) cleans same

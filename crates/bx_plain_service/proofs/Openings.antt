@@ -1,0 +1,53 @@
+-- What a cluster begins with, and its disks.
+use Rattle.std.proofs.Common.{◌≡◌, ℕ, ◌+◌, ◌<◌, Bool, true, List, Option, None, Some, IfOk, Result, Ok, Err, refl, ap, subst, arith}
+use Rattle.std.specs.Prelude.{◌^◌, if◌then◌else◌, nat_lt}
+use Rattle.std.proofs.lemmas.Bool.Decides.{nat_tests}
+use Rattle.bx_disk.specs.Disks.{Disks}
+use Rattle.bx_format.specs.Formats.{HasSizes, IsFormatted}
+use Rattle.bx_layout.specs.Labels.{IsLabel}
+use Rattle.bx_lone_repair.specs.Bench.{AreLong, IsBench, first_label}
+use Rattle.bx_node_rounds.specs.Rounds.{HasSession, NoneWaits}
+use Rattle.bx_node_steps.specs.declared.machine.Machine.{Machine}
+use Rattle.bx_plain.specs.Fits.{own_in}
+use Rattle.bx_plain_service.specs.Events.{call_in, doubts_at}
+use Rattle.bx_plain_service.specs.Showing.{doubt_waits}
+use Rattle.bx_service.specs.Rounds.{Doubt}
+
+pub sizes_long : (sizes : List ℕ) → HasSizes sizes 1 1 → AreLong sizes
+sizes_long sizes is = record { long = λ disk less. (let same = is.each disk less in omega (arith, same)) }
+
+-- the first so many nodes have their sessions
+pub own_below : (nodes node : ℕ) → node < nodes → own_in nodes node ≡ Some (node + 1)
+own_below nodes node less = ap (λ (t : Bool). if t then Some (node + 1) else None) (let e : nat_lt node nodes ≡ true = grind (arith, nat_tests, less) in e)
+
+-- ---- a volume that was just made
+
+pub is_bench : (x : Disks) (volume : ℕ) → IsLabel (first_label volume) → IsFormatted x (first_label volume) → IsBench x volume
+is_bench x volume is made = record {
+  long = sizes_long x.sizes made.sizes;
+  reads = record { is = is; parts = made.labels.each 0 (omega arith) };
+  sure = made.sure 0 0;
+}
+
+-- it is a label
+pub label_is : (volume : ℕ) → volume < 2 ^ 64 → IsLabel (first_label volume)
+label_is volume fits = record { volume = fits; disk = omega arith; least_devices = omega arith; most_devices = omega arith; least_areas = omega arith; most_areas = omega arith }
+
+-- ---- nothing waits, and nothing is in doubt
+
+-- a node at which no call waits writes no record of one
+pub none_doubted : (machines : List Machine) → NoneWaits machines → (node : ℕ) → doubts_at machines node ≡ None
+none_doubted machines none node = by (doubts_at machines node) refl
+  where
+    by : (doubt : Option Doubt) → doubts_at machines node ≡ doubt → doubt ≡ None
+    by None is = refl
+    by (Some doubt) is = let waits = doubt_waits machines node doubt is in absurd (none doubt.call.node (call_in doubt.call) waits.0)
+
+-- ---- its nodes have their sessions
+
+pub if_ok_map : {A F : Type 0} (P Q : A → Type 0) (r : Result A F) → ((a : A) → P a → Q a) → IfOk r P → IfOk r Q
+if_ok_map P Q (Ok a) by is = by a is
+if_ok_map P Q (Err e) by is = tt
+
+pub has_own : (machines : List Machine) (node : ℕ) (own : Option ℕ) → own ≡ Some (node + 1) → HasSession machines node own → HasSession machines node (Some (node + 1))
+has_own machines node own same has = subst (HasSession machines node) same has

@@ -1,0 +1,7 @@
+pub mod Beginning
+pub mod Events
+pub mod Laws
+pub mod Returning
+pub mod Seeing
+pub mod Showing
+pub mod Stages

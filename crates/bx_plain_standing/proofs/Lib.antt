@@ -1,0 +1,13 @@
+pub mod Begins
+pub mod Labels
+pub mod Left
+pub mod LeftShown
+pub mod Machines
+pub mod Open
+pub mod Parts
+pub mod Points
+pub mod Rows
+pub mod Shown
+pub mod Standing
+pub mod Stopped
+pub mod Telling

@@ -27,7 +27,7 @@ use Rattle.bx_model.specs.declared.tree.Tree.{Tree}
 use Rattle.bx_model.specs.Act.{act}
 use Rattle.bx_model.specs.Steps.{Making, Outcome, done, taken}
 use Rattle.bx_records.specs.Drafts.{Changed}
-use Rattle.bx_sizes.specs.Answers.{HoldsInner, IsChangeOr}
+use Rattle.bx_creating.specs.bx_sizes.specs.Answers.{HoldsInner, IsChangeOr}
 use Rattle.bx_steps.specs.Steps.{StandsWith}
 use Rattle.bx_views.specs.Attempts.{IsHeldDraft}
 use Rattle.bx_views.specs.Truths.{Held, Hints, IsTruth, Truth, with_draft}

@@ -22,7 +22,7 @@ use Rattle.bx_model.specs.History.{tells_spare}
 use Rattle.bx_model.specs.Steps.{Making, Outcome, done, taken}
 use Rattle.bx_nfs.specs.Wire.{ReadsAs, reply_text}
 use Rattle.bx_records.specs.Drafts.{Changed}
-use Rattle.bx_sizes.specs.Answers.{IsChangeOr}
+use Rattle.bx_creating.specs.bx_sizes.specs.Answers.{IsChangeOr}
 use Rattle.bx_views.specs.declared.attempt.Attempt.{Attempt}
 use Rattle.bx_views.specs.declared.attempt.Attempt.TheVariants.{Answer}
 use Rattle.bx_views.specs.declared.attempt.Done.{Done}

@@ -13,7 +13,7 @@ use Rattle.bx_inodes.specs.Stops.{NeedsOn, NeverInner}
 use Rattle.bx_model.specs.declared.reply.Reply.{Reply}
 use Rattle.bx_places.specs.Places.{is_block}
 use Rattle.bx_records.specs.Drafts.{Changed}
-use Rattle.bx_sizes.specs.Answers.{HoldsInner}
+use Rattle.bx_creating.specs.bx_sizes.specs.Answers.{HoldsInner}
 use Rattle.bx_views.specs.declared.attempt.Attempt.{Attempt}
 use Rattle.bx_views.specs.declared.attempt.Attempt.TheVariants.{Need, Change, Inner, Answer}
 use Rattle.bx_views.specs.Attempts.{IsFair, IsFairNeed, IsHeldDraft}

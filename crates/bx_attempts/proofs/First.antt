@@ -23,7 +23,7 @@ use Rattle.bx_model.specs.Steps.Step.{Gives, Makes}
 use Rattle.bx_model.specs.Writing.{setattr, write}
 use Rattle.bx_records.specs.Drafts.{Changed}
 use Rattle.bx_renaming.specs.Lacking.{PreparesMove}
-use Rattle.bx_sizes.specs.Cuts.{PreparesSetting}
+use Rattle.bx_creating.specs.bx_sizes.specs.Cuts.{PreparesSetting}
 use Rattle.bx_tree_files.specs.declared.sattr.Sattr.{Sattr}
 use Rattle.bx_tree_files.specs.Times.{Time, time_of}
 use Rattle.bx_views.specs.declared.attempt.Attempt.{Attempt}

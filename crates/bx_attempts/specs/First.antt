@@ -10,7 +10,7 @@ use Rattle.bx_model.specs.declared.tree.Tree.{Tree}
 use Rattle.bx_model.specs.Act.{act}
 use Rattle.bx_records.specs.Drafts.{Changed}
 use Rattle.bx_renaming.specs.Lacking.{PreparesMove, ReadyToMove}
-use Rattle.bx_sizes.specs.Cuts.{PreparesSetting, ReadyToSet}
+use Rattle.bx_creating.specs.bx_sizes.specs.Cuts.{PreparesSetting, ReadyToSet}
 use Rattle.bx_views.specs.Truths.{Truth, Held, Hints}
 use Rattle.bx_writes.specs.Lacking.{PreparesWriting, ReadyToWrite}
 

@@ -4,3 +4,5 @@ pub mod Replies
 pub mod First
 pub mod Full
 pub mod Attempts
+pub use Rattle.bx_clean
+pub use Rattle.bx_creating.specs.bx_directory_reads

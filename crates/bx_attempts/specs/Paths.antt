@@ -3,13 +3,13 @@ use Rattle.std.specs.Prelude.{◌≡◌, ◌⊎◌, ℕ}
 use Rattle.bx_base.specs.declared.names.Mode.{Mode}
 use Rattle.bx_creating.specs.Paths.{OnCreate}
 use Rattle.bx_creating.specs.Making.{OnMaking}
-use Rattle.bx_entries.specs.Finding.{OnRemoval}
-use Rattle.bx_entries.specs.declared.finding.Removable.TheVariants as removable
+use Rattle.bx_creating.specs.bx_entries.specs.Finding.{OnRemoval}
+use Rattle.bx_creating.specs.bx_entries.specs.declared.finding.Removable.TheVariants as removable
 use Rattle.bx_renaming.specs.Linking.{OnLink}
 use Rattle.bx_model.specs.declared.call.Args.{Args}
 use Rattle.bx_model.specs.declared.call.Args.TheVariants.{Link, Make, Name, Rename, Set, Symlink, Write}
 use Rattle.bx_renaming.specs.Path.{OnRename}
-use Rattle.bx_sizes.specs.Setting.{OnSetting}
+use Rattle.bx_creating.specs.bx_sizes.specs.Setting.{OnSetting}
 use Rattle.bx_writes.specs.Paths.{OnWriting}
 use Rattle.bx_views.specs.Truths.{Held, Hints}
 

@@ -1,6 +1,6 @@
 -- What the walk found is in order.
 use Rattle.std.proofs.Common.{◌≡◌, ℕ, List, subst}
-use Rattle.bx_audit_bodies.specs.Reading.{AreEntriesApart}
+use Rattle.bx_audit_owners.specs.bx_audit_bodies.specs.Reading.{AreEntriesApart}
 use Rattle.bx_audit_links.specs.InOrder.{AreApart, IsInOrder}
 use Rattle.bx_audit_owners.specs.Found.{AreOrdered}
 use Rattle.bx_model.specs.declared.tree.Tree.{Tree}

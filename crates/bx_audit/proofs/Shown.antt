@@ -15,7 +15,7 @@ use Rattle.bx_logs.specs.Members.{member_in}
 use Rattle.bx_overlay.specs.Reading.{HoldsTruth, IsRead, IsRefused}
 use Rattle.bx_truth.specs.Stands.{StandsFor}
 use Rattle.bx_views.specs.Truths.{Truth}
-use Rattle.bx_volume.specs.Images.{AreReadFrom, IsFirstLabel, ShowsTree, by_device}
+use Rattle.bx_homes.specs.bx_volume.specs.Images.{AreReadFrom, IsFirstLabel, ShowsTree, by_device}
 
 module _ (disks : Disks) (state : GlobalState) (read : VolumeDisks) (is : IsRead disks state read)
     (blocks : (second : ℕ → Bool) (tree : Tree) → IsRead disks state read → AreReadFrom state second → (shows : ShowsTree disks.sizes disks.reads state (by_device second) tree)

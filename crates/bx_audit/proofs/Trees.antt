@@ -2,7 +2,7 @@
 use Rattle.std.proofs.Common.{◌≡◌, ℕ, ◌<◌, ◌≤◌, ◌⊎◌, inl, inr, arith, Bool, true, false, [], sym, ◌∙◌, refl, Err}
 use Rattle.std.proofs.lemmas.Bool.Decides.{nat_tests}
 use Rattle.bx_audit.specs.Blocks.{IsTornBlock, error_of}
-use Rattle.bx_audit_slots.specs.Told.{IsTold}
+use Rattle.bx_audit_owners.specs.bx_audit_slots.specs.Told.{IsTold}
 use Rattle.bx_audit_owners.specs.Whole.{IsTreeTorn}
 use Rattle.bx_audit_trees.specs.declared.error.AuditError.{AuditError as TreeError}
 use Rattle.bx_audit_trees.specs.declared.error.AuditError.TheVariants.{Torn as TornTree, Fault as TreeFault, OutOfMemory as OutOfTreeMemory}

@@ -8,8 +8,8 @@ use Rattle.bx_model.specs.declared.tree.Tree.{Tree}
 use Rattle.bx_overlay.proofs.There.{is_source}
 use Rattle.bx_rows.specs.declared.device.DeviceRow.{DeviceRow}
 use Rattle.bx_rows.specs.Modes.{IsReadAtA}
-use Rattle.bx_volume.specs.Images.{ShowsTree, by_device}
-use Rattle.bx_volume.specs.Volumes.{IsVolumeFor}
+use Rattle.bx_homes.specs.bx_volume.specs.Images.{ShowsTree, by_device}
+use Rattle.bx_homes.specs.bx_volume.specs.Volumes.{IsVolumeFor}
 
 -- whether reads go to member B in a mode
 abbrev reads_b : ℕ → Bool

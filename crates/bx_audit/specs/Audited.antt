@@ -15,8 +15,8 @@ use Rattle.bx_logs.specs.declared.members.Members.{Members}
 use Rattle.bx_overlay.specs.declared.volume_disks.VolumeDisks.{VolumeDisks}
 use Rattle.bx_logs.specs.Logs.{AreLogs, points_in}
 use Rattle.bx_overlay.specs.Reading.{AreMembers, IsRead, IsRefused}
-use Rattle.bx_volume.specs.Images.{ImageStandsFor, IsFirstLabel}
-use Rattle.bx_volume.specs.Records.{Logged}
+use Rattle.bx_homes.specs.bx_volume.specs.Images.{ImageStandsFor, IsFirstLabel}
+use Rattle.bx_homes.specs.bx_volume.specs.Records.{Logged}
 
 -- as they read, and in this global state, the disks stand for the tree
 abbrev pub StandFor : Disks → GlobalState → Tree → Type 0

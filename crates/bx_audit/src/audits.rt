@@ -12,8 +12,8 @@ use crate::listing::Listing;
 use crate::walks::walked_in;
 use bx_disk::Rack;
 use bx_global::GlobalState;
+use bx_homes::volume::{one_first_label, one_tree_stands};
 use bx_overlay::{AuditError, read_disks, refused_disks_show_no_tree, what_is_read_is_shown};
-use bx_volume::{one_first_label, one_tree_stands};
 use std::alloc::Global;
 
 /// Reads the file tree that a volume's disks hold in a global state, and lists it. Ok says that there is a file tree that the disks stand

@@ -1,7 +1,7 @@
 //! The block that an audit names for a file because of which files are no file tree.
 
 ghost use Rattle.std.specs.Prelude.{◌≡◌, ◌≤◌, IfOk, OnOk, IsErrOf};
-ghost use Rattle.bx_audit_slots.specs.Numbers.{IsToldOf};
+ghost use Rattle.bx_audit_owners.specs.bx_audit_slots.specs.Numbers.{IsToldOf};
 ghost use Rattle.bx_audit.specs.Blocks.{blocks_of};
 ghost use Rattle.bx_base.specs.Faults.{Rose};
 ghost use Rattle.bx_disk.specs.declared.fault.RackError.TheVariants.{Fault, OutOfMemory as MemoryRanOut};

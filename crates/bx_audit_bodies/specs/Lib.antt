@@ -7,3 +7,4 @@ pub mod Reading
 pub mod Parts
 pub mod Faults
 pub mod Outlines
+pub use Rattle.bx_audit_files

@@ -4,7 +4,7 @@ use Rattle.bx_audit_bodies.specs.declared.claims.Claim.{Claim}
 use Rattle.bx_audit_bodies.specs.Faults.{HasFault}
 use Rattle.bx_audit_bodies.specs.Parts.{IsPartOf, IsTornDead}
 use Rattle.bx_audit_bodies.specs.Reading.{IsReadAs, IsStored}
-use Rattle.bx_audit_files.specs.Inodes.{IsInodeAt}
+use Rattle.bx_audit_bodies.specs.bx_audit_files.specs.Inodes.{IsInodeAt}
 use Rattle.bx_audit_owners.specs.declared.holders.Holder.{Holder}
 use Rattle.bx_audit_owners.specs.declared.holders.Holder.TheVariants.{Dead as OfDead}
 use Rattle.bx_audit_slots.specs.declared.slots.UsedSlot.{UsedSlot}

@@ -3,7 +3,7 @@ use Rattle.std.specs.Prelude.{◌≡◌, ◌≢◌, ◌↔◌, ℕ, ◌<◌, Lis
 use Rattle.bx_audit_bodies.specs.Claims.{AgreesWith, AreClaims}
 use Rattle.bx_audit_bodies.specs.Reading.{AreEntriesApart, IsOnly, IsStored}
 use Rattle.bx_audit_bodies.specs.declared.claims.Claim.{Claim}
-use Rattle.bx_audit_files.specs.Inodes.{IsInodeAt}
+use Rattle.bx_audit_bodies.specs.bx_audit_files.specs.Inodes.{IsInodeAt}
 use Rattle.bx_audit_owners.specs.declared.holders.Holder.{Holder}
 use Rattle.bx_audit_owners.specs.declared.holders.Holder.TheVariants.{File as OfFile, Dead as OfDead, Page as OfPage, Piece as OfPiece}
 use Rattle.bx_audit_owners.specs.Holding.{Holdings, holder_by}

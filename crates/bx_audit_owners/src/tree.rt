@@ -7,7 +7,7 @@ ghost use Rattle.bx_audit_slots.specs.Told.{IsTold};
 ghost use Rattle.bx_audit_slots.specs.UsedSlots.{AreUsed};
 ghost use Rattle.bx_audit_owners.specs.Walks.{IsTreeOf, IsWalked, IsWalkedOn};
 ghost use Rattle.bx_audit_owners.specs.Whole.{IsRestTorn, IsTreeTorn, IsWhole, StandsForNone};
-ghost use Rattle.bx_audit_files.specs.Audits.{CanRead, IfTorn, ReadsChunks, Truth};
+ghost use Rattle.bx_audit_bodies.specs.bx_audit_files.specs.Audits.{CanRead, IfTorn, ReadsChunks, Truth};
 ghost use Rattle.bx_tree_files.specs.declared.file.File.{File};
 ghost use Rattle.bx_truth.specs.Chunks.{chunks_of};
 ghost use Rattle.bx_truth.specs.Stands.{StandsFor};

@@ -7,7 +7,7 @@ use Rattle.bx_blink.specs.declared.error.BlinkError.{BlinkError}
 use Rattle.bx_blink.specs.declared.error.BlinkError.TheVariants.{Need, Stale, Full, NoRoom, Absent, Present, OutOfMemory, Crowded}
 use Rattle.bx_blink.specs.declared.steps.End.TheVariants.{Lost, Lands}
 use Rattle.bx_truth.specs.PageTrees.{Chunks, PageTree, map_of}
-use Rattle.bx_views.specs.Truths.{Held, Hints}
+use Rattle.bx_truth.specs.bx_views.specs.Truths.{Held, Hints}
 use Rattle.bx_blink.specs.Walks.{Reads, reads_with, Ends, start, most, OnPath}
 use Rattle.bx_blink.specs.Places.{IsPlaceOf}
 use Rattle.bx_blink.proofs.OnWay.{IsRightEnd}

@@ -3,7 +3,7 @@ use Rattle.std.proofs.Common.{◌≡◌, ℕ, zero, suc, List, Some, refl, sym, 
 use Rattle.std.specs.Prelude.{IfSome}
 use Rattle.bx_base.specs.declared.names.Mode.{Mode}
 use Rattle.bx_base.specs.declared.names.Mode.TheVariants.{Shared}
-use Rattle.bx_layout.specs.declared.block.Block.{Block}
+use Rattle.bx_truth.specs.bx_layout.specs.declared.block.Block.{Block}
 use Rattle.bx_page.specs.Keys.{IsBelow}
 use Rattle.bx_page.specs.Contents.{Contents}
 use Rattle.bx_blink.specs.declared.steps.Spot.{Spot}

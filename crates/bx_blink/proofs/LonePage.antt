@@ -1,8 +1,8 @@
 -- A tree of one page agrees with no hints.
 use Rattle.std.proofs.Common.{◌≡◌, ℕ, ◌<◌, Some, None, refl, arith}
-use Rattle.bx_layout.specs.declared.block.Block.{Block}
+use Rattle.bx_truth.specs.bx_layout.specs.declared.block.Block.{Block}
 use Rattle.bx_truth.specs.Chunks.{chunks_of}
-use Rattle.bx_views.specs.Truths.{Truth, no_hints}
+use Rattle.bx_truth.specs.bx_views.specs.Truths.{Truth, no_hints}
 use Rattle.bx_truth.specs.PageTrees.{Chunks, PageTree}
 use Rattle.bx_blink.specs.Hints.{Place, HintsAgree, HintsFit}
 

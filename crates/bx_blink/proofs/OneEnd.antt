@@ -1,7 +1,7 @@
 -- A walk has one end.
 use Rattle.std.proofs.Common.{◌≡◌, ℕ, zero, suc, List, Option, Some, None, refl, sym, ap, subst, ◌∙◌}
 use Rattle.bx_base.specs.declared.names.Mode.{Mode}
-use Rattle.bx_layout.specs.declared.block.Block.{Block}
+use Rattle.bx_truth.specs.bx_layout.specs.declared.block.Block.{Block}
 use Rattle.bx_page.specs.Contents.{Contents}
 use Rattle.bx_page.proofs.Whole.{one_page}
 use Rattle.bx_blink.specs.declared.steps.Spot.{Spot}

@@ -4,7 +4,7 @@ use Rattle.std.specs.Prelude.{◌⊎◌}
 use Rattle.std.proofs.lemmas.Bool.{cases_lt}
 use Rattle.bx_base.specs.declared.names.Mode.{Mode}
 use Rattle.bx_base.specs.declared.names.Mode.TheVariants.{Shared}
-use Rattle.bx_layout.specs.declared.block.Block.{Block}
+use Rattle.bx_truth.specs.bx_layout.specs.declared.block.Block.{Block}
 use Rattle.bx_page.specs.Contents.{Contents}
 use Rattle.bx_page.proofs.Whole.{one_page}
 use Rattle.bx_blink.specs.declared.steps.Spot.{Spot}

@@ -4,11 +4,11 @@ use Rattle.std.specs.Prelude.{◌&&◌, ◌==◌, if◌then◌else◌}
 use Rattle.std.specs.Option.{option_or, unwrap_or}
 use Rattle.std.proofs.lemmas.Bool.{eq-eqb, lt-ltb}
 use Rattle.std.proofs.lemmas.Bool.Decides.{nat_tests}
-use Rattle.bx_layout.specs.declared.block.Block.{Block}
-use Rattle.bx_layout.specs.Areas.{in_use, generation_in}
+use Rattle.bx_truth.specs.bx_layout.specs.declared.block.Block.{Block}
+use Rattle.bx_truth.specs.bx_layout.specs.Areas.{in_use, generation_in}
 use Rattle.bx_places.specs.Places.{block_area, block_slot}
-use Rattle.bx_records.specs.Drafts.{Changed, block_in}
-use Rattle.bx_views.specs.Truths.{Truth, Held, Hints, IsTruth, with_draft}
+use Rattle.bx_truth.specs.bx_records.specs.Drafts.{Changed, block_in}
+use Rattle.bx_truth.specs.bx_views.specs.Truths.{Truth, Held, Hints, IsTruth, with_draft}
 use Rattle.bx_truth.specs.Chunks.{block_at, handle_of, IsSlot, is_slot, word_at, chunks_of, IsChunked, IsName}
 use Rattle.bx_blink.specs.Walks.{reads_with}
 use Rattle.bx_blink.specs.Hints.{Sees}

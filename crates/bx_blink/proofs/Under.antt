@@ -1,7 +1,7 @@
 -- What a call on a tree rests on, for a truth, is an agreement of what it reads with chunks.
 use Rattle.std.proofs.Common.{ℕ, List}
-use Rattle.bx_records.specs.Drafts.{Changed}
-use Rattle.bx_views.specs.Truths.{Truth, Held, Hints, with_draft}
+use Rattle.bx_truth.specs.bx_records.specs.Drafts.{Changed}
+use Rattle.bx_truth.specs.bx_views.specs.Truths.{Truth, Held, Hints, with_draft}
 use Rattle.bx_truth.specs.Chunks.{chunks_of}
 use Rattle.bx_truth.specs.PageTrees.{PageTree}
 use Rattle.bx_blink.specs.Walks.{reads_with}

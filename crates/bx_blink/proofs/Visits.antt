@@ -5,7 +5,7 @@ use Rattle.std.specs.Option.{option_map}
 use Rattle.std.specs.List.{AllByRecursion}
 use Rattle.bx_base.specs.declared.names.Mode.{Mode}
 use Rattle.bx_base.specs.declared.names.Mode.TheVariants.{Shared}
-use Rattle.bx_layout.specs.declared.block.Block.{Block}
+use Rattle.bx_truth.specs.bx_layout.specs.declared.block.Block.{Block}
 use Rattle.bx_places.specs.Places.{block_area, block_slot}
 use Rattle.bx_page.specs.Contents.{Contents}
 use Rattle.bx_page.proofs.Order.{below_trans, not_below_itself}

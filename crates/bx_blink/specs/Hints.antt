@@ -3,14 +3,14 @@ use Rattle.std.specs.Prelude.{◌≡◌, ℕ, ◌-◌, ◌<◌, ◌≤◌, ◌�
 use Rattle.std.specs.Option.{option_map}
 use Rattle.std.specs.Int.{w64, from_be_bytes}
 use Rattle.bx_base.specs.declared.names.Mode.{Mode}
-use Rattle.bx_layout.specs.declared.block.Block.{Block}
+use Rattle.bx_truth.specs.bx_layout.specs.declared.block.Block.{Block}
 use Rattle.bx_page.specs.declared.entry.Entry.{Entry}
 use Rattle.bx_page.specs.Keys.{is_below, IsBelow}
 use Rattle.bx_page.specs.Contents.{Contents, first}
 use Rattle.bx_truth.specs.PageTrees.{Chunks, Node, IsIn, HasPage, IsLast, PageTree, IsTree}
 use Rattle.bx_blink.specs.Walks.{Reads}
-use Rattle.bx_records.specs.Drafts.{Changed}
-use Rattle.bx_views.specs.Truths.{Truth, Held, Hints, IsTruth, with_draft}
+use Rattle.bx_truth.specs.bx_records.specs.Drafts.{Changed}
+use Rattle.bx_truth.specs.bx_views.specs.Truths.{Truth, Held, Hints, IsTruth, with_draft}
 use Rattle.bx_truth.specs.Chunks.{block_at, IsSlot, IsName, IsChunked, chunks_of}
 use Rattle.bx_truth.specs.Stands.{WasGiven}
 

@@ -5,3 +5,9 @@ pub mod Runs
 pub mod Leaves
 pub mod Errors
 pub mod Places
+pub use Rattle.bx_truth.specs.bx_model
+pub use Rattle.bx_page_bytes
+pub use Rattle.bx_truth.specs.bx_records
+pub use Rattle.bx_truth.specs.bx_tree_files
+pub use Rattle.bx_truth
+pub use Rattle.bx_truth.specs.bx_views

@@ -4,8 +4,8 @@ use Rattle.std.specs.Prelude.{◌≡◌, ℕ, zero, suc, ◌-◌, ◌<◌, ◌�
 use Rattle.std.specs.Option.{option_map, option_or, unwrap_or}
 use Rattle.bx_base.specs.declared.names.Mode.{Mode}
 use Rattle.bx_base.specs.declared.names.Mode.TheVariants.{Shared}
-use Rattle.bx_layout.specs.declared.block.Block.{Block}
-use Rattle.bx_records.specs.Drafts.{Changed, block_in}
+use Rattle.bx_truth.specs.bx_layout.specs.declared.block.Block.{Block}
+use Rattle.bx_truth.specs.bx_records.specs.Drafts.{Changed, block_in}
 use Rattle.bx_page.specs.Keys.{is_below}
 use Rattle.bx_page.specs.Contents.{Contents, up_to, last}
 use Rattle.bx_blink.specs.declared.steps.Spot.{Spot}
@@ -17,7 +17,7 @@ use Rattle.bx_blink.specs.declared.steps.Out.{Out}
 use Rattle.bx_blink.specs.declared.steps.Out.TheVariants.{Goes, Stops}
 use Rattle.bx_truth.specs.Chunks.{block_at}
 use Rattle.bx_truth.specs.PageTrees.{HasPage, handle_in}
-use Rattle.bx_views.specs.Truths.{Hints}
+use Rattle.bx_truth.specs.bx_views.specs.Truths.{Hints}
 
 -- what a call reads: blocks held in a mode, and hints
 pub record Reads : Type 0 where

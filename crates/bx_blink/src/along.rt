@@ -4,7 +4,7 @@ ghost use Rattle.std.specs.Prelude.{◌<◌, ℕ, IfOk, IfSome, length};
 ghost use Rattle.bx_base.specs.declared.names.Mode.TheVariants.{Shared};
 ghost use Rattle.bx_page.specs.Contents.{from as entries_from};
 ghost use Rattle.bx_truth.specs.PageTrees.{PageTree};
-ghost use Rattle.bx_views.specs.Truths.{Truth};
+ghost use Rattle.bx_truth.specs.bx_views.specs.Truths.{Truth};
 ghost use Rattle.bx_blink.specs.Answers.{NeedsFairly};
 ghost use Rattle.bx_blink.specs.Hints.{Under};
 ghost use Rattle.bx_blink.specs.Leaves.{BeginsAt, LandsIn, LeafAt, LeafHas, LeafIn};
@@ -17,8 +17,8 @@ use crate::steps::End;
 use crate::walks::walk;
 use bx_base::{Mode, Raw};
 use bx_page_bytes::PageBytes;
-use bx_records::Draft;
-use bx_views::View;
+use bx_truth::records::Draft;
+use bx_truth::views::View;
 use std::alloc::Global;
 
 /// The first leaf that has an entry from a key on, with the key from which on its entries are wanted; `None` exactly where there is none.

@@ -5,7 +5,7 @@ ghost use Rattle.bx_blink.specs.declared.error.BlinkError.TheVariants.{OutOfMemo
 ghost use Rattle.bx_blink.specs.Errors.{of_draft};
 
 use bx_base::Mode;
-use bx_records::DraftError;
+use bx_truth::records::DraftError;
 use thiserror::Error;
 
 /// Why a call on a tree isn't answered. What it was to change is as it was.

@@ -9,7 +9,7 @@ ghost use Rattle.bx_blink.specs.Hints.{HintsAgree, HintsFit};
 ghost use Rattle.bx_blink.specs.Runs.{Runs};
 ghost use Rattle.bx_blink.specs.Walks.{Reads, Ends};
 ghost use Rattle.bx_truth.specs.PageTrees.{Chunks, PageTree};
-ghost use Rattle.bx_views.specs.Truths.{Truth, no_hints};
+ghost use Rattle.bx_truth.specs.bx_views.specs.Truths.{Truth, no_hints};
 
 /// A search has one end, so each of its answers comes exactly where the search ends so.
 pub fn a_search_has_one_end()

@@ -7,12 +7,12 @@ ghost use Rattle.bx_truth.specs.Chunks.{block_at};
 ghost use Rattle.bx_blink.specs.Walks.{reads_with, IsNoPage};
 
 use bx_base::{Mode, OutOfMemory};
-use bx_layout::Block;
 use bx_page::Page;
 use bx_page_bytes::PageBytes;
 use bx_places::ChunkHandle;
-use bx_records::Draft;
-use bx_views::View;
+use bx_truth::layout::Block;
+use bx_truth::records::Draft;
+use bx_truth::views::View;
 use std::alloc::Global;
 
 /// The kind of the blocks that are pages.

@@ -10,8 +10,8 @@ use crate::steps::{End, Found, Out, Spot, decide, look};
 use crate::walks::MOST;
 use bx_base::{Mode, OutOfMemory, Raw};
 use bx_page_bytes::{EntryBytes, PageBytes};
-use bx_records::Draft;
-use bx_views::View;
+use bx_truth::records::Draft;
+use bx_truth::views::View;
 use std::alloc::Global;
 
 /// How a run ends.

@@ -4,7 +4,7 @@ ghost use Rattle.std.specs.Prelude.{ℕ, []};
 ghost use Rattle.bx_base.specs.declared.names.Mode.TheVariants.{Shared};
 ghost use Rattle.bx_truth.specs.PageTrees.{PageTree, map_of};
 ghost use Rattle.bx_blink.specs.Walks.{reads_with, Ends, start, most, OnPath};
-ghost use Rattle.bx_views.specs.Truths.{Truth};
+ghost use Rattle.bx_truth.specs.bx_views.specs.Truths.{Truth};
 ghost use Rattle.bx_blink.specs.Hints.{Under};
 ghost use Rattle.bx_blink.specs.Answers.{FindsAt, FindsIn, NeedsFairly};
 ghost use Rattle.bx_blink.specs.Runs.{Runs, OnRun, NextAt, NextIn};
@@ -14,8 +14,8 @@ use crate::runs::{RunEnd, run};
 use crate::steps::End;
 use crate::walks::walk;
 use bx_base::{Mode, Raw};
-use bx_records::Draft;
-use bx_views::View;
+use bx_truth::records::Draft;
+use bx_truth::views::View;
 use std::alloc::Global;
 
 /// The value of a key in the tree under a root, by the root's handle.

@@ -7,8 +7,8 @@ ghost use Rattle.bx_blink.specs.Walks.{reads_with, Finds, passes, child_of, mode
 use crate::look::{block_at, page_of, seen};
 use bx_base::Mode;
 use bx_page_bytes::PageBytes;
-use bx_records::Draft;
-use bx_views::View;
+use bx_truth::records::Draft;
+use bx_truth::views::View;
 use byteorder::{BigEndian, ByteOrder};
 
 /// Where a walk is.

@@ -5,8 +5,8 @@ ghost use Rattle.bx_blink.specs.Walks.{reads_with, Ends, start, most};
 
 use crate::steps::{End, Out, Spot, decide, look};
 use bx_base::Mode;
-use bx_records::Draft;
-use bx_views::View;
+use bx_truth::records::Draft;
+use bx_truth::views::View;
 
 /// How many pages a walk may pass, and one.
 pub(crate) const MOST: u64 = 61_441;

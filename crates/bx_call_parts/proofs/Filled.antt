@@ -9,8 +9,8 @@ use Rattle.bx_call_parts.specs.Pages.{filled, with_listed}
 use Rattle.bx_model.specs.declared.reply.Listed.{Listed}
 use Rattle.bx_model.specs.declared.reply.Reply.TheVariants as Reply
 use Rattle.bx_model.specs.Directories.{behind, cost, end_of, listed, that_fit, page as page_of}
-use Rattle.bx_tree_files.specs.declared.file.Name.{Name}
-use Rattle.bx_tree_files.specs.Entries.{above}
+use Rattle.bx_model.specs.bx_tree_files.specs.declared.file.Name.{Name}
+use Rattle.bx_model.specs.bx_tree_files.specs.Entries.{above}
 
 pub same_answer : (a b : Bool) (x y : Page) → ◌≡◌ {A = Bool × Page} (a, x) (b, y) → a ≡ b
 same_answer a b x y is = ap (λ (pair : Bool × Page). pair.0) is

@@ -1,7 +1,7 @@
 -- A page of a directory that is being filled.
 use Rattle.std.specs.Prelude.{ℕ, ◌+◌, ◌-◌, ◌*◌, ◌/◌, nat_le, Bool, true, false, if◌then◌else◌, List, [], ◌∷◌, ◌++◌, codes, length}
 use Rattle.bx_call_parts.specs.declared.pages.Page.{Page}
-use Rattle.bx_tree_files.specs.declared.file.Name.{Name}
+use Rattle.bx_model.specs.bx_tree_files.specs.declared.file.Name.{Name}
 use Rattle.bx_model.specs.Directories.{cost, listed}
 
 -- what a directory lists first: itself as number 1, and its parent as number 2

@@ -2,10 +2,9 @@
 
 ghost use Rattle.std.specs.Prelude.{◌≡◌, ◌||◌, MatchOption, Ok, Err};
 ghost use Rattle.bx_model.specs.Writing.{is_forbidden as is_forbidden_to, resize_errors};
-ghost use Rattle.bx_tree_files.specs.Times.{is_given as is_given_word};
+ghost use Rattle.bx_model.specs.bx_tree_files.specs.Times.{is_given as is_given_word};
 
-use bx_model::{ACCES, Call, FBIG, ISDIR, NXIO, Want, may};
-use bx_tree_files::{DIRECTORY, File, LINK, Sattr, is_given};
+use bx_model::{ACCES, Call, DIRECTORY, FBIG, File, ISDIR, LINK, NXIO, Sattr, Want, is_given, may};
 
 /// The most bytes that a file has.
 pub const MOST_BYTES: u32 = 2147483647;

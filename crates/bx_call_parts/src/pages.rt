@@ -5,8 +5,7 @@ ghost use Rattle.bx_call_parts.specs.Pages.{dots, filled, spent};
 ghost use Rattle.bx_model.specs.Directories.{behind};
 
 use bx_base::{OutOfMemory, Raw};
-use bx_model::{Listed, ListedList};
-use bx_tree_files::fileid;
+use bx_model::{Listed, ListedList, fileid};
 use std::alloc::Global;
 
 /// The most bytes of a page (RFC 1094, section 2.3.9).

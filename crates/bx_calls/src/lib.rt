@@ -6,3 +6,8 @@ mod zero;
 
 pub use calls::{read_sectors, sync_disk, write_some, write_through};
 pub use zero::zero_sectors;
+
+/// What the crates above use of `bx_disk`.
+pub mod disk {
+    pub use bx_disk::{DiskFault, Rack, RackError};
+}

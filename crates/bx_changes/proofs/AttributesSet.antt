@@ -5,11 +5,11 @@ use Rattle.bx_changes.specs.Changes.{Changes, IsChange}
 use Rattle.bx_changes.specs.Given.{with_given}
 use Rattle.bx_changes.proofs.FileChanged.{changed_is_put}
 use Rattle.bx_places.specs.Handles.{named}
-use Rattle.bx_inodes.specs.declared.stop.Stop.{Stop}
-use Rattle.bx_inodes.specs.declared.stop.Stop.TheVariants.{Need, Inner, Status, OutOfMemory}
-use Rattle.bx_inodes.specs.Heads.{head_of}
-use Rattle.bx_inodes.specs.Inodes.{FileAt, HoldsInode, IsInodeOf, shown_size}
-use Rattle.bx_inodes.specs.Stands.{Stands}
+use Rattle.bx_reads.specs.bx_inodes.specs.declared.stop.Stop.{Stop}
+use Rattle.bx_reads.specs.bx_inodes.specs.declared.stop.Stop.TheVariants.{Need, Inner, Status, OutOfMemory}
+use Rattle.bx_reads.specs.bx_inodes.specs.Heads.{head_of}
+use Rattle.bx_reads.specs.bx_inodes.specs.Inodes.{FileAt, HoldsInode, IsInodeOf, shown_size}
+use Rattle.bx_reads.specs.bx_inodes.specs.Stands.{Stands}
 use Rattle.bx_layout.specs.declared.inode.Inode.{Inode}
 use Rattle.bx_model.specs.declared.call.Call.{Call}
 use Rattle.bx_model.specs.declared.permissions.Want.TheVariants as want
@@ -29,10 +29,10 @@ use Rattle.bx_tree_files.specs.Attributes.{attributes_of}
 use Rattle.bx_tree_files.specs.Changes.{most_bytes, resized, sets_field, with_fields}
 use Rattle.bx_tree_files.specs.Files.{file_at, is_directory, is_link, size_of, with_changed, with_file}
 use Rattle.bx_tree_files.specs.Times.{Time, is_given, stored}
-use Rattle.bx_tree_laws.proofs.Writings.{setattr_keeps}
-use Rattle.bx_truth.specs.Rewritten.{KeepsBody}
-use Rattle.bx_truth.specs.Stands.{StandsFor}
-use Rattle.bx_truth.specs.Stored.{HasFields}
+use Rattle.bx_reads.specs.bx_tree_laws.proofs.Writings.{setattr_keeps}
+use Rattle.bx_reads.specs.bx_truth.specs.Rewritten.{KeepsBody}
+use Rattle.bx_reads.specs.bx_truth.specs.Stands.{StandsFor}
+use Rattle.bx_reads.specs.bx_truth.specs.Stored.{HasFields}
 use Rattle.bx_views.specs.Truths.{Truth, with_draft}
 
 no_size : (call : Call) (sattr : Sattr) (file : File) → is_given sattr.size ≡ false → resize_errors call file sattr.size ≡ Ok tt

@@ -4,8 +4,8 @@ use Rattle.std.specs.Prelude.{◌≢◌, ◌==◌, if◌then◌else◌, nat_lt}
 use Rattle.std.proofs.lemmas.Bool.{ltb-true}
 use Rattle.bx_tree_files.specs.declared.file.File.{File}
 use Rattle.bx_tree_files.specs.Files.{file_at, with_changed, with_file}
-use Rattle.bx_tree_laws.proofs.Lookups.{SameOr, same_or, some_same}
-use Rattle.bx_tree_laws.proofs.Rises.{Above, Rise, none_below, rise_head, rise_tail}
+use Rattle.bx_reads.specs.bx_tree_laws.proofs.Lookups.{SameOr, same_or, some_same}
+use Rattle.bx_reads.specs.bx_tree_laws.proofs.Rises.{Above, Rise, none_below, rise_head, rise_tail}
 
 -- a file that isn't there is not changed
 unchanged : (files : List File) (at : ℕ) (change : File → File) → file_at files at ≡ None → with_changed files at change ≡ files

@@ -1,23 +1,23 @@
 -- Hints that fit all trees of a volume still do once an inode is rewritten that keeps its tree.
 use Rattle.std.proofs.Common.{◌≡◌, ℕ, ◌*◌, ◌+◌, ◌%◌, ◌<◌, arith, Bool, List, [], ◌∷◌, Option, Some, None, refl, sym, ap, ◌∙◌, subst, inl, inr}
 use Rattle.std.specs.Prelude.{◌≢◌, ◌⊎◌, if◌then◌else◌, unwrap_or}
-use Rattle.bx_blink.specs.Hints.{HintsFit}
-use Rattle.bx_inodes.specs.Fitting.{Continues, HintsFitAll}
-use Rattle.bx_inodes.proofs.Later.{fit_later}
-use Rattle.bx_inodes.specs.Inodes.{HoldsInode}
-use Rattle.bx_inodes.specs.Writing.{PutsInode}
+use Rattle.bx_reads.specs.bx_blink.specs.Hints.{HintsFit}
+use Rattle.bx_reads.specs.bx_inodes.specs.Fitting.{Continues, HintsFitAll}
+use Rattle.bx_reads.specs.bx_inodes.proofs.Later.{fit_later}
+use Rattle.bx_reads.specs.bx_inodes.specs.Inodes.{HoldsInode}
+use Rattle.bx_reads.specs.bx_inodes.specs.Writing.{PutsInode}
 use Rattle.bx_layout.specs.Areas.{generation_in}
 use Rattle.bx_layout.specs.declared.block.Block.{Block}
 use Rattle.bx_layout.specs.declared.inode.Inode.{Inode}
 use Rattle.bx_records.specs.Drafts.{Changed, block_in, with_block}
-use Rattle.bx_truth.specs.Chunks.{IsChunked, block_at, chunks_of, handle_of, own_block, word_at}
-use Rattle.bx_truth.specs.PageTrees.{IsPageOf, IsTree, Node, PageTree}
-use Rattle.bx_truth.specs.Stored.{HasInode}
-use Rattle.bx_truth.proofs.Cases.{eq_false, eq_true, same_or}
-use Rattle.bx_truth.proofs.Frames.{tree_kept}
-use Rattle.bx_truth.proofs.InPlace.{some_laid, word_stays}
-use Rattle.bx_truth.proofs.OneFiles.{one_inode}
-use Rattle.bx_truth.proofs.Same.{IsChunk, chunk_is}
+use Rattle.bx_reads.specs.bx_truth.specs.Chunks.{IsChunked, block_at, chunks_of, handle_of, own_block, word_at}
+use Rattle.bx_reads.specs.bx_truth.specs.PageTrees.{IsPageOf, IsTree, Node, PageTree}
+use Rattle.bx_reads.specs.bx_truth.specs.Stored.{HasInode}
+use Rattle.bx_reads.specs.bx_truth.proofs.Cases.{eq_false, eq_true, same_or}
+use Rattle.bx_reads.specs.bx_truth.proofs.Frames.{tree_kept}
+use Rattle.bx_reads.specs.bx_truth.proofs.InPlace.{some_laid, word_stays}
+use Rattle.bx_reads.specs.bx_truth.proofs.OneFiles.{one_inode}
+use Rattle.bx_reads.specs.bx_truth.proofs.Same.{IsChunk, chunk_is}
 use Rattle.bx_views.specs.Truths.{Hints, Truth, with_draft}
 
 some_same : {X : Type 0} (x y : X) → Some x ≡ Some y → x ≡ y

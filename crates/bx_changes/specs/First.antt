@@ -1,7 +1,7 @@
 -- Where blocks are to be written first, before a call is attempted again.
 use Rattle.std.specs.Prelude.{ℕ, List}
-use Rattle.bx_inodes.specs.declared.stop.Stop.{Stop}
-use Rattle.bx_inodes.specs.declared.stop.Stop.TheVariants.{Need, Inner, Status, OutOfMemory}
+use Rattle.bx_reads.specs.bx_inodes.specs.declared.stop.Stop.{Stop}
+use Rattle.bx_reads.specs.bx_inodes.specs.declared.stop.Stop.TheVariants.{Need, Inner, Status, OutOfMemory}
 use Rattle.bx_changes.specs.declared.error.ChangeError.{ChangeError}
 use Rattle.bx_changes.specs.declared.error.ChangeError.TheVariants.{Stopped, Full}
 use Rattle.bx_records.specs.Drafts.{Changed}

@@ -1,10 +1,10 @@
 -- What a procedure answers that changes a tree, and may take blocks for it or want some written first.
 use Rattle.std.specs.Prelude.{◌≡◌, ℕ, ◌<◌, true, List, None, Some, Result, Ok, Err}
 use Rattle.bx_base.specs.declared.names.Mode.{Mode}
-use Rattle.bx_chunks.specs.Counting.{free_slots}
-use Rattle.bx_inodes.specs.Fitting.{HintsFitAll}
-use Rattle.bx_inodes.specs.Stands.{Stands}
-use Rattle.bx_inodes.specs.declared.stop.Stop.TheVariants.{Need, Inner, Status, OutOfMemory}
+use Rattle.bx_reads.specs.bx_chunks.specs.Counting.{free_slots}
+use Rattle.bx_reads.specs.bx_inodes.specs.Fitting.{HintsFitAll}
+use Rattle.bx_reads.specs.bx_inodes.specs.Stands.{Stands}
+use Rattle.bx_reads.specs.bx_inodes.specs.declared.stop.Stop.TheVariants.{Need, Inner, Status, OutOfMemory}
 use Rattle.bx_model.specs.declared.reply.Reply.{Reply}
 use Rattle.bx_model.specs.declared.status.TheConstants.{NOSPC}
 use Rattle.bx_model.specs.declared.tree.Tree.{Tree}

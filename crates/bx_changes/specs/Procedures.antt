@@ -2,16 +2,16 @@
 use Rattle.std.specs.Prelude.{ℕ, List, Result, IfOk}
 use Rattle.bx_records.specs.Drafts.{Changed}
 pub use Rattle.bx_base.specs.declared.names.Mode.TheVariants.{Shared, Exclusive}
-pub use Rattle.bx_blink.specs.Walks.{reads_with}
+pub use Rattle.bx_reads.specs.bx_blink.specs.Walks.{reads_with}
 pub use Rattle.bx_changes.specs.First.{ComesFirst, StopsFirst}
 pub use Rattle.bx_changes.specs.Growing.{HoldsFirst, IfFull, IsChangeBy, IsMaking, NeedsBy}
 pub use Rattle.bx_changes.specs.Stopping.{NeverFirst, StopsByChunks, StopsChange}
-pub use Rattle.bx_chunks.specs.Taking.{NoSlots, OnSlots, TakesSlots}
+pub use Rattle.bx_reads.specs.bx_chunks.specs.Taking.{NoSlots, OnSlots, TakesSlots}
 pub use Rattle.bx_places.specs.Handles.{named, parts_of}
-pub use Rattle.bx_inodes.specs.Fitting.{HintsFitAll}
-pub use Rattle.bx_inodes.specs.Inodes.{HoldsInode, IsInodeOf, LiveAt}
-pub use Rattle.bx_inodes.specs.Stands.{Stands}
-pub use Rattle.bx_inodes.specs.Stops.{NeedsOn, NeverInner, OnInode}
+pub use Rattle.bx_reads.specs.bx_inodes.specs.Fitting.{HintsFitAll}
+pub use Rattle.bx_reads.specs.bx_inodes.specs.Inodes.{HoldsInode, IsInodeOf, LiveAt}
+pub use Rattle.bx_reads.specs.bx_inodes.specs.Stands.{Stands}
+pub use Rattle.bx_reads.specs.bx_inodes.specs.Stops.{NeedsOn, NeverInner, OnInode}
 pub use Rattle.bx_layout.specs.Inodes.{IsInode}
 pub use Rattle.bx_model.specs.declared.tree.Tree.{Tree}
 pub use Rattle.bx_tree_files.specs.declared.file.File.{File}
@@ -19,8 +19,8 @@ pub use Rattle.bx_tree_files.specs.declared.file.Name.{Name}
 pub use Rattle.bx_tree_files.specs.Entries.{entry_named}
 pub use Rattle.bx_tree_files.specs.Files.{file_at}
 pub use Rattle.bx_tree_files.specs.Names.{names_of}
-pub use Rattle.bx_truth.specs.Chunks.{block_at}
-pub use Rattle.bx_truth.specs.Stands.{StandsFor}
+pub use Rattle.bx_reads.specs.bx_truth.specs.Chunks.{block_at}
+pub use Rattle.bx_reads.specs.bx_truth.specs.Stands.{StandsFor}
 pub use Rattle.bx_views.specs.Attempts.{IsHeldDraft}
 pub use Rattle.bx_views.specs.Truths.{Held, Hints, IsTruth, Truth, with_draft}
 

@@ -1,12 +1,12 @@
 -- What stops a change, by why a call on a tree or on chunks isn't answered.
 use Rattle.std.specs.Prelude.{◌≡◌, ℕ, ◌⊎◌, true, false}
-use Rattle.bx_blink.specs.declared.error.BlinkError.{BlinkError}
-use Rattle.bx_blink.specs.declared.error.BlinkError.TheVariants as tree
+use Rattle.bx_reads.specs.bx_blink.specs.declared.error.BlinkError.{BlinkError}
+use Rattle.bx_reads.specs.bx_blink.specs.declared.error.BlinkError.TheVariants as tree
 use Rattle.bx_changes.specs.declared.error.ChangeError.{ChangeError}
 use Rattle.bx_changes.specs.declared.error.ChangeError.TheVariants.{Stopped, Full}
-use Rattle.bx_chunks.specs.declared.error.ChunkError.{ChunkError}
-use Rattle.bx_chunks.specs.declared.error.ChunkError.TheVariants as chunks
-use Rattle.bx_inodes.specs.declared.stop.Stop.TheVariants.{Need, Inner, Status, OutOfMemory}
+use Rattle.bx_reads.specs.bx_chunks.specs.declared.error.ChunkError.{ChunkError}
+use Rattle.bx_reads.specs.bx_chunks.specs.declared.error.ChunkError.TheVariants as chunks
+use Rattle.bx_reads.specs.bx_inodes.specs.declared.stop.Stop.TheVariants.{Need, Inner, Status, OutOfMemory}
 use Rattle.bx_model.specs.declared.status.TheConstants.{STALE}
 use Rattle.bx_places.specs.Places.{is_block}
 

@@ -3,17 +3,17 @@
 ghost use Rattle.std.specs.Prelude.{◌≡◌, ℕ, false, List, IfOk, IsSome, Some};
 ghost use Rattle.bx_model.specs.Writing.{setattr};
 ghost use Rattle.bx_tree_files.specs.Times.{is_given};
-ghost use Rattle.bx_truth.specs.Chunks.{IsChunked};
+ghost use Rattle.bx_reads.specs.bx_truth.specs.Chunks.{IsChunked};
 ghost use Rattle.bx_changes.specs.Changes.{IsChange, IsOneBlock, NeedsNothing};
 ghost use Rattle.bx_changes.specs.Procedures.{Exclusive, Held, Hints, HintsFitAll, HoldsInode, IsHeldDraft, IsInode, IsInodeOf, IsTruth, NeedsOn, NeverInner, OnInode, Stands, Tree, Truth, block_at, named, with_draft};
 
 use crate::given::{is_forbidden, with_given};
 use crate::rewriting::rewritten;
 use bx_base::Mode;
-use bx_inodes::{Stop, inode_at};
 use bx_layout::Inode;
 use bx_model::{Call, PERM, Reply, STALE, Sattr};
 use bx_places::named_handle;
+use bx_reads::inodes::{Stop, inode_at};
 use bx_records::Draft;
 use bx_views::View;
 use std::alloc::Global;

@@ -2,11 +2,11 @@
 
 ghost use Rattle.bx_changes.specs.Stopping.{StopsByChunks, StopsChange};
 
-use bx_blink::BlinkError;
-use bx_chunks::ChunkError;
-use bx_inodes::Stop;
 use bx_model::STALE;
 use bx_places::is_block;
+use bx_reads::blink::BlinkError;
+use bx_reads::chunks::ChunkError;
+use bx_reads::inodes::Stop;
 
 /// Why a change that may take blocks isn't made.
 #[derive(Drop)]

@@ -1,7 +1,7 @@
 //! The attributes that a client sets, by a file's inode.
 
 ghost use Rattle.std.specs.Prelude.{◌≡◌, IfOk};
-ghost use Rattle.bx_inodes.specs.Heads.{head_of as head_by};
+ghost use Rattle.bx_reads.specs.bx_inodes.specs.Heads.{head_of as head_by};
 ghost use Rattle.bx_layout.specs.Inodes.{IsInode};
 ghost use Rattle.bx_model.specs.Writing.{is_forbidden as is_forbidden_to};
 ghost use Rattle.bx_tree_files.specs.Changes.{sets_field as sets_a_field};
@@ -9,9 +9,9 @@ ghost use Rattle.bx_changes.specs.Given.{with_given as with_those_given};
 
 use bx_base::OutOfMemory;
 use bx_call_parts::forbids;
-use bx_inodes::head_of;
 use bx_layout::Inode;
 use bx_model::{Call, Sattr};
+use bx_reads::inodes::head_of;
 use bx_tree_files::{MODES, given_or, is_given, time_or};
 use std::alloc::Global;
 

@@ -2,8 +2,8 @@
 
 ghost use Rattle.std.specs.Prelude.{◌≡◌, ◌<◌, ◌^◌, ℕ, IfOk, IsSome, Some};
 ghost use Rattle.bx_base.specs.declared.names.Mode.TheVariants.{Exclusive};
-ghost use Rattle.bx_inodes.specs.Fitting.{HintsFitAll};
-ghost use Rattle.bx_inodes.specs.Inodes.{HoldsInode, shown_size};
+ghost use Rattle.bx_reads.specs.bx_inodes.specs.Fitting.{HintsFitAll};
+ghost use Rattle.bx_reads.specs.bx_inodes.specs.Inodes.{HoldsInode, shown_size};
 ghost use Rattle.bx_layout.specs.Inodes.{IsInode};
 ghost use Rattle.bx_layout.specs.declared.inode.Inode.{Inode as Kept};
 ghost use Rattle.bx_model.specs.declared.reply.Reply.TheVariants.{Attributes};
@@ -11,19 +11,19 @@ ghost use Rattle.bx_model.specs.declared.tree.Tree.{Tree};
 ghost use Rattle.bx_tree_files.specs.Attributes.{attributes_of};
 ghost use Rattle.bx_tree_files.specs.declared.file.File.{File};
 ghost use Rattle.bx_tree_files.specs.Files.{file_at, size_of, with_file};
-ghost use Rattle.bx_truth.specs.Chunks.{IsChunked, block_at};
-ghost use Rattle.bx_truth.specs.Rewritten.{KeepsBody};
-ghost use Rattle.bx_truth.specs.Stands.{StandsFor};
-ghost use Rattle.bx_truth.specs.Stored.{HasFields};
+ghost use Rattle.bx_reads.specs.bx_truth.specs.Chunks.{IsChunked, block_at};
+ghost use Rattle.bx_reads.specs.bx_truth.specs.Rewritten.{KeepsBody};
+ghost use Rattle.bx_reads.specs.bx_truth.specs.Stands.{StandsFor};
+ghost use Rattle.bx_reads.specs.bx_truth.specs.Stored.{HasFields};
 ghost use Rattle.bx_views.specs.Attempts.{IsHeldDraft};
 ghost use Rattle.bx_views.specs.Truths.{Held, Hints, Truth, with_draft};
 ghost use Rattle.bx_changes.specs.Changes.{IsOneBlock};
 
 use bx_base::OutOfMemory;
-use bx_inodes::put_inode;
 use bx_layout::Inode;
 use bx_model::Reply;
 use bx_reads::attributes_by;
+use bx_reads::inodes::put_inode;
 use bx_records::Draft;
 use std::alloc::Global;
 

@@ -13,7 +13,7 @@ use Rattle.bx_truth.specs.Slots.{TakesSlot}
 use Rattle.bx_truth.proofs.Named.{free_names_none}
 use Rattle.bx_truth.proofs.SlotWords.{block_back}
 use Rattle.bx_truth.proofs.Taking.{chunk_taken, chunked_taken}
-use Rattle.bx_views.specs.Truths.{Held, IsTruth, Truth, with_draft}
+use Rattle.bx_truth.specs.bx_views.specs.Truths.{Held, IsTruth, Truth, with_draft}
 use Rattle.bx_chunks.specs.Allocating.{Adds, AllocatesAt, AllocatesIn, IsFullVolume, next_handle, slot_block, slot_taken}
 use Rattle.bx_chunks.specs.Areas.{HasFree, HasSlots, IsFull, area_in_turn}
 use Rattle.bx_chunks.specs.Putting.{empty_of, slot_put}

@@ -7,7 +7,7 @@ use Rattle.bx_layout.specs.declared.block.Block.{Block}
 use Rattle.bx_layout.specs.Areas.{generation_in}
 use Rattle.bx_places.specs.Places.{block_area, block_slot}
 use Rattle.bx_truth.specs.Chunks.{IsChunked, IsSlot, block_at, chunks_of, handle_of, own_block, word_at}
-use Rattle.bx_views.specs.Truths.{Truth}
+use Rattle.bx_truth.specs.bx_views.specs.Truths.{Truth}
 use Rattle.bx_truth.proofs.Cases.{eq_true}
 use Rattle.bx_truth.proofs.Same.{IsChunk, chunk_is}
 use Rattle.bx_truth.proofs.SlotWords.{is_slot_true}

@@ -8,7 +8,7 @@ use Rattle.bx_layout.specs.declared.area.AreaBlock.{AreaBlock}
 use Rattle.bx_layout.specs.declared.block.Block.{Block}
 use Rattle.bx_layout.specs.Areas.{SpellsArea, is_free}
 use Rattle.bx_truth.specs.Chunks.{IsAreaBlock, IsChunked, own_block, word_in}
-use Rattle.bx_views.specs.Truths.{Held, IsTruth, Truth}
+use Rattle.bx_truth.specs.bx_views.specs.Truths.{Held, IsTruth, Truth}
 use Rattle.bx_truth.proofs.Words.{word_is}
 use Rattle.bx_chunks.specs.Areas.{HasSlots, area_in_turn}
 use Rattle.bx_chunks.specs.Counting.{CountsAt, CountsIn, HasFreeCount, HoldsFree, Sums, free_in, free_slots}

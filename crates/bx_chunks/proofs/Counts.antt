@@ -3,7 +3,7 @@ use Rattle.std.proofs.Common.{◌≡◌, ℕ, ◌+◌, ◌*◌, ◌<◌, ◌≤�
 use Rattle.bx_base.specs.declared.names.Mode.TheVariants.{Shared}
 use Rattle.bx_layout.specs.declared.block.Block.{Block}
 use Rattle.bx_truth.specs.Chunks.{own_block}
-use Rattle.bx_views.specs.Truths.{Held}
+use Rattle.bx_truth.specs.bx_views.specs.Truths.{Held}
 use Rattle.bx_chunks.specs.Counting.{HasFreeCount, HoldsFree, Sums}
 use Rattle.bx_chunks.proofs.Options.{none_some}
 use Rattle.bx_chunks.proofs.Sums.{sums_more, sums_none}

@@ -7,7 +7,7 @@ use Rattle.bx_layout.specs.Areas.{SpellsArea, generation_in, is_dead}
 use Rattle.bx_places.specs.Places.{block_area, block_slot}
 use Rattle.bx_truth.specs.Chunks.{IsChunked, dead_at, dead_in, own_block, word_at, word_in}
 use Rattle.bx_truth.proofs.Words.{dead_is, word_is}
-use Rattle.bx_views.specs.Truths.{Held, IsTruth, Truth}
+use Rattle.bx_truth.specs.bx_views.specs.Truths.{Held, IsTruth, Truth}
 use Rattle.bx_chunks.specs.Areas.{HasSlots}
 use Rattle.bx_chunks.specs.Marking.{FindsDeadAt, FindsDeadIn, IsFirstDead, NamesLowestDead}
 use Rattle.bx_chunks.specs.declared.error.ChunkError.{ChunkError}

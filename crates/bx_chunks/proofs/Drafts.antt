@@ -7,7 +7,7 @@ use Rattle.std.proofs.lemmas.Bool.Decides.{nat_tests}
 use Rattle.bx_layout.specs.declared.block.Block.{Block}
 use Rattle.bx_records.specs.Drafts.{Changed, block_in, with_block, place_in, same_number, IsDraft}
 use Rattle.bx_records.proofs.Changes.{put_behind}
-use Rattle.bx_views.specs.Truths.{Truth, with_draft}
+use Rattle.bx_truth.specs.bx_views.specs.Truths.{Truth, with_draft}
 use Rattle.bx_chunks.specs.Putting.{missing, missing_of}
 
 -- ---- a block is put

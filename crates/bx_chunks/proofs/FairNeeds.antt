@@ -7,7 +7,7 @@ use Rattle.bx_layout.specs.declared.block.Block.{Block}
 use Rattle.bx_places.specs.Places.{is_block}
 use Rattle.bx_records.specs.Drafts.{Changed}
 use Rattle.bx_truth.specs.Chunks.{own_block}
-use Rattle.bx_views.specs.Truths.{Held}
+use Rattle.bx_truth.specs.bx_views.specs.Truths.{Held}
 use Rattle.bx_chunks.specs.Allocating.{AllocatesAt, LacksOneOf, first, second, NeedsFairly, slot_block}
 use Rattle.bx_chunks.specs.Areas.{area_in_turn}
 use Rattle.bx_chunks.specs.declared.error.ChunkError.{ChunkError}

@@ -8,7 +8,7 @@ use Rattle.bx_places.specs.Places.{block_area}
 use Rattle.bx_records.specs.Drafts.{Changed}
 use Rattle.bx_truth.specs.Chunks.{IsAreaBlock, IsChunked, block_at, own_block, word_at}
 use Rattle.bx_truth.proofs.Same.{IsChunk}
-use Rattle.bx_views.specs.Truths.{Held, IsTruth, Truth, with_draft}
+use Rattle.bx_truth.specs.bx_views.specs.Truths.{Held, IsTruth, Truth, with_draft}
 use Rattle.bx_chunks.specs.Areas.{HasSlots}
 use Rattle.bx_chunks.specs.Freeing.{IsGiven, IsNotGiven, own_at}
 use Rattle.bx_chunks.proofs.Chunked.{area_of, slot_of, block_area_is, block_slot_is, chunk_slot, handle_generation, word_seen}

@@ -15,8 +15,8 @@ use Rattle.bx_layout.proofs.Lengths.{length-words}
 use Rattle.bx_layout.specs.declared.block.Block.{Block}
 use Rattle.bx_records.specs.Drafts.{Changed, block_in, with_block}
 use Rattle.bx_truth.specs.Chunks.{block_at, own_block}
-use Rattle.bx_views.specs.Attempts.{AreBlocks, IsHeldDraft}
-use Rattle.bx_views.specs.Truths.{Held}
+use Rattle.bx_truth.specs.bx_views.specs.Attempts.{AreBlocks, IsHeldDraft}
+use Rattle.bx_truth.specs.bx_views.specs.Truths.{Held}
 use Rattle.bx_chunks.specs.Allocating.{AllocatesAt}
 use Rattle.bx_chunks.specs.Areas.{HasSlots, seen_in}
 use Rattle.bx_chunks.specs.Freeing.{FreesAt, own_at}

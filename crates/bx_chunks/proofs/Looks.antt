@@ -5,7 +5,7 @@ use Rattle.bx_base.specs.declared.names.Mode.TheVariants.{Shared}
 use Rattle.bx_layout.specs.declared.block.Block.{Block}
 use Rattle.bx_records.specs.Drafts.{Changed, block_in}
 use Rattle.bx_truth.specs.Chunks.{own_block}
-use Rattle.bx_views.specs.Truths.{Held}
+use Rattle.bx_truth.specs.bx_views.specs.Truths.{Held}
 use Rattle.bx_chunks.specs.Allocating.{PassesFull}
 use Rattle.bx_chunks.specs.Areas.{IsFull, area_in_turn, seen_in}
 use Rattle.bx_chunks.specs.Choosing.{LooksAt, LooksIn}

@@ -9,7 +9,7 @@ use Rattle.bx_truth.specs.Chunks.{IsAreaBlock, IsChunked, block_at, own_block}
 use Rattle.bx_truth.specs.Slots.{SetsMark}
 use Rattle.bx_truth.proofs.Marking.{chunk_marked, marks_set}
 use Rattle.bx_truth.proofs.Same.{IsChunk}
-use Rattle.bx_views.specs.Truths.{Held, IsTruth, Truth, with_draft}
+use Rattle.bx_truth.specs.bx_views.specs.Truths.{Held, IsTruth, Truth, with_draft}
 use Rattle.bx_chunks.specs.Freeing.{IsNotGiven, own_at}
 use Rattle.bx_chunks.specs.Marking.{Marked, Marks, MarksAs, MarksAt, MarksIn, area_put}
 use Rattle.bx_chunks.specs.Putting.{PutsAs, own_of}

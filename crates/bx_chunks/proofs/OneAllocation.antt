@@ -8,7 +8,7 @@ use Rattle.bx_layout.specs.declared.block.Block.{Block}
 use Rattle.bx_layout.specs.Areas.{IsLowestFree, is_free}
 use Rattle.bx_records.specs.Drafts.{Changed, block_in}
 use Rattle.bx_truth.specs.Chunks.{own_block}
-use Rattle.bx_views.specs.Truths.{Held}
+use Rattle.bx_truth.specs.bx_views.specs.Truths.{Held}
 use Rattle.bx_chunks.specs.Allocating.{AllocatesAt, IsFullVolume, IsNext, LacksNext, PassesFull, TakesAt, TakesNext}
 use Rattle.bx_chunks.specs.Areas.{HasFree, IsFull, area_in_turn, seen_in}
 use Rattle.bx_chunks.specs.Counting.{HoldsFree}

@@ -6,7 +6,7 @@ use Rattle.bx_layout.specs.declared.area.AreaBlock.{AreaBlock}
 use Rattle.bx_layout.specs.declared.block.Block.{Block}
 use Rattle.bx_layout.specs.Areas.{is_free}
 use Rattle.bx_truth.specs.Chunks.{own_block}
-use Rattle.bx_views.specs.Truths.{Held}
+use Rattle.bx_truth.specs.bx_views.specs.Truths.{Held}
 use Rattle.bx_chunks.specs.Areas.{HasSlots}
 use Rattle.bx_chunks.specs.Counting.{CountsAt, HasFreeCount, HoldsFree, LacksArea, Sums}
 use Rattle.bx_chunks.specs.Memory.{HasMemory}

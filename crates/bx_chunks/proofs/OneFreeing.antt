@@ -7,7 +7,7 @@ use Rattle.bx_layout.specs.declared.area.AreaBlock.{AreaBlock}
 use Rattle.bx_layout.specs.declared.block.Block.{Block}
 use Rattle.bx_records.specs.Drafts.{Changed, block_in}
 use Rattle.bx_truth.specs.Chunks.{block_at}
-use Rattle.bx_views.specs.Truths.{Held}
+use Rattle.bx_truth.specs.bx_views.specs.Truths.{Held}
 use Rattle.bx_chunks.specs.Areas.{HasSlots, seen_in}
 use Rattle.bx_chunks.specs.Freeing.{Frees, FreesAt, GivenIn, IsCrowded, IsInUse, IsNamed, IsNotGiven, LacksBlock, its_block, its_area, NamesNone, no_slot, another, not_given, own_at, slot_freed}
 use Rattle.bx_chunks.specs.Memory.{HasMemory}

@@ -6,7 +6,7 @@ use Rattle.bx_layout.specs.declared.area.AreaBlock.{AreaBlock}
 use Rattle.bx_layout.specs.declared.block.Block.{Block}
 use Rattle.bx_records.specs.Drafts.{Changed}
 use Rattle.bx_truth.specs.Chunks.{own_block}
-use Rattle.bx_views.specs.Truths.{Held}
+use Rattle.bx_truth.specs.bx_views.specs.Truths.{Held}
 use Rattle.bx_chunks.specs.Allocating.{HoldsBoth, LacksOneOf, first, second, TakesAt, slot_block, slot_taken}
 use Rattle.bx_chunks.specs.Memory.{HasMemory}
 use Rattle.bx_chunks.specs.declared.error.ChunkError.{ChunkError}

@@ -11,7 +11,7 @@ use Rattle.bx_truth.specs.Chunks.{IsChunked, IsSlot, block_at, chunks_of, handle
 use Rattle.bx_truth.specs.Slots.{FreesSlot}
 use Rattle.bx_truth.proofs.Freed.{chunk_freed, chunked_freed}
 use Rattle.bx_truth.proofs.Same.{IsChunk}
-use Rattle.bx_views.specs.Truths.{Held, IsTruth, Truth, with_draft}
+use Rattle.bx_truth.specs.bx_views.specs.Truths.{Held, IsTruth, Truth, with_draft}
 use Rattle.bx_chunks.specs.Areas.{HasSlots}
 use Rattle.bx_chunks.specs.Freeing.{FreesAt, FreesIn, IsInUse, NamesNone, no_slot, another, not_given, Removes, own_at, slot_freed}
 use Rattle.bx_chunks.specs.Putting.{empty_of, slot_put}

@@ -11,7 +11,7 @@ use Rattle.bx_places.specs.Places.{block_area, block_slot}
 use Rattle.bx_records.specs.Drafts.{Changed, block_in, with_block}
 use Rattle.bx_truth.specs.Chunks.{IsAreaBlock, IsSlot, own_block}
 use Rattle.bx_truth.specs.Slots.{SetsWord}
-use Rattle.bx_views.specs.Truths.{Held, IsTruth, Truth, with_draft}
+use Rattle.bx_truth.specs.bx_views.specs.Truths.{Held, IsTruth, Truth, with_draft}
 use Rattle.bx_chunks.specs.Areas.{seen_in}
 use Rattle.bx_chunks.specs.Putting.{empty_of, own_of, slot_put}
 use Rattle.bx_chunks.proofs.Drafts.{draft_here, draft_elsewhere}

@@ -10,7 +10,7 @@ use Rattle.bx_layout.specs.declared.block.Block.{Block}
 use Rattle.bx_places.specs.Places.{is_block}
 use Rattle.bx_records.specs.Drafts.{Changed, block_in, with_block}
 use Rattle.bx_truth.specs.Chunks.{block_at, own_block}
-use Rattle.bx_views.specs.Truths.{Held}
+use Rattle.bx_truth.specs.bx_views.specs.Truths.{Held}
 use Rattle.bx_chunks.specs.Allocating.{AllocatesAt, LacksOneOf, first, second, next_handle, slot_block}
 use Rattle.bx_chunks.specs.Areas.{area_in_turn, seen_in}
 use Rattle.bx_chunks.specs.Taking.{IsNoArea, LeavesSlots, NoSlots, OnSlots, ShowsSlots, TakesSlots, more, none, other}

@@ -7,7 +7,7 @@ use Rattle.bx_layout.specs.declared.area.AreaBlock.{AreaBlock}
 use Rattle.bx_layout.specs.declared.block.Block.{Block}
 use Rattle.bx_records.specs.Drafts.{Changed, block_in}
 use Rattle.bx_truth.specs.Chunks.{block_at, own_block}
-use Rattle.bx_views.specs.Truths.{Held}
+use Rattle.bx_truth.specs.bx_views.specs.Truths.{Held}
 use Rattle.bx_chunks.specs.Areas.{HasSlots, seen_in}
 use Rattle.bx_chunks.specs.Freeing.{GivesAt, IsGiven, IsNamed, IsNotGiven, LacksBlock, its_block, its_area, not_given as names_none, UsesAt}
 use Rattle.bx_chunks.specs.declared.error.ChunkError.{ChunkError}

@@ -8,7 +8,7 @@ use Rattle.bx_places.specs.Places.{is_block}
 use Rattle.bx_records.specs.Drafts.{Changed}
 use Rattle.bx_truth.specs.Chunks.{IsChunked, IsName, IsSlot, block_at, chunks_of, is_free_at, own_block, word_at}
 use Rattle.bx_truth.specs.Slots.{TakesSlot}
-use Rattle.bx_views.specs.Truths.{Truth, Held, with_draft}
+use Rattle.bx_truth.specs.bx_views.specs.Truths.{Truth, Held, with_draft}
 use Rattle.bx_chunks.specs.Areas.{IsFull, HasFree, area_in_turn}
 use Rattle.bx_chunks.specs.Counting.{HoldsFree, Sums, free_slots}
 use Rattle.bx_chunks.specs.Putting.{empty_of, slot_put}

@@ -8,7 +8,7 @@ use Rattle.bx_layout.specs.declared.block.Block.{Block}
 use Rattle.bx_layout.specs.Areas.{SpellsArea, IsLowestFree, is_free}
 use Rattle.bx_records.specs.Drafts.{Changed, block_in}
 use Rattle.bx_truth.specs.Chunks.{own_block}
-use Rattle.bx_views.specs.Truths.{Held}
+use Rattle.bx_truth.specs.bx_views.specs.Truths.{Held}
 
 -- what is held, as a draft leaves it
 abbrev pub seen_in : Held → List Changed → ℕ → Mode → Option Block

@@ -5,7 +5,7 @@ use Rattle.bx_layout.specs.declared.block.Block.{Block}
 use Rattle.bx_layout.specs.Areas.{IsLowestFree}
 use Rattle.bx_records.specs.Drafts.{Changed}
 use Rattle.bx_truth.specs.Chunks.{own_block}
-use Rattle.bx_views.specs.Truths.{Held}
+use Rattle.bx_truth.specs.bx_views.specs.Truths.{Held}
 use Rattle.bx_chunks.specs.Allocating.{IsNext, LacksNext, IsFullVolume}
 use Rattle.bx_chunks.specs.Areas.{HasFree, HasNoFree, HasSlots, IsFull}
 use Rattle.bx_chunks.specs.Counting.{HasFreeCount, HoldsFree}

@@ -6,7 +6,7 @@ use Rattle.bx_layout.specs.declared.area.AreaBlock.{AreaBlock}
 use Rattle.bx_layout.specs.declared.block.Block.{Block}
 use Rattle.bx_layout.specs.Areas.{is_free}
 use Rattle.bx_truth.specs.Chunks.{own_block, word_in}
-use Rattle.bx_views.specs.Truths.{Truth, Held}
+use Rattle.bx_truth.specs.bx_views.specs.Truths.{Truth, Held}
 use Rattle.bx_chunks.specs.Areas.{HasSlots}
 use Rattle.bx_chunks.specs.declared.error.ChunkError.{ChunkError}
 use Rattle.bx_chunks.specs.declared.error.ChunkError.TheVariants.{Need, Stale, Full, OutOfMemory, Crowded}

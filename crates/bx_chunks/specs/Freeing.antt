@@ -9,7 +9,7 @@ use Rattle.bx_layout.specs.Areas.{in_use, generation_in, freed_word, with_word}
 use Rattle.bx_records.specs.Drafts.{Changed}
 use Rattle.bx_truth.specs.Chunks.{IsChunked, IsSlot, block_at, chunks_of, own_block}
 use Rattle.bx_truth.specs.Slots.{FreesSlot}
-use Rattle.bx_views.specs.Truths.{Truth, Held, with_draft}
+use Rattle.bx_truth.specs.bx_views.specs.Truths.{Truth, Held, with_draft}
 use Rattle.bx_chunks.specs.Areas.{seen_in, HasSlots}
 use Rattle.bx_chunks.specs.Putting.{empty_of, slot_put}
 use Rattle.bx_chunks.specs.Reading.{NamesAnother}

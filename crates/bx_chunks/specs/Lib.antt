@@ -8,3 +8,4 @@ pub mod Freeing
 pub mod Marking
 pub mod Counting
 pub mod Taking
+pub use Rattle.bx_truth

@@ -9,7 +9,7 @@ use Rattle.bx_records.specs.Drafts.{Changed, with_block}
 use Rattle.bx_truth.specs.Chunks.{block_at, chunks_of, dead_at, handle_of, own_block, word_at}
 use Rattle.bx_truth.specs.Dying.{MarksSlot}
 use Rattle.bx_truth.specs.Slots.{SetsMark}
-use Rattle.bx_views.specs.Truths.{Truth, Held, with_draft}
+use Rattle.bx_truth.specs.bx_views.specs.Truths.{Truth, Held, with_draft}
 use Rattle.bx_chunks.specs.Areas.{HasSlots}
 use Rattle.bx_chunks.specs.Freeing.{GivenIn, IsNotGiven, own_at}
 use Rattle.bx_chunks.specs.Putting.{own_of}

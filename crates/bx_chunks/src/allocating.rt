@@ -2,8 +2,8 @@
 
 ghost use Rattle.std.specs.Prelude.{◌≡◌, ◌≤◌, ◌<◌, ◌*◌, ℕ, IfOk, OnErr};
 ghost use Rattle.bx_truth.specs.Chunks.{IsChunked};
-ghost use Rattle.bx_views.specs.Attempts.{IsHeldDraft};
-ghost use Rattle.bx_views.specs.Truths.{IsTruth, Truth, with_draft};
+ghost use Rattle.bx_truth.specs.bx_views.specs.Attempts.{IsHeldDraft};
+ghost use Rattle.bx_truth.specs.bx_views.specs.Truths.{IsTruth, Truth, with_draft};
 ghost use Rattle.bx_chunks.specs.Allocating.{AllocatesAt, AllocatesIn, NeedsFairly};
 ghost use Rattle.bx_chunks.specs.Areas.{area_in_turn};
 ghost use Rattle.bx_chunks.specs.Choosing.{ChoosesAt, LooksAt, LooksIn};
@@ -15,7 +15,7 @@ use crate::taking::take;
 use bx_base::{Mode, OutOfMemory};
 use bx_layout::{AreaBlock, Block};
 use bx_records::Draft;
-use bx_views::View;
+use bx_truth::views::View;
 use std::alloc::Global;
 
 /// What is found in an area.

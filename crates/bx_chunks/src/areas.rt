@@ -12,7 +12,7 @@ use bx_base::{Mode, OutOfMemory};
 use bx_layout::{AreaBlock, Block};
 use bx_places::ChunkHandle;
 use bx_records::Draft;
-use bx_views::View;
+use bx_truth::views::View;
 use std::alloc::Global;
 
 /// The kind of the own blocks of areas.

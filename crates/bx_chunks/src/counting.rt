@@ -2,7 +2,7 @@
 
 ghost use Rattle.std.specs.Prelude.{◌≡◌, ◌<◌, ◌≤◌, ◌*◌, ℕ, IfOk};
 ghost use Rattle.bx_truth.specs.Chunks.{IsChunked};
-ghost use Rattle.bx_views.specs.Truths.{IsTruth, Truth};
+ghost use Rattle.bx_truth.specs.bx_views.specs.Truths.{IsTruth, Truth};
 ghost use Rattle.bx_chunks.specs.Allocating.{NeedsFairly};
 ghost use Rattle.bx_chunks.specs.Counting.{CountsAt, CountsIn, HasFreeCount};
 
@@ -10,7 +10,7 @@ use crate::areas::{own_block, slots_of};
 use crate::error::ChunkError;
 use bx_base::{Mode, OutOfMemory};
 use bx_layout::Block;
-use bx_views::View;
+use bx_truth::views::View;
 use std::alloc::Global;
 
 /// How many slots of a volume are free, by the own blocks of its areas in the view.

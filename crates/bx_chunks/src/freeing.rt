@@ -4,8 +4,8 @@ ghost use Rattle.std.specs.Prelude.{◌≡◌, ◌≤◌, ◌<◌, ◌↔◌, �
 ghost use Rattle.bx_places.specs.Handles.{parts_of};
 ghost use Rattle.bx_layout.specs.Areas.{IsArea};
 ghost use Rattle.bx_truth.specs.Chunks.{IsChunked};
-ghost use Rattle.bx_views.specs.Attempts.{IsHeldDraft};
-ghost use Rattle.bx_views.specs.Truths.{IsTruth, Truth, with_draft};
+ghost use Rattle.bx_truth.specs.bx_views.specs.Attempts.{IsHeldDraft};
+ghost use Rattle.bx_truth.specs.bx_views.specs.Truths.{IsTruth, Truth, with_draft};
 ghost use Rattle.bx_chunks.specs.Allocating.{NeedsFairly};
 ghost use Rattle.bx_chunks.specs.Freeing.{FreesAt, FreesIn, GivesAt, IsGiven, UsesAt};
 
@@ -16,7 +16,7 @@ use bx_base::Mode;
 use bx_layout::AreaBlock;
 use bx_places::{ChunkHandle, SLOTS};
 use bx_records::Draft;
-use bx_views::View;
+use bx_truth::views::View;
 use std::alloc::Global;
 
 /// The kind of blocks that are free.

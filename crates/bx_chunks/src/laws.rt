@@ -3,7 +3,7 @@
 ghost use Rattle.std.specs.Prelude.{◌≡◌, ℕ, List, Option, Result, Ok};
 ghost use Rattle.bx_layout.specs.declared.block.Block.{Block};
 ghost use Rattle.bx_records.specs.Drafts.{Changed};
-ghost use Rattle.bx_views.specs.Truths.{Held};
+ghost use Rattle.bx_truth.specs.bx_views.specs.Truths.{Held};
 ghost use Rattle.bx_chunks.specs.Allocating.{AllocatesAt};
 ghost use Rattle.bx_chunks.specs.Counting.{CountsAt};
 ghost use Rattle.bx_chunks.specs.Freeing.{FreesAt};

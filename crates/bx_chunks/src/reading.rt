@@ -5,7 +5,7 @@ ghost use Rattle.std.specs.Option.{option_copied};
 ghost use Rattle.std.specs.Result.{result_map_both};
 ghost use Rattle.bx_base.specs.declared.names.Mode.TheVariants.{Shared};
 ghost use Rattle.bx_truth.specs.Chunks.{IsChunked, block_at, chunks_of};
-ghost use Rattle.bx_views.specs.Truths.{IsTruth, Truth, with_draft};
+ghost use Rattle.bx_truth.specs.bx_views.specs.Truths.{IsTruth, Truth, with_draft};
 ghost use Rattle.bx_chunks.specs.Areas.{seen_in};
 ghost use Rattle.bx_chunks.specs.Reading.{ReadsAt, ReadsIn};
 
@@ -14,7 +14,7 @@ use crate::error::ChunkError;
 use bx_base::Mode;
 use bx_layout::Block;
 use bx_records::Draft;
-use bx_views::View;
+use bx_truth::views::View;
 
 /// The chunk of a handle, by the handle's number. It takes no memory.
 ///

@@ -11,7 +11,7 @@ use bx_base::Mode;
 use bx_layout::AreaBlock;
 use bx_places::{AREA_NUMBERS, ChunkHandle};
 use bx_records::Draft;
-use bx_views::View;
+use bx_truth::views::View;
 use std::alloc::Global;
 
 /// The kind of data.

@@ -23,7 +23,7 @@ use Rattle.bx_model.specs.declared.tree.Tree.{Tree}
 use Rattle.bx_model.specs.Making.{create, create_at, create_new, create_over}
 use Rattle.bx_model.specs.Reading.{named_file}
 use Rattle.bx_model.specs.Steps.{Making, ◌>>=◌, taken}
-use Rattle.bx_reads.proofs.Told.{named_as}
+use Rattle.bx_changes.specs.bx_reads.proofs.Told.{named_as}
 use Rattle.bx_records.specs.Drafts.{Changed}
 use Rattle.bx_tree_files.specs.declared.file.Body.{Body}
 use Rattle.bx_tree_files.specs.declared.file.File.{File}

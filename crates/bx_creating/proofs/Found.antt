@@ -19,7 +19,7 @@ use Rattle.bx_model.specs.declared.tree.Tree.{Tree}
 use Rattle.bx_model.specs.Making.{entry_errors, has_entry, new_place}
 use Rattle.bx_model.specs.Reading.{named_file}
 use Rattle.bx_model.specs.Steps.{refuse, ◌>>=◌, ◌>>◌}
-use Rattle.bx_reads.proofs.Told.{named_as}
+use Rattle.bx_changes.specs.bx_reads.proofs.Told.{named_as}
 use Rattle.bx_tree_files.specs.declared.file.Body.{Body}
 use Rattle.bx_tree_files.specs.declared.file.Body.TheVariants.{Bytes, Path, Names}
 use Rattle.bx_tree_files.specs.declared.file.File.{File}

@@ -10,13 +10,13 @@ use Rattle.bx_chunks.specs.Taking.{NoSlots, OnSlots, more, none}
 use Rattle.bx_chunks.specs.declared.error.ChunkError.{ChunkError}
 use Rattle.bx_chunks.specs.declared.error.ChunkError.TheVariants as chunk
 use Rattle.bx_layout.specs.declared.inode.Inode.{Inode}
-use Rattle.bx_making.specs.Links.{LinksAt}
-use Rattle.bx_making.specs.Made.{MakesIn}
-use Rattle.bx_making.specs.Making.{MakesAt}
+use Rattle.bx_entries.specs.bx_making.specs.Links.{LinksAt}
+use Rattle.bx_entries.specs.bx_making.specs.Made.{MakesIn}
+use Rattle.bx_entries.specs.bx_making.specs.Making.{MakesAt}
 use Rattle.bx_model.specs.declared.tree.Tree.{Tree}
-use Rattle.bx_ready.specs.Spare.{TellsFew}
-use Rattle.bx_ready.proofs.Bounds.{few_two}
-use Rattle.bx_ready.proofs.Lengths.{crowded_many, put_more, taken_more}
+use Rattle.bx_entries.specs.bx_ready.specs.Spare.{TellsFew}
+use Rattle.bx_entries.specs.bx_ready.proofs.Bounds.{few_two}
+use Rattle.bx_entries.specs.bx_ready.proofs.Lengths.{crowded_many, put_more, taken_more}
 use Rattle.bx_records.specs.Drafts.{Changed}
 use Rattle.bx_tree_files.specs.declared.file.Body.{Body}
 use Rattle.bx_truth.specs.Chunks.{IsChunked}

@@ -11,7 +11,7 @@ use Rattle.bx_entries.specs.declared.finding.Removable.TheVariants as of
 use Rattle.bx_entries.proofs.RemovedFrom.{IsListed, listed}
 use Rattle.bx_inodes.specs.declared.stop.Stop.TheVariants.{Need, Inner, Status, OutOfMemory}
 use Rattle.bx_layout.specs.declared.inode.Inode.{Inode}
-use Rattle.bx_making.specs.Made.{MakesFile, file_of}
+use Rattle.bx_entries.specs.bx_making.specs.Made.{MakesFile, file_of}
 use Rattle.bx_model.specs.Edits.{with_new}
 use Rattle.bx_model.specs.declared.tree.Tree.{Tree}
 use Rattle.bx_records.specs.Drafts.{Changed}

@@ -7,3 +7,6 @@ pub mod Searching
 pub mod Existing
 pub mod Paths
 pub mod Lacking
+pub use Rattle.bx_entries.specs.bx_directory_reads
+pub use Rattle.bx_entries
+pub use Rattle.bx_sizes

@@ -8,14 +8,14 @@ use Rattle.bx_changes.specs.declared.error.ChangeError.TheVariants.{Stopped, Ful
 use Rattle.bx_chunks.specs.Allocating.{AllocatesAt}
 use Rattle.bx_chunks.specs.Taking.{OnSlots}
 use Rattle.bx_chunks.specs.declared.error.ChunkError.{ChunkError}
-use Rattle.bx_dirs.specs.Changes.{OnAddPath, entry_of}
+use Rattle.bx_entries.specs.bx_dirs.specs.Changes.{OnAddPath, entry_of}
 use Rattle.bx_places.specs.Handles.{named, parts_of}
 use Rattle.bx_inodes.specs.Fitting.{HintsFitAll}
 use Rattle.bx_inodes.specs.declared.stop.Stop.TheVariants.{Need, Inner, Status, OutOfMemory}
 use Rattle.bx_layout.specs.declared.inode.Inode.{Inode}
-use Rattle.bx_making.specs.Links.{LinksAt}
-use Rattle.bx_making.specs.Made.{MakesFile, file_of}
-use Rattle.bx_making.specs.Making.{MakesAt}
+use Rattle.bx_entries.specs.bx_making.specs.Links.{LinksAt}
+use Rattle.bx_entries.specs.bx_making.specs.Made.{MakesFile, file_of}
+use Rattle.bx_entries.specs.bx_making.specs.Making.{MakesAt}
 use Rattle.bx_model.specs.Edits.{is_unused}
 use Rattle.bx_model.specs.Making.{with_made}
 use Rattle.bx_model.specs.declared.tree.Tree.{Tree}

@@ -5,7 +5,7 @@ ghost use Rattle.bx_entries.specs.Lacking.{FindsBoth, IfFirst, MakesEither};
 ghost use Rattle.bx_changes.specs.Procedures.{Exclusive, HoldsFirst, IfFull, IsHeldDraft, IsInode, IsTruth, NeedsBy, NeverFirst, NoSlots, OnSlots, StandsFor, Tree, Truth, block_at, parts_of};
 ghost use Rattle.bx_chunks.specs.Allocating.{NeedsFairly};
 ghost use Rattle.bx_entries.specs.Finding.{IsDirectoryOf};
-ghost use Rattle.bx_making.specs.Made.{MakesIn};
+ghost use Rattle.bx_entries.specs.bx_making.specs.Made.{MakesIn};
 ghost use Rattle.bx_tree_files.specs.declared.file.Body.{Body};
 ghost use Rattle.bx_views.specs.Truths.{with_draft};
 ghost use Rattle.bx_creating.specs.Finding.{IsPlaceFor};
@@ -14,9 +14,9 @@ ghost use Rattle.bx_creating.specs.Placing.{IsFirstNear, IsMade, MadeAt, MakesNe
 
 use bx_changes::ChangeError;
 use bx_chunks::ChunkError;
+use bx_entries::making::{make, make_link};
 use bx_entries::{Known, enter, room_for};
 use bx_layout::Inode;
-use bx_making::{make, make_link};
 use bx_places::ChunkHandle;
 use bx_records::Draft;
 use bx_tree_files::{DIRECTORY, LINK};

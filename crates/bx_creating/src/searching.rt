@@ -2,7 +2,7 @@
 
 ghost use Rattle.std.specs.Prelude.{List, [], IfOk, IfSome};
 ghost use Rattle.bx_changes.specs.Procedures.{Name, NeedsOn, NeverInner, Truth};
-ghost use Rattle.bx_dirs.specs.Entries.{HasEntries};
+ghost use Rattle.bx_entries.specs.bx_dirs.specs.Entries.{HasEntries};
 ghost use Rattle.bx_files.specs.Paths.{OnSearch};
 ghost use Rattle.bx_truth.specs.Keys.{name_key};
 ghost use Rattle.bx_creating.specs.Searching.{FindsEntry, FoundIn};

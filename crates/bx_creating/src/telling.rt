@@ -3,16 +3,16 @@
 ghost use Rattle.std.specs.Prelude.{◌≡◌, ◌<◌, ◌^◌, IfOk};
 ghost use Rattle.bx_changes.specs.Procedures.{Tree};
 ghost use Rattle.bx_inodes.specs.Inodes.{shown_size};
-ghost use Rattle.bx_making.specs.Made.{file_of};
+ghost use Rattle.bx_entries.specs.bx_making.specs.Made.{file_of};
 ghost use Rattle.bx_model.specs.Reading.{handle_reply};
 ghost use Rattle.bx_tree_files.specs.declared.file.Body.{Body};
 ghost use Rattle.bx_tree_files.specs.Files.{size_of};
 
 use bx_base::{OutOfMemory, Raw};
+use bx_changes::reads::attributes_by;
 use bx_layout::Inode;
 use bx_model::Reply;
 use bx_places::file_handle;
-use bx_reads::attributes_by;
 use std::alloc::Global;
 
 /// The file handle and the attributes of the file with a handle, by its inode.

@@ -1,13 +1,13 @@
 -- A listing along the leaves of a directory.
 use Rattle.std.proofs.Common.{◌≡◌, ℕ, ◌^◌, ◌<◌, Bool, true, false, List, [], ◌∷◌, ◌++◌, map, refl, sym, ap, ◌∙◌, subst, Option, Some, None, inl, inr}
 use Rattle.std.specs.Prelude.{Result, Ok, Err, IfSome}
-use Rattle.bx_blink.specs.Leaves.{BeginsAt, IsLeafOf, IsNextLeaf, LeafIn, behind_leaf}
+use Rattle.bx_dirs.specs.bx_blink.specs.Leaves.{BeginsAt, IsLeafOf, IsNextLeaf, LeafIn, behind_leaf}
 use Rattle.bx_dirs.specs.Entries.{DoFit, HasEntries, by_number, key_behind}
 use Rattle.bx_dirs.proofs.Behind.{behind_list, fit_above}
 use Rattle.bx_dirs.proofs.Rising.{map_rises}
-use Rattle.bx_files.specs.Paths.{IsNeed}
-use Rattle.bx_inodes.specs.declared.stop.Stop.{Stop}
-use Rattle.bx_inodes.specs.declared.stop.Stop.TheVariants.{Need, Inner, Status, OutOfMemory}
+use Rattle.bx_reads.specs.bx_files.specs.Paths.{IsNeed}
+use Rattle.bx_reads.specs.bx_inodes.specs.declared.stop.Stop.{Stop}
+use Rattle.bx_reads.specs.bx_inodes.specs.declared.stop.Stop.TheVariants.{Need, Inner, Status, OutOfMemory}
 use Rattle.bx_page.specs.declared.entry.Entry.{Entry}
 use Rattle.bx_page.specs.Contents.{Contents, from}
 use Rattle.bx_places.specs.Places.{is_block}

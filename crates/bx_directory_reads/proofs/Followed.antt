@@ -2,13 +2,13 @@
 use Rattle.std.proofs.Common.{◌≡◌, ℕ, ◌≤◌, Bool, true, false, List, ◌++◌, Option, Some, None, refl, sym, ap, ◌∙◌, subst, inl, inr}
 use Rattle.std.specs.Prelude.{not, if◌then◌else◌, Result, Ok, Err}
 use Rattle.bx_dirs.specs.Searches.{FollowsIn}
-use Rattle.bx_files.specs.Paths.{IsNeed}
-use Rattle.bx_files.specs.Reads.{Tells}
-use Rattle.bx_inodes.specs.Fitting.{HintsFitAll}
-use Rattle.bx_inodes.specs.declared.stop.Stop.{Stop}
-use Rattle.bx_inodes.specs.declared.stop.Stop.TheVariants.{Need, Inner, Status, OutOfMemory}
-use Rattle.bx_inodes.specs.Heads.{head_of}
-use Rattle.bx_inodes.specs.Stands.{Stands}
+use Rattle.bx_reads.specs.bx_files.specs.Paths.{IsNeed}
+use Rattle.bx_reads.specs.bx_files.specs.Reads.{Tells}
+use Rattle.bx_reads.specs.bx_inodes.specs.Fitting.{HintsFitAll}
+use Rattle.bx_reads.specs.bx_inodes.specs.declared.stop.Stop.{Stop}
+use Rattle.bx_reads.specs.bx_inodes.specs.declared.stop.Stop.TheVariants.{Need, Inner, Status, OutOfMemory}
+use Rattle.bx_reads.specs.bx_inodes.specs.Heads.{head_of}
+use Rattle.bx_reads.specs.bx_inodes.specs.Stands.{Stands}
 use Rattle.bx_layout.specs.declared.inode.Inode.{Inode}
 use Rattle.bx_model.specs.declared.call.Call.{Call}
 use Rattle.bx_model.specs.declared.permissions.Want.TheVariants as want

@@ -3,13 +3,13 @@ use Rattle.std.proofs.Common.{◌≡◌, ℕ, ◌≤◌, Bool, true, false, eqb-
 use Rattle.std.specs.Prelude.{not, if◌then◌else◌, codes, Result, Ok, Err, option_and_then}
 use Rattle.std.specs.Str.{bytes_eq}
 use Rattle.bx_dirs.specs.Entries.{HasEntries}
-use Rattle.bx_files.specs.Paths.{IsNeed}
-use Rattle.bx_inodes.specs.Fitting.{HintsFitAll}
-use Rattle.bx_inodes.proofs.Pages.{has_pages}
-use Rattle.bx_inodes.specs.declared.stop.Stop.{Stop}
-use Rattle.bx_inodes.specs.declared.stop.Stop.TheVariants.{Need, Inner, Status, OutOfMemory}
-use Rattle.bx_inodes.specs.Heads.{head_of}
-use Rattle.bx_inodes.specs.Stands.{Stands}
+use Rattle.bx_reads.specs.bx_files.specs.Paths.{IsNeed}
+use Rattle.bx_reads.specs.bx_inodes.specs.Fitting.{HintsFitAll}
+use Rattle.bx_reads.specs.bx_inodes.proofs.Pages.{has_pages}
+use Rattle.bx_reads.specs.bx_inodes.specs.declared.stop.Stop.{Stop}
+use Rattle.bx_reads.specs.bx_inodes.specs.declared.stop.Stop.TheVariants.{Need, Inner, Status, OutOfMemory}
+use Rattle.bx_reads.specs.bx_inodes.specs.Heads.{head_of}
+use Rattle.bx_reads.specs.bx_inodes.specs.Stands.{Stands}
 use Rattle.bx_places.specs.Handles.{file_text}
 use Rattle.bx_layout.specs.declared.inode.Inode.{Inode}
 use Rattle.bx_model.specs.declared.call.Call.{Call}

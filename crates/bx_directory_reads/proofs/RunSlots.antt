@@ -2,17 +2,17 @@
 use Rattle.std.proofs.Common.{◌≡◌, ℕ, zero, suc, ◌≤◌, true, List, [], Option, Some, None, subst, arith, inl, inr}
 use Rattle.bx_base.specs.declared.names.Mode.{Mode}
 use Rattle.bx_base.specs.declared.names.Mode.TheVariants.{Shared}
-use Rattle.bx_blink.specs.Hints.{Agrees, HintsAgree, Place, Sees, Under}
-use Rattle.bx_blink.specs.Leaves.{BeginsAt}
-use Rattle.bx_blink.specs.Runs.{OnRun}
-use Rattle.bx_blink.specs.Walks.{MayAsk, Reads, as_said, landed, most, reads_with, shared, start}
-use Rattle.bx_blink.proofs.Begins.{Begun, at_leaf, at_root, begun}
-use Rattle.bx_blink.proofs.OnWay.{IsOnWay}
-use Rattle.bx_blink.proofs.Rights.{on_way}
-use Rattle.bx_blink.proofs.RunRights.{Turned, run_step}
-use Rattle.bx_blink.proofs.Under.{agrees}
-use Rattle.bx_blink.proofs.Visits.{slot_of_spot}
-use Rattle.bx_files.proofs.Slots.{slot_is_block}
+use Rattle.bx_dirs.specs.bx_blink.specs.Hints.{Agrees, HintsAgree, Place, Sees, Under}
+use Rattle.bx_dirs.specs.bx_blink.specs.Leaves.{BeginsAt}
+use Rattle.bx_dirs.specs.bx_blink.specs.Runs.{OnRun}
+use Rattle.bx_dirs.specs.bx_blink.specs.Walks.{MayAsk, Reads, as_said, landed, most, reads_with, shared, start}
+use Rattle.bx_dirs.specs.bx_blink.proofs.Begins.{Begun, at_leaf, at_root, begun}
+use Rattle.bx_dirs.specs.bx_blink.proofs.OnWay.{IsOnWay}
+use Rattle.bx_dirs.specs.bx_blink.proofs.Rights.{on_way}
+use Rattle.bx_dirs.specs.bx_blink.proofs.RunRights.{Turned, run_step}
+use Rattle.bx_dirs.specs.bx_blink.proofs.Under.{agrees}
+use Rattle.bx_dirs.specs.bx_blink.proofs.Visits.{slot_of_spot}
+use Rattle.bx_reads.specs.bx_files.proofs.Slots.{slot_is_block}
 use Rattle.bx_places.specs.Places.{is_block}
 use Rattle.bx_truth.specs.Chunks.{IsSlot, chunks_of}
 use Rattle.bx_truth.specs.PageTrees.{Chunks, IsTree, PageTree}

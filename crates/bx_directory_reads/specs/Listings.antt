@@ -2,13 +2,13 @@
 use Rattle.std.specs.Prelude.{◌≡◌, ℕ, ◌⊎◌, List, [], ◌∷◌, map, Option, Some, None, Result, Ok, Err}
 use Rattle.bx_base.specs.declared.names.Mode.{Mode}
 use Rattle.bx_base.specs.declared.names.Mode.TheVariants.{Shared}
-use Rattle.bx_blink.specs.Leaves.{EndsAt, IsNextLeaf}
-use Rattle.bx_blink.specs.Runs.{NextAt, OnRun, Runs}
-use Rattle.bx_blink.specs.Walks.{most, reads_with, start}
+use Rattle.bx_dirs.specs.bx_blink.specs.Leaves.{EndsAt, IsNextLeaf}
+use Rattle.bx_dirs.specs.bx_blink.specs.Runs.{NextAt, OnRun, Runs}
+use Rattle.bx_dirs.specs.bx_blink.specs.Walks.{most, reads_with, start}
 use Rattle.bx_dirs.specs.Entries.{key_behind}
-use Rattle.bx_inodes.specs.declared.stop.Stop.{Stop}
-use Rattle.bx_inodes.specs.declared.stop.Stop.TheVariants.{Need, Inner, Status, OutOfMemory}
-use Rattle.bx_inodes.specs.Stops.{OnInode}
+use Rattle.bx_reads.specs.bx_inodes.specs.declared.stop.Stop.{Stop}
+use Rattle.bx_reads.specs.bx_inodes.specs.declared.stop.Stop.TheVariants.{Need, Inner, Status, OutOfMemory}
+use Rattle.bx_reads.specs.bx_inodes.specs.Stops.{OnInode}
 use Rattle.bx_layout.specs.declared.inode.Inode.{Inode}
 use Rattle.bx_model.specs.declared.reply.Reply.{Reply}
 use Rattle.bx_model.specs.declared.reply.Reply.TheVariants as replies

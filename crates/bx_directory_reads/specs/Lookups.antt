@@ -2,10 +2,10 @@
 use Rattle.std.specs.Prelude.{◌≡◌, ℕ, ◌⊎◌, if◌then◌else◌, List, codes, Option, Some, None, Result, Ok, Err}
 use Rattle.bx_base.specs.declared.names.Mode.{Mode}
 use Rattle.bx_base.specs.declared.names.Mode.TheVariants.{Shared}
-use Rattle.bx_files.specs.Paths.{Finds, IsBlockOf, OnSearch}
-use Rattle.bx_inodes.specs.declared.stop.Stop.{Stop}
-use Rattle.bx_inodes.specs.declared.stop.Stop.TheVariants.{Need, Inner, Status, OutOfMemory}
-use Rattle.bx_inodes.specs.Stops.{OnInode}
+use Rattle.bx_reads.specs.bx_files.specs.Paths.{Finds, IsBlockOf, OnSearch}
+use Rattle.bx_reads.specs.bx_inodes.specs.declared.stop.Stop.{Stop}
+use Rattle.bx_reads.specs.bx_inodes.specs.declared.stop.Stop.TheVariants.{Need, Inner, Status, OutOfMemory}
+use Rattle.bx_reads.specs.bx_inodes.specs.Stops.{OnInode}
 use Rattle.bx_layout.specs.declared.inode.Inode.{Inode}
 use Rattle.bx_model.specs.declared.call.Call.{Call}
 use Rattle.bx_model.specs.declared.permissions.Want.{Want}

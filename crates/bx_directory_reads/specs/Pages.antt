@@ -4,8 +4,8 @@ use Rattle.bx_call_parts.specs.declared.pages.Page.{Page}
 use Rattle.bx_call_parts.specs.Pages.{filled}
 use Rattle.bx_directory_reads.specs.declared.filling.Put.{Put}
 use Rattle.bx_directory_reads.specs.declared.filling.Put.TheVariants.{All, Part, Stray}
-use Rattle.bx_inodes.specs.declared.stop.Stop.{Stop}
-use Rattle.bx_inodes.specs.declared.stop.Stop.TheVariants.{Need, Inner, Status, OutOfMemory}
+use Rattle.bx_reads.specs.bx_inodes.specs.declared.stop.Stop.{Stop}
+use Rattle.bx_reads.specs.bx_inodes.specs.declared.stop.Stop.TheVariants.{Need, Inner, Status, OutOfMemory}
 use Rattle.bx_tree_files.specs.declared.file.Name.{Name}
 
 -- The page was filled so by all entries of a leaf, or by those that fit; these are entries of a directory.

@@ -1,10 +1,10 @@
 //! Entries of a directory, one behind the other.
 
 ghost use Rattle.std.specs.Prelude.{◌≡◌, ◌<◌, ℕ, List, [], IfOk, IfSome, length};
-ghost use Rattle.bx_blink.specs.Hints.{Under};
-ghost use Rattle.bx_blink.specs.Leaves.{BeginsAt};
+ghost use Rattle.bx_dirs.specs.bx_blink.specs.Hints.{Under};
+ghost use Rattle.bx_dirs.specs.bx_blink.specs.Leaves.{BeginsAt};
 ghost use Rattle.bx_dirs.specs.Entries.{HasEntries};
-ghost use Rattle.bx_inodes.specs.Stops.{NeedsOn, NeverInner};
+ghost use Rattle.bx_reads.specs.bx_inodes.specs.Stops.{NeedsOn, NeverInner};
 ghost use Rattle.bx_page.specs.Contents.{from};
 ghost use Rattle.bx_truth.specs.PageTrees.{PageTree};
 ghost use Rattle.bx_tree_files.specs.declared.file.Name.{Name as Entry};
@@ -15,13 +15,13 @@ ghost use Rattle.bx_directory_reads.specs.Pages.{Fills};
 
 use crate::filling::{Put, put_leaf};
 use bx_base::Raw;
-use bx_blink::{BlinkError, leaf_from};
 use bx_call_parts::Page;
+use bx_dirs::blink::{BlinkError, leaf_from};
 use bx_dirs::key_behind;
-use bx_files::needed;
-use bx_inodes::Stop;
 use bx_model::STALE;
 use bx_page_bytes::PageBytes;
+use bx_reads::inodes::Stop;
+use bx_reads::needed;
 use bx_records::Draft;
 use bx_tree_files::Name;
 use bx_views::View;

@@ -2,10 +2,10 @@
 
 ghost use Rattle.std.specs.Prelude.{◌≤◌, ◌++◌, List, [], IfOk};
 ghost use Rattle.bx_dirs.specs.Entries.{HasEntries};
-ghost use Rattle.bx_inodes.specs.Fitting.{HintsFitAll};
-ghost use Rattle.bx_inodes.specs.Stands.{Stands};
-ghost use Rattle.bx_inodes.specs.Stops.{NeedsOn, NeverInner};
-ghost use Rattle.bx_files.specs.Reads.{Tells};
+ghost use Rattle.bx_reads.specs.bx_inodes.specs.Fitting.{HintsFitAll};
+ghost use Rattle.bx_reads.specs.bx_inodes.specs.Stands.{Stands};
+ghost use Rattle.bx_reads.specs.bx_inodes.specs.Stops.{NeedsOn, NeverInner};
+ghost use Rattle.bx_reads.specs.bx_files.specs.Reads.{Tells};
 ghost use Rattle.bx_model.specs.declared.tree.Tree.{Tree};
 ghost use Rattle.bx_model.specs.Directories.{behind, readdir as readdir_of};
 ghost use Rattle.bx_reads.specs.Answers.{IsOutcome};
@@ -17,9 +17,9 @@ ghost use Rattle.bx_directory_reads.specs.Listings.{OnEntries, OnListing, listin
 use crate::entries::put_entries;
 use crate::opening::directory_error;
 use bx_call_parts::{Page, end_word};
-use bx_inodes::Stop;
 use bx_layout::Inode;
 use bx_model::{Call, Reply, Want};
+use bx_reads::inodes::Stop;
 use bx_reads::named_inode;
 use bx_views::View;
 use std::alloc::Global;

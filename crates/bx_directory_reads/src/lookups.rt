@@ -2,12 +2,12 @@
 
 ghost use Rattle.std.specs.Prelude.{◌≡◌, ◌<◌, ◌≤◌, ◌^◌, ℕ, List, [], IfOk, Some};
 ghost use Rattle.bx_dirs.specs.Entries.{HasEntries};
-ghost use Rattle.bx_files.specs.Paths.{IsBlockOf, OnSearch};
+ghost use Rattle.bx_reads.specs.bx_files.specs.Paths.{IsBlockOf, OnSearch};
 ghost use Rattle.bx_places.specs.Handles.{file_text};
-ghost use Rattle.bx_inodes.specs.Fitting.{HintsFitAll};
-ghost use Rattle.bx_inodes.specs.Inodes.{shown_size};
-ghost use Rattle.bx_inodes.specs.Stands.{Stands};
-ghost use Rattle.bx_inodes.specs.Stops.{NeedsOn, NeverInner};
+ghost use Rattle.bx_reads.specs.bx_inodes.specs.Fitting.{HintsFitAll};
+ghost use Rattle.bx_reads.specs.bx_inodes.specs.Inodes.{shown_size};
+ghost use Rattle.bx_reads.specs.bx_inodes.specs.Stands.{Stands};
+ghost use Rattle.bx_reads.specs.bx_inodes.specs.Stops.{NeedsOn, NeverInner};
 ghost use Rattle.bx_model.specs.declared.tree.Tree.{Tree};
 ghost use Rattle.bx_model.specs.declared.reply.Reply.TheVariants.{Handle};
 ghost use Rattle.bx_model.specs.Reading.{lookup as lookup_of};
@@ -24,13 +24,12 @@ ghost use Rattle.bx_directory_reads.specs.Lookups.{MayMean, MeansIn, OnLooking, 
 
 use crate::opening::directory_error;
 use bx_base::{Mode, OutOfMemory, Raw};
-use bx_blink::BlinkError;
-use bx_files::needed;
-use bx_inodes::{Stop, inode_at};
+use bx_dirs::blink::BlinkError;
 use bx_layout::Inode;
 use bx_model::{Call, NOENT, Reply, STALE, Want};
 use bx_places::file_handle;
-use bx_reads::{attributes_by, named_inode};
+use bx_reads::inodes::{Stop, inode_at};
+use bx_reads::{attributes_by, named_inode, needed};
 use bx_records::Draft;
 use bx_views::View;
 use std::alloc::Global;

@@ -1,13 +1,13 @@
 //! Who may look into a directory.
 
 ghost use Rattle.std.specs.Prelude.{◌≡◌, IfOk};
-ghost use Rattle.bx_inodes.specs.Heads.{head_of as head_by};
+ghost use Rattle.bx_reads.specs.bx_inodes.specs.Heads.{head_of as head_by};
 ghost use Rattle.bx_directory_reads.specs.Lookups.{open_error};
 
 use bx_base::OutOfMemory;
-use bx_inodes::head_of;
 use bx_layout::Inode;
 use bx_model::{ACCES, Call, NOTDIR, Want, may};
+use bx_reads::inodes::head_of;
 use bx_tree_files::DIRECTORY;
 use std::alloc::Global;
 

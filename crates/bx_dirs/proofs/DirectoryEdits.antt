@@ -21,7 +21,7 @@ use Rattle.bx_truth.proofs.OneFiles.{one_inode}
 use Rattle.bx_truth.proofs.Put.{shown}
 use Rattle.bx_truth.proofs.FilesInOrder.{file_with}
 use Rattle.bx_views.specs.Truths.{Truth, Held, Hints, with_draft}
-use Rattle.bx_blink.specs.Hints.{HintsFit, Under}
+use Rattle.bx_leaves.specs.bx_blink.specs.Hints.{HintsFit, Under}
 use Rattle.bx_inodes.specs.Inodes.{HoldsInode}
 use Rattle.bx_inodes.specs.Fitting.{HintsFitAll, IsPageUnder}
 use Rattle.bx_inodes.proofs.Later.{fit_still}

@@ -10,7 +10,7 @@ use Rattle.bx_truth.specs.PageTrees.{Node, PageTree, IsTree, IsPageOf}
 use Rattle.bx_truth.proofs.Adding.{anew_and, slots_and}
 use Rattle.bx_truth.proofs.Cases.{same_or}
 use Rattle.bx_views.specs.Truths.{Truth, Held, Hints, with_draft}
-use Rattle.bx_blink.specs.Hints.{HintsFit}
+use Rattle.bx_leaves.specs.bx_blink.specs.Hints.{HintsFit}
 use Rattle.bx_leaves.specs.Changes.{MakesMap}
 
 -- a page of a tree, by its handle

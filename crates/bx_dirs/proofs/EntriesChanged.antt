@@ -14,9 +14,9 @@ use Rattle.bx_truth.specs.PageTrees.{PageTree, map_of, without_entry}
 use Rattle.bx_truth.specs.Stored.{AreNames, IsOfName}
 use Rattle.bx_truth.proofs.Names.{names_added, names_taken, value_with, value_without}
 use Rattle.bx_views.specs.Truths.{Truth, Held, Hints, with_draft}
-use Rattle.bx_blink.specs.Hints.{Under}
-use Rattle.bx_blink.specs.declared.error.BlinkError.{BlinkError}
-use Rattle.bx_blink.specs.declared.error.BlinkError.TheVariants.{Need, Stale, Full, NoRoom, Absent, Present, OutOfMemory, Crowded}
+use Rattle.bx_leaves.specs.bx_blink.specs.Hints.{Under}
+use Rattle.bx_leaves.specs.bx_blink.specs.declared.error.BlinkError.{BlinkError}
+use Rattle.bx_leaves.specs.bx_blink.specs.declared.error.BlinkError.TheVariants.{Need, Stale, Full, NoRoom, Absent, Present, OutOfMemory, Crowded}
 use Rattle.bx_leaves.specs.Changes.{InsertsIn, RemovesIn}
 use Rattle.bx_leaves.specs.Leaves.{RemovesAt}
 use Rattle.bx_leaves.proofs.Done.{inserts_in, removes_in}

@@ -8,7 +8,7 @@ use Rattle.bx_page.specs.declared.entry.Entry.{Entry}
 use Rattle.bx_page.specs.Keys.{is_below, IsBelow}
 use Rattle.bx_page.specs.Contents.{Rises}
 use Rattle.bx_truth.specs.PageTrees.{Chunks, Node, IsIn, IsNode, Leads, IsLevel, PageTree, IsTree, entries_of, map_of}
-use Rattle.bx_blink.proofs.Keys.{lt_le, lt_not}
+use Rattle.bx_leaves.specs.bx_blink.proofs.Keys.{lt_le, lt_not}
 
 here : (node : Node) (others : List Node) → IsIn node (node ∷ others)
 here node others = record { before = []; behind = others; parts = refl }

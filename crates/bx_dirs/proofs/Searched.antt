@@ -10,11 +10,11 @@ use Rattle.bx_tree_files.specs.declared.file.Name.{Name}
 use Rattle.bx_tree_files.specs.Entries.{above}
 use Rattle.bx_truth.specs.Keys.{name_key, entry_key, entry_value}
 use Rattle.bx_truth.specs.Stored.{AreNames, IsOfName}
-use Rattle.bx_blink.specs.Answers.{FindsAt, FindsIn}
-use Rattle.bx_blink.specs.Runs.{NextIn}
-use Rattle.bx_blink.specs.declared.error.BlinkError.{BlinkError}
-use Rattle.bx_blink.specs.declared.error.BlinkError.TheVariants.{Need, Stale, Full, NoRoom, Absent, Present, OutOfMemory, Crowded}
-use Rattle.bx_blink.specs.declared.steps.End.{End}
+use Rattle.bx_leaves.specs.bx_blink.specs.Answers.{FindsAt, FindsIn}
+use Rattle.bx_leaves.specs.bx_blink.specs.Runs.{NextIn}
+use Rattle.bx_leaves.specs.bx_blink.specs.declared.error.BlinkError.{BlinkError}
+use Rattle.bx_leaves.specs.bx_blink.specs.declared.error.BlinkError.TheVariants.{Need, Stale, Full, NoRoom, Absent, Present, OutOfMemory, Crowded}
+use Rattle.bx_leaves.specs.bx_blink.specs.declared.steps.End.{End}
 use Rattle.bx_dirs.specs.Entries.{IsNoNumbered, IsNoPlace, key_behind}
 use Rattle.bx_dirs.specs.Searches.{FollowsAt, FollowsIn, LooksUpAt, LooksUpIn}
 use Rattle.bx_dirs.proofs.Firsts.{IsFirstFrom, first_from, least_above, none_above, none_from}

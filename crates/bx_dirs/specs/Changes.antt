@@ -6,9 +6,9 @@ use Rattle.bx_tree_files.specs.declared.file.Name.{Name}
 use Rattle.bx_tree_files.specs.Entries.{entry_named, with_name, without_name}
 use Rattle.bx_truth.specs.Keys.{name_key, name_value, entry_key, entry_value}
 use Rattle.bx_views.specs.Truths.{Truth, Held, Hints}
-use Rattle.bx_blink.specs.Walks.{reads_with}
-use Rattle.bx_blink.specs.declared.error.BlinkError.{BlinkError}
-use Rattle.bx_blink.specs.declared.error.BlinkError.TheVariants.{Need, Stale, Full, NoRoom, Absent, Present, OutOfMemory, Crowded}
+use Rattle.bx_leaves.specs.bx_blink.specs.Walks.{reads_with}
+use Rattle.bx_leaves.specs.bx_blink.specs.declared.error.BlinkError.{BlinkError}
+use Rattle.bx_leaves.specs.bx_blink.specs.declared.error.BlinkError.TheVariants.{Need, Stale, Full, NoRoom, Absent, Present, OutOfMemory, Crowded}
 use Rattle.bx_leaves.specs.Leaves.{InsertsAt, RemovesAt, OnLeafPath}
 use Rattle.bx_dirs.specs.Entries.{HasEntries}
 

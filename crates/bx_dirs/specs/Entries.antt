@@ -7,7 +7,7 @@ use Rattle.bx_truth.specs.Keys.{name_value, entry_key, entry_value}
 use Rattle.bx_truth.specs.PageTrees.{PageTree, map_of}
 use Rattle.bx_truth.specs.Stored.{AreNames}
 use Rattle.bx_views.specs.Truths.{Truth, Held, Hints}
-use Rattle.bx_blink.specs.Hints.{Under}
+use Rattle.bx_leaves.specs.bx_blink.specs.Hints.{Under}
 
 -- What calls on a directory rest on, for a truth: the tree under its root has these entries, by their numbers and by their names.
 pub record HasEntries (areas : ℕ) (held : Held) (hints : Hints) (truth : Truth) (draft : List Changed) (root : ℕ) (names : List Name) : Type 0 where

@@ -3,11 +3,11 @@ use Rattle.std.specs.Prelude.{◌≡◌, ℕ, ◌⊎◌, List, [], ◌∷◌, Op
 use Rattle.bx_tree_files.specs.declared.file.Name.{Name}
 use Rattle.bx_tree_files.specs.Entries.{above, entry_named}
 use Rattle.bx_truth.specs.Keys.{name_value, entry_key, entry_value}
-use Rattle.bx_blink.specs.Answers.{LandsWith}
-use Rattle.bx_blink.specs.declared.error.BlinkError.{BlinkError}
-use Rattle.bx_blink.specs.declared.error.BlinkError.TheVariants.{Need, Stale, Full, NoRoom, Absent, Present, OutOfMemory, Crowded}
-use Rattle.bx_blink.specs.declared.steps.End.{End}
-use Rattle.bx_blink.specs.declared.steps.End.TheVariants.{Needs, Lost}
+use Rattle.bx_leaves.specs.bx_blink.specs.Answers.{LandsWith}
+use Rattle.bx_leaves.specs.bx_blink.specs.declared.error.BlinkError.{BlinkError}
+use Rattle.bx_leaves.specs.bx_blink.specs.declared.error.BlinkError.TheVariants.{Need, Stale, Full, NoRoom, Absent, Present, OutOfMemory, Crowded}
+use Rattle.bx_leaves.specs.bx_blink.specs.declared.steps.End.{End}
+use Rattle.bx_leaves.specs.bx_blink.specs.declared.steps.End.TheVariants.{Needs, Lost}
 use Rattle.bx_dirs.specs.Entries.{IsNoPlace, IsNoNumbered}
 
 -- What looking a name up answers, by the list of entries: the number and the handle of the one that has it. In a directory it is never lost.

@@ -14,9 +14,9 @@ ghost use Rattle.bx_dirs.specs.Changes.{AddsAt, AddsIn, OnAddPath, OnTakePath, P
 ghost use Rattle.bx_dirs.specs.Edits.{EditsDirectory, IsDirectoryUnder};
 ghost use Rattle.bx_dirs.specs.Entries.{HasEntries};
 
-use bx_blink::BlinkError;
 use bx_chunks::copy_of;
 use bx_keys::{key_by_name, key_by_number, value_by_name, value_by_number};
+use bx_leaves::blink::BlinkError;
 use bx_leaves::{insert, remove};
 use bx_records::Draft;
 use bx_views::View;

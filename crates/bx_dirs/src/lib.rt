@@ -10,3 +10,8 @@ pub use changes::{add, take};
 pub use keys::{key_behind, numbered_in};
 pub use laws::a_directory_has_entries;
 pub use searches::{after, lookup};
+
+/// What the crates above use of `bx_blink`.
+pub mod blink {
+    pub use bx_leaves::blink::{BlinkError, leaf_from};
+}

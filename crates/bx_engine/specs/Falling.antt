@@ -1,6 +1,6 @@
 -- A step of cleaning that writes nothing isn't one.
 use Rattle.std.proofs.Common.{◌≡◌, ℕ, ◌∙◌, Some, length, sym, ap, subst, arith, inl, inr}
-use Rattle.bx_clean.specs.Falling.{Falls, HoldsPageOf}
+use Rattle.bx_attempts.specs.bx_clean.specs.Falling.{Falls, HoldsPageOf}
 use Rattle.bx_layout.specs.declared.block.Block.{Block}
 use Rattle.bx_page.specs.Contents.{Contents}
 use Rattle.bx_page.proofs.Whole.{one_page}

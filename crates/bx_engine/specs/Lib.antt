@@ -8,3 +8,4 @@ pub mod Hinting
 pub mod Outcomes
 pub mod Paths
 pub mod Sharing
+pub use Rattle.bx_attempts.specs.bx_clean

@@ -3,8 +3,8 @@ use Rattle.std.specs.Prelude.{◌≡◌, ℕ, ◌⊎◌, List}
 use Rattle.bx_attempts.specs.Paths.{ChangePathOf}
 use Rattle.bx_base.specs.declared.names.Mode.{Mode}
 use Rattle.bx_base.specs.declared.names.Mode.TheVariants.{Shared}
-use Rattle.bx_directory_reads.specs.Listings.{OnListing}
-use Rattle.bx_directory_reads.specs.Lookups.{OnLooking}
+use Rattle.bx_attempts.specs.bx_directory_reads.specs.Listings.{OnListing}
+use Rattle.bx_attempts.specs.bx_directory_reads.specs.Lookups.{OnLooking}
 use Rattle.bx_inodes.specs.Stops.{OnInode}
 use Rattle.bx_model.specs.declared.call.Args.{Args}
 use Rattle.bx_model.specs.declared.call.Args.TheVariants.{Handle, List as Listing, Name, Read}

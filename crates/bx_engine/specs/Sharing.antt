@@ -4,12 +4,12 @@ use Rattle.std.specs.Prelude.{◌⊎◌}
 use Rattle.bx_attempts.specs.Paths.{ChangePathOf}
 use Rattle.bx_base.specs.declared.names.Mode.{Mode}
 use Rattle.bx_base.specs.declared.names.Mode.TheVariants.{Shared}
-use Rattle.bx_directory_reads.specs.Listings.{OnListing}
-use Rattle.bx_directory_reads.specs.Lookups.{IsMeantBlock, OnLooking}
+use Rattle.bx_attempts.specs.bx_directory_reads.specs.Listings.{OnListing}
+use Rattle.bx_attempts.specs.bx_directory_reads.specs.Lookups.{IsMeantBlock, OnLooking}
 use Rattle.bx_engine.specs.Datagrams.{path_of}
 use Rattle.bx_engine.specs.Calls.{HasReadArgs, IsReadCall, IsReading}
 use Rattle.bx_engine.specs.Paths.{HasOneBlock, IsOnPath, PathOf, ReadPathOf}
-use Rattle.bx_files.specs.Paths.{OnPiece, OnSearch}
+use Rattle.bx_reads.specs.bx_files.specs.Paths.{OnPiece, OnSearch}
 use Rattle.bx_inodes.specs.Stops.{OnInode}
 use Rattle.bx_model.specs.declared.call.Args.{Args}
 use Rattle.bx_model.specs.declared.call.Args.TheVariants.{Handle, Link, List as Listing, Make, Name, Read, Refused, Rename, Set, Symlink, Write}

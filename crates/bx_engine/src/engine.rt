@@ -20,8 +20,8 @@ pub struct BoxFs {
 
 impl Engine for BoxFs {
     ghost use Rattle.bx_chunks.specs.Counting.{free_slots};
-    ghost use Rattle.bx_clean.specs.Falling.{Falls};
-    ghost use Rattle.bx_clean.specs.Tidying.{IsClean, OnTidyPath};
+    ghost use Rattle.bx_attempts.specs.bx_clean.specs.Falling.{Falls};
+    ghost use Rattle.bx_attempts.specs.bx_clean.specs.Tidying.{IsClean, OnTidyPath};
     ghost use Rattle.bx_engine.specs.Calls.{AsksFree, IsAtOnceCall, IsReadCall, TellsSpace};
     ghost use Rattle.bx_engine.specs.Elsewhere.{stands_elsewhere};
     ghost use Rattle.bx_engine.specs.Falling.{falls_not};

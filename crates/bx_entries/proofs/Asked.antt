@@ -10,16 +10,16 @@ use Rattle.bx_blink.proofs.Rights.{on_way, step}
 use Rattle.bx_blink.proofs.Under.{agrees}
 use Rattle.bx_blink.proofs.Visits.{slot_of_spot}
 use Rattle.bx_chunks.proofs.TakenSlots.{slots_block}
-use Rattle.bx_dirs.specs.Changes.{OnAddPath}
+use Rattle.bx_directory_reads.specs.bx_dirs.specs.Changes.{OnAddPath}
 use Rattle.bx_entries.proofs.Leaves.{leaf_block}
-use Rattle.bx_files.proofs.Slots.{slot_is_block}
+use Rattle.bx_changes.specs.bx_files.proofs.Slots.{slot_is_block}
 use Rattle.bx_layout.specs.declared.block.Block.{Block}
 use Rattle.bx_leaves.proofs.Done.{inserts_in}
 use Rattle.bx_page.specs.Contents.{Contents}
 use Rattle.bx_page.proofs.Whole.{one_page}
 use Rattle.bx_places.specs.Places.{is_block}
-use Rattle.bx_posts.specs.Posts.{OnPostPath, page, parent, slot}
-use Rattle.bx_posts.specs.Separators.{ShowsSeparator}
+use Rattle.bx_ready.specs.bx_posts.specs.Posts.{OnPostPath, page, parent, slot}
+use Rattle.bx_ready.specs.bx_posts.specs.Separators.{ShowsSeparator}
 use Rattle.bx_records.specs.Drafts.{Changed}
 use Rattle.bx_ready.specs.Ready.{OnReadyPath}
 use Rattle.bx_ready.specs.Rooms.{OnSplitPath}

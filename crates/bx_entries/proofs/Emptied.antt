@@ -3,8 +3,8 @@ use Rattle.std.proofs.Common.{◌≡◌, ℕ, ◌≤◌, Bool, true, false, List
 use Rattle.std.specs.Prelude.{nat_lt, if◌then◌else◌, Contains, length, Ok, Err}
 use Rattle.std.proofs.lemmas.Bool.Decides.{nat_tests}
 use Rattle.bx_directory_reads.specs.Listings.{FollowsSo}
-use Rattle.bx_dirs.specs.Entries.{HasEntries}
-use Rattle.bx_files.specs.Reads.{Tells}
+use Rattle.bx_directory_reads.specs.bx_dirs.specs.Entries.{HasEntries}
+use Rattle.bx_changes.specs.bx_files.specs.Reads.{Tells}
 use Rattle.bx_inodes.specs.declared.stop.Stop.{Stop}
 use Rattle.bx_inodes.specs.declared.stop.Stop.TheVariants.{Need, Inner, Status, OutOfMemory}
 use Rattle.bx_layout.specs.declared.inode.Inode.{Inode}

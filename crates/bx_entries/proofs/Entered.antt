@@ -6,10 +6,10 @@ use Rattle.bx_blink.specs.declared.error.BlinkError.TheVariants as tree_error
 use Rattle.bx_blink.specs.Hints.{Under}
 use Rattle.bx_changes.proofs.FileChanged.{changed_is_put}
 use Rattle.bx_changes.specs.declared.error.ChangeError.{ChangeError}
-use Rattle.bx_dirs.specs.Changes.{AddsAt, AddsIn, OnAddPath, entry_of}
-use Rattle.bx_dirs.specs.Edits.{EditsDirectory, IsDirectoryUnder, with_names}
-use Rattle.bx_dirs.specs.Entries.{HasEntries}
-use Rattle.bx_dirs.proofs.Directories.{has_entries}
+use Rattle.bx_directory_reads.specs.bx_dirs.specs.Changes.{AddsAt, AddsIn, OnAddPath, entry_of}
+use Rattle.bx_directory_reads.specs.bx_dirs.specs.Edits.{EditsDirectory, IsDirectoryUnder, with_names}
+use Rattle.bx_directory_reads.specs.bx_dirs.specs.Entries.{HasEntries}
+use Rattle.bx_directory_reads.specs.bx_dirs.proofs.Directories.{has_entries}
 use Rattle.bx_entries.proofs.InodePut.{elsewhere, fits}
 use Rattle.bx_entries.proofs.Twice.{twice}
 use Rattle.bx_inodes.proofs.Pages.{inode_is}

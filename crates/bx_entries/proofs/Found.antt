@@ -1,8 +1,8 @@
 -- What a removal comes to by what it finds: the directory, the entry, the file.
 use Rattle.std.proofs.Common.{◌≡◌, ℕ, Bool, true, false, List, Option, Some, None, refl, sym, ap, ◌∙◌, subst, inl, inr}
 use Rattle.std.specs.Prelude.{not, if◌then◌else◌, Result, Ok, Err}
-use Rattle.bx_files.specs.Paths.{IsNeed}
-use Rattle.bx_files.specs.Reads.{Tells}
+use Rattle.bx_changes.specs.bx_files.specs.Paths.{IsNeed}
+use Rattle.bx_changes.specs.bx_files.specs.Reads.{Tells}
 use Rattle.bx_inodes.specs.Heads.{head_of}
 use Rattle.bx_inodes.specs.Inodes.{FileAt, IsInodeOf}
 use Rattle.bx_inodes.specs.declared.stop.Stop.{Stop}

@@ -9,8 +9,8 @@ use Rattle.bx_blink.proofs.OnWay.{After, IsOnWay}
 use Rattle.bx_blink.proofs.Rights.{on_way, step}
 use Rattle.bx_blink.proofs.Under.{agrees}
 use Rattle.bx_blink.proofs.Visits.{slot_of_spot}
-use Rattle.bx_dirs.specs.Changes.{OnTakePath}
-use Rattle.bx_files.proofs.Slots.{slot_is_block}
+use Rattle.bx_directory_reads.specs.bx_dirs.specs.Changes.{OnTakePath}
+use Rattle.bx_changes.specs.bx_files.proofs.Slots.{slot_is_block}
 use Rattle.bx_leaves.specs.Leaves.{OnLeafPath}
 use Rattle.bx_leaves.proofs.Done.{removes_in}
 use Rattle.bx_places.specs.Places.{is_block}

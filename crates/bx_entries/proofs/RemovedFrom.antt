@@ -3,9 +3,9 @@ use Rattle.std.proofs.Common.{◌≡◌, ℕ, ◌+◌, ◌*◌, ◌/◌, ◌<◌
 use Rattle.std.specs.Prelude.{not, if◌then◌else◌, Result, Ok, Err}
 use Rattle.bx_base.specs.declared.names.Mode.{Mode}
 use Rattle.bx_changes.specs.Changes.{Changes, IsChange}
-use Rattle.bx_files.proofs.Needs.{needs_along}
+use Rattle.bx_changes.specs.bx_files.proofs.Needs.{needs_along}
 use Rattle.bx_inodes.specs.Stops.{NeedsOn}
-use Rattle.bx_dirs.specs.Entries.{HasEntries}
+use Rattle.bx_directory_reads.specs.bx_dirs.specs.Entries.{HasEntries}
 use Rattle.bx_places.specs.Handles.{named, parts_of}
 use Rattle.bx_inodes.specs.Fitting.{HintsFitAll}
 use Rattle.bx_inodes.proofs.Pages.{has_pages}

@@ -11,7 +11,7 @@ use Rattle.bx_blink.specs.Places.{IsPlaceOf}
 use Rattle.bx_blink.specs.Walks.{reads_with}
 use Rattle.bx_blink.proofs.Found.{place}
 use Rattle.bx_blink.proofs.Under.{agrees}
-use Rattle.bx_dirs.specs.Changes.{AddsAt, PutsByName, PutsByNumber, entry_of}
+use Rattle.bx_directory_reads.specs.bx_dirs.specs.Changes.{AddsAt, PutsByName, PutsByNumber, entry_of}
 use Rattle.bx_leaves.proofs.Done.{inserts_in}
 use Rattle.bx_making.proofs.Puts.{put_chunk}
 use Rattle.bx_page.specs.Contents.{Contents, above, below, size, with_value}

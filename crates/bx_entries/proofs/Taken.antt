@@ -3,10 +3,10 @@ use Rattle.std.proofs.Common.{◌≡◌, ℕ, ◌≤◌, Bool, true, false, List
 use Rattle.std.specs.Prelude.{◌≢◌, ◌+◌, ◌==◌, if◌then◌else◌, length, Ok, Err}
 use Rattle.bx_blink.specs.declared.error.BlinkError.{BlinkError}
 use Rattle.bx_blink.specs.declared.error.BlinkError.TheVariants as tree_error
-use Rattle.bx_dirs.specs.Changes.{OnTakePath, TakesAt, TakesIn}
-use Rattle.bx_dirs.specs.Edits.{EditsDirectory, IsDirectoryUnder, with_names}
-use Rattle.bx_dirs.specs.Entries.{HasEntries}
-use Rattle.bx_dirs.proofs.DirectoryEdits.{entries, pages, under}
+use Rattle.bx_directory_reads.specs.bx_dirs.specs.Changes.{OnTakePath, TakesAt, TakesIn}
+use Rattle.bx_directory_reads.specs.bx_dirs.specs.Edits.{EditsDirectory, IsDirectoryUnder, with_names}
+use Rattle.bx_directory_reads.specs.bx_dirs.specs.Entries.{HasEntries}
+use Rattle.bx_directory_reads.specs.bx_dirs.proofs.DirectoryEdits.{entries, pages, under}
 use Rattle.bx_inodes.specs.Inodes.{HoldsInode}
 use Rattle.bx_inodes.specs.Writing.{PutsInode}
 use Rattle.bx_inodes.specs.declared.stop.Stop.{Stop}

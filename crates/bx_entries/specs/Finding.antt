@@ -3,7 +3,7 @@ use Rattle.std.specs.Prelude.{◌≡◌, ℕ, ◌≤◌, ◌⊎◌, not, if◌th
 use Rattle.bx_base.specs.declared.names.Mode.{Mode}
 use Rattle.bx_base.specs.declared.names.Mode.TheVariants.{Exclusive}
 use Rattle.bx_blink.specs.Walks.{reads_with}
-use Rattle.bx_files.specs.Paths.{Finds, OnSearch}
+use Rattle.bx_changes.specs.bx_files.specs.Paths.{Finds, OnSearch}
 use Rattle.bx_places.specs.Handles.{named}
 use Rattle.bx_inodes.specs.Fitting.{HintsFitAll}
 use Rattle.bx_inodes.specs.Inodes.{IsInodeOf, LiveAt}

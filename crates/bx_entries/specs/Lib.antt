@@ -7,3 +7,7 @@ pub mod Rooms
 pub mod Entering
 pub mod RoomFinding
 pub mod Lacking
+pub use Rattle.bx_directory_reads
+pub use Rattle.bx_directory_reads.specs.bx_dirs
+pub use Rattle.bx_making
+pub use Rattle.bx_ready

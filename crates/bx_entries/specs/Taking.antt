@@ -1,6 +1,6 @@
 -- What taking an entry out of a directory rests on, and what it leaves.
 use Rattle.std.specs.Prelude.{◌≡◌, ◌≢◌, ℕ, ◌-◌, ◌≤◌, Bool, if◌then◌else◌, List, Some, Result, Ok, Err}
-use Rattle.bx_dirs.specs.Changes.{TakesAt}
+use Rattle.bx_directory_reads.specs.bx_dirs.specs.Changes.{TakesAt}
 use Rattle.bx_inodes.specs.Fitting.{HintsFitAll}
 use Rattle.bx_inodes.specs.Inodes.{HoldsInode}
 use Rattle.bx_inodes.specs.Writing.{PutsInode}

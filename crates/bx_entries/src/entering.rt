@@ -2,12 +2,12 @@
 
 ghost use Rattle.std.specs.Prelude.{◌≡◌, ◌+◌, ◌≤◌, length, IfErr, IfOk, IfSome, IfNone, IsSome};
 ghost use Rattle.bx_changes.specs.Procedures.{Exclusive, File, HoldsFirst, IfFull, IsHeldDraft, IsInode, NeedsBy, NeverFirst, Tree, Truth, block_at};
-ghost use Rattle.bx_dirs.specs.Changes.{OnAddPath, entry_of};
+ghost use Rattle.bx_directory_reads.specs.bx_dirs.specs.Changes.{OnAddPath, entry_of};
 ghost use Rattle.bx_entries.specs.Entering.{EntersIn, HasNumbers, MayEnter, PutsInAt, entered_inode};
 
 use crate::Known;
 use bx_changes::ChangeError;
-use bx_dirs::add;
+use bx_directory_reads::dirs::add;
 use bx_inodes::{Stop, put_inode};
 use bx_layout::Inode;
 use bx_model::STALE;

@@ -2,9 +2,9 @@
 
 ghost use Rattle.std.specs.Prelude.{◌≡◌, ◌≤◌, ℕ, List, [], IfOk, Some};
 ghost use Rattle.bx_changes.specs.Procedures.{Exclusive, File, HintsFitAll, IsTruth, LiveAt, Name, NeedsOn, NeverInner, Stands, StandsFor, Tree, Truth, reads_with};
-ghost use Rattle.bx_dirs.specs.Entries.{HasEntries};
-ghost use Rattle.bx_files.specs.Paths.{Finds, OnSearch};
-ghost use Rattle.bx_files.specs.Reads.{Tells};
+ghost use Rattle.bx_directory_reads.specs.bx_dirs.specs.Entries.{HasEntries};
+ghost use Rattle.bx_changes.specs.bx_files.specs.Paths.{Finds, OnSearch};
+ghost use Rattle.bx_changes.specs.bx_files.specs.Reads.{Tells};
 ghost use Rattle.bx_inodes.specs.Heads.{head_of as head_by};
 ghost use Rattle.bx_tree_files.specs.Times.{Time};
 ghost use Rattle.bx_truth.specs.Keys.{name_key, name_value};
@@ -13,8 +13,8 @@ ghost use Rattle.bx_entries.specs.Removing.{name_error as error_of};
 
 use bx_base::{Mode, OutOfMemory};
 use bx_blink::BlinkError;
+use bx_changes::files::needed;
 use bx_directory_reads::entry_behind;
-use bx_files::needed;
 use bx_inodes::{Stop, head_of, inode_at};
 use bx_layout::Inode;
 use bx_model::{ACCES, Call, ISDIR, NOENT, NOTDIR, NOTEMPTY, STALE, Want, may};
@@ -93,7 +93,7 @@ pub fn entry_for<V: View>(
     ensures need { NeedsOn areas (V.held view.now) (OnSearch (V.held view.now) (V.hints view.now) root (name_key name.now)) result }
     ensures inner { NeverInner result }
 {
-    match bx_dirs::lookup(alloc, view, root, name) {
+    match bx_directory_reads::dirs::lookup(alloc, view, root, name) {
         Ok(found) => Ok(found),
         Err(BlinkError::Absent) => Err(Stop::Status(NOENT)),
         Err(BlinkError::Need(at, _)) => Err(needed(areas, at)),

@@ -2,11 +2,11 @@
 
 ghost use Rattle.std.specs.Prelude.{◌≡◌, ◌+◌, ◌≤◌, length, IfOk, IsSome};
 ghost use Rattle.bx_changes.specs.Procedures.{Exclusive, File, IsHeldDraft, IsInode, NeedsOn, NeverInner, Tree, Truth, block_at};
-ghost use Rattle.bx_dirs.specs.Changes.{OnTakePath};
+ghost use Rattle.bx_directory_reads.specs.bx_dirs.specs.Changes.{OnTakePath};
 ghost use Rattle.bx_entries.specs.Taking.{IsEntryOf, TakesEntry, TakesOutAt, inode_without, links_left as left};
 
 use crate::stops::stop_of;
-use bx_dirs::take;
+use bx_directory_reads::dirs::take;
 use bx_inodes::{Stop, put_inode};
 use bx_layout::Inode;
 use bx_records::Draft;

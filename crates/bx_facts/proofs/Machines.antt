@@ -2,8 +2,8 @@
 use Rattle.std.proofs.Common.{◌≡◌, ◌≢◌, ℕ, Bool, true, false, ◌==◌, refl, sym, ap, arith}
 use Rattle.std.proofs.lemmas.Bool.Decides.{nat_tests}
 use Rattle.std.specs.Prelude.{if◌then◌else◌}
-use Rattle.bx_base.specs.declared.names.Actor.{Actor}
-use Rattle.bx_base.specs.declared.names.Actor.TheVariants.{Node, Replica, Server, Member}
+use Rattle.bx_records.specs.bx_base.specs.declared.names.Actor.{Actor}
+use Rattle.bx_records.specs.bx_base.specs.declared.names.Actor.TheVariants.{Node, Replica, Server, Member}
 use Rattle.bx_facts.specs.Machines.{is_same, put_at}
 
 equal : (n m : ℕ) → (n == m) ≡ true → n ≡ m

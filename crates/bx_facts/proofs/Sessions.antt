@@ -8,8 +8,8 @@ use Rattle.bx_global.specs.declared.change.Change.TheVariants.{Renew, Take, Open
 use Rattle.bx_global.specs.declared.state.GlobalState.{GlobalState}
 use Rattle.bx_global.specs.Allowed.{AreRising}
 use Rattle.bx_global.specs.Table.{effect, opened}
-use Rattle.bx_rows.specs.declared.session.SessionRow.{SessionRow}
-use Rattle.bx_rows.specs.Rows.{claimed, dead, expired}
+use Rattle.bx_global.specs.bx_rows.specs.declared.session.SessionRow.{SessionRow}
+use Rattle.bx_global.specs.bx_rows.specs.Rows.{claimed, dead, expired}
 use Rattle.bx_facts.specs.Chains.{IsAmong, state_after}
 use Rattle.bx_facts.specs.Sessions.{AreRows, IsRowOf}
 

@@ -2,10 +2,10 @@
 use Rattle.std.specs.Prelude.{◌≡◌, ℕ, ◌<◌, ◌⊎◌, Bool, true, false, ◌||◌, ◌&&◌, ◌==◌, find, List, [], ◌∷◌, Option, Some, None, Contains, IsSome, if◌then◌else◌, is_some, IfSome, slice_get}
 use Rattle.bx_global.specs.declared.change.Change.{Change}
 use Rattle.bx_global.specs.declared.change.Change.TheVariants.{Renew, Take, Open, Expire, Claim, Close, Shift}
-use Rattle.bx_rows.specs.declared.session.SessionRow.{SessionRow}
+use Rattle.bx_global.specs.bx_rows.specs.declared.session.SessionRow.{SessionRow}
 use Rattle.bx_global.specs.declared.state.GlobalState.{GlobalState}
 use Rattle.bx_global.specs.Table.{IsLegal, effect}
-use Rattle.bx_rows.specs.Words.{row_in, live_in, IsLive}
+use Rattle.bx_global.specs.bx_rows.specs.Words.{row_in, live_in, IsLive}
 
 -- The first state, and the changes that were decided since, the newest first. Sessions below `found` are of an earlier life of the
 -- volume: it is 0 where the machines begin with the volume, and the next session's number of the first state where they found it.

@@ -1,7 +1,7 @@
 -- What calls and crashes leave of the disks of a cluster: those of replicas are the first three, and members' stand behind them.
 use Rattle.std.specs.Prelude.{◌≡◌, ◌≢◌, ℕ, ◌+◌, ◌^◌, ◌<◌, ◌≤◌, ◌⊎◌, ◌==◌, max, Bool, true, false, List, slice_index, Option, Some, None}
-use Rattle.bx_base.specs.declared.names.Actor.{Actor}
-use Rattle.bx_disk.specs.Disks.{Image, Disks, IsSector, Stays}
+use Rattle.bx_records.specs.bx_base.specs.declared.names.Actor.{Actor}
+use Rattle.bx_calls.specs.bx_disk.specs.Disks.{Image, Disks, IsSector, Stays}
 use Rattle.bx_global.specs.declared.state.GlobalState.{GlobalState}
 use Rattle.bx_facts.specs.Machines.{disk_of}
 

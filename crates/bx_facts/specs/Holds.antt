@@ -1,14 +1,14 @@
 -- Holds of blocks, leases, and floors.
 use Rattle.std.specs.Prelude.{◌≡◌, ◌≢◌, ℕ, ltb, ◌==◌, ◌||◌, not, max, Bool, true, false, List, [], ◌∷◌, filter, Option, Some, None, IsSomeAnd, if◌then◌else◌}
-use Rattle.bx_base.specs.declared.names.Actor.{Actor}
-use Rattle.bx_base.specs.declared.names.Actor.TheVariants.{Node}
-use Rattle.bx_base.specs.declared.names.Mode.{Mode}
-use Rattle.bx_base.specs.declared.names.Mode.TheVariants.{Shared, Exclusive}
+use Rattle.bx_records.specs.bx_base.specs.declared.names.Actor.{Actor}
+use Rattle.bx_records.specs.bx_base.specs.declared.names.Actor.TheVariants.{Node}
+use Rattle.bx_records.specs.bx_base.specs.declared.names.Mode.{Mode}
+use Rattle.bx_records.specs.bx_base.specs.declared.names.Mode.TheVariants.{Shared, Exclusive}
 use Rattle.bx_global.specs.declared.change.Change.{Change}
 use Rattle.bx_global.specs.declared.change.Change.TheVariants.{Renew, Take, Open, Expire, Claim, Close, Shift}
 use Rattle.bx_global.specs.declared.state.GlobalState.{GlobalState}
 use Rattle.bx_global.specs.Table.{effect}
-use Rattle.bx_rows.specs.Words.{row_in}
+use Rattle.bx_global.specs.bx_rows.specs.Words.{row_in}
 use Rattle.bx_post.specs.declared.packets.Letter.{Letter}
 use Rattle.bx_facts.specs.declared.input.Input.{Input}
 use Rattle.bx_facts.specs.declared.input.Input.TheVariants.{Packet, Tick, Synced}

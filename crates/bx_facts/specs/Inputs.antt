@@ -1,7 +1,7 @@
 -- What comes to a machine: letters of its layer, and readings of its clock.
 use Rattle.std.specs.Prelude.{ℕ, ◌+◌, ◌≤◌, ◌⊎◌, max, List, Contains}
-use Rattle.bx_disk.specs.declared.fault.RackError.{RackError}
-use Rattle.bx_disk.specs.declared.fault.RackError.TheVariants.{Fault, OutOfMemory as NoMemory}
+use Rattle.bx_calls.specs.bx_disk.specs.declared.fault.RackError.{RackError}
+use Rattle.bx_calls.specs.bx_disk.specs.declared.fault.RackError.TheVariants.{Fault, OutOfMemory as NoMemory}
 use Rattle.bx_facts.specs.declared.input.FactError.{FactError}
 use Rattle.bx_facts.specs.declared.input.FactError.TheVariants.{Disk, OutOfMemory}
 use Rattle.bx_facts.specs.declared.input.Input.{Input}

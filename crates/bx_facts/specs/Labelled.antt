@@ -1,10 +1,10 @@
 -- Which replicas are labelled: their disks have labels of their own, of the volume that the first of these labels is of, and are as long as a
 -- replica's disk is.
 use Rattle.std.specs.Prelude.{◌≡◌, ℕ, ◌<◌, ◌≤◌, List, slice_index}
-use Rattle.bx_disk.specs.Disks.{Image}
-use Rattle.bx_layout.specs.Labels.{SpellsLabel}
-use Rattle.bx_layout.specs.declared.label.Label.{Label}
-use Rattle.bx_places.specs.Places.{replica_sectors}
+use Rattle.bx_calls.specs.bx_disk.specs.Disks.{Image}
+use Rattle.bx_records.specs.bx_layout.specs.Labels.{SpellsLabel}
+use Rattle.bx_records.specs.bx_layout.specs.declared.label.Label.{Label}
+use Rattle.bx_records.specs.bx_places.specs.Places.{replica_sectors}
 
 -- the disk of a replica, which has all of its sectors
 pub record IsWhole (sizes : List ℕ) (replica : ℕ) : Type 0 where

@@ -1,7 +1,7 @@
 -- Machines, and what is said of each.
 use Rattle.std.specs.Prelude.{◌≡◌, ◌≢◌, ℕ, ◌+◌, ◌<◌, Option, Some, None, if◌then◌else◌}
-use Rattle.bx_base.specs.declared.names.Actor.{Actor}
-use Rattle.bx_base.specs.declared.names.Actor.TheVariants.{Node, Replica, Server, Member}
+use Rattle.bx_records.specs.bx_base.specs.declared.names.Actor.{Actor}
+use Rattle.bx_records.specs.bx_base.specs.declared.names.Actor.TheVariants.{Node, Replica, Server, Member}
 pub use Rattle.bx_post.specs.Machines.{is_same}
 
 -- one machine has this, and each other has what it had

@@ -1,7 +1,7 @@
 -- What was done with a part of a cluster: what it was handed, what it handed back, and what came of it. No part stores any of this: whoever
 -- makes the calls knows it, and each part says of it only that it fits.
 use Rattle.std.specs.Prelude.{◌≡◌, ℕ, ◌+◌, ◌≤◌, ◌<◌, ◌⊎◌, max, Bool, true, false, List, [], ◌∷◌, ◌++◌, Option}
-use Rattle.bx_base.specs.declared.names.Actor.{Actor}
+use Rattle.bx_records.specs.bx_base.specs.declared.names.Actor.{Actor}
 use Rattle.bx_global.specs.declared.change.Change.{Change}
 use Rattle.bx_global.specs.declared.state.GlobalState.{GlobalState}
 use Rattle.bx_post.specs.declared.packets.Letter.{Letter}

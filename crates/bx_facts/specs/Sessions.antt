@@ -3,7 +3,7 @@ use Rattle.std.specs.Prelude.{◌≡◌, ℕ, ◌<◌, List}
 use Rattle.std.specs.List.{AllByRecursion}
 use Rattle.bx_global.specs.declared.change.Change.{Change}
 use Rattle.bx_global.specs.declared.state.GlobalState.{GlobalState}
-use Rattle.bx_rows.specs.declared.session.SessionRow.{SessionRow}
+use Rattle.bx_global.specs.bx_rows.specs.declared.session.SessionRow.{SessionRow}
 use Rattle.bx_facts.specs.Chains.{IsAmong, state_after}
 
 -- A row is of the node that its session is of, and its number was given out.

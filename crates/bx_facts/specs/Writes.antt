@@ -1,16 +1,16 @@
 -- Writes to devices, and what sectors hold.
 use Rattle.std.specs.Prelude.{◌≡◌, ℕ, ◌+◌, ◌-◌, ◌*◌, ◌/◌, ◌%◌, ◌<◌, ◌≤◌, ◌==◌, ◌⊎◌, not, Bool, true, false, List, [], ◌∷◌, filter, length, Contains, Option, Some, None, IfSome, slice_get, slice_index}
-use Rattle.bx_base.specs.declared.names.Actor.{Actor}
-use Rattle.bx_disk.specs.Disks.{Image, Disks, sector_of}
+use Rattle.bx_records.specs.bx_base.specs.declared.names.Actor.{Actor}
+use Rattle.bx_calls.specs.bx_disk.specs.Disks.{Image, Disks, sector_of}
 use Rattle.bx_global.specs.declared.change.Change.{Change}
 use Rattle.bx_global.specs.declared.state.GlobalState.{GlobalState}
-use Rattle.bx_layout.specs.Labels.{SpellsLabel}
-use Rattle.bx_layout.specs.declared.label.Label.{Label}
-use Rattle.bx_places.specs.Places.{member_sectors}
+use Rattle.bx_records.specs.bx_layout.specs.Labels.{SpellsLabel}
+use Rattle.bx_records.specs.bx_layout.specs.declared.label.Label.{Label}
+use Rattle.bx_records.specs.bx_places.specs.Places.{member_sectors}
 use Rattle.bx_post.specs.declared.packets.Letter.{Letter}
 use Rattle.bx_records.specs.declared.runs.Run.{Run}
-use Rattle.bx_rows.specs.declared.device.DeviceRow.{DeviceRow}
-use Rattle.bx_rows.specs.Modes.{IsSource, only_a, only_b}
+use Rattle.bx_global.specs.bx_rows.specs.declared.device.DeviceRow.{DeviceRow}
+use Rattle.bx_global.specs.bx_rows.specs.Modes.{IsSource, only_a, only_b}
 use Rattle.bx_facts.specs.declared.input.Input.{Input}
 use Rattle.bx_facts.specs.Chains.{LivesIn}
 use Rattle.bx_facts.specs.Pasts.{Told, found_told, heard, opening_told, told_crashed, told_failed, told_grown, told_restarted, told_with}

@@ -2,9 +2,9 @@
 
 ghost use Rattle.std.specs.Prelude.{◌≡◌};
 
-use bx_base::OutOfMemory;
-use bx_disk::{DiskFault, RackError};
+use bx_calls::disk::{DiskFault, RackError};
 use bx_post::Packet;
+use bx_records::base::OutOfMemory;
 use thiserror::Error;
 
 /// What comes to a machine in one event.

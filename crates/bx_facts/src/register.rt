@@ -1,17 +1,17 @@
 //! Registers: what the cluster has decided.
 
 ghost use Rattle.std.specs.Prelude.{◌≡◌, ◌≢◌, ℕ, ◌+◌, ◌<◌, ◌≤◌, ◌⊎◌, Bool, true, false, List, OnOk, IfOk, IsErrOf, length};
-ghost use Rattle.bx_base.specs.declared.names.Actor.{Actor};
-ghost use Rattle.bx_base.specs.declared.names.Actor.TheVariants.{Replica};
-ghost use Rattle.bx_disk.specs.Disks.{Image, Disks, IsImage};
-ghost use Rattle.bx_disk.specs.Counts.{NoneRose};
-ghost use Rattle.bx_disk.specs.Kept.{Counted};
+ghost use Rattle.bx_records.specs.bx_base.specs.declared.names.Actor.{Actor};
+ghost use Rattle.bx_records.specs.bx_base.specs.declared.names.Actor.TheVariants.{Replica};
+ghost use Rattle.bx_calls.specs.bx_disk.specs.Disks.{Image, Disks, IsImage};
+ghost use Rattle.bx_calls.specs.bx_disk.specs.Counts.{NoneRose};
+ghost use Rattle.bx_calls.specs.bx_disk.specs.Kept.{Counted};
 ghost use Rattle.bx_calls.specs.Calls.{LeavesOnly};
 ghost use Rattle.bx_global.specs.Allowed.{IsAllowed};
 ghost use Rattle.bx_global.specs.Table.{IsLegal};
 ghost use Rattle.bx_global.specs.declared.change.Change.{Change};
 ghost use Rattle.bx_global.specs.declared.state.GlobalState.{GlobalState};
-ghost use Rattle.bx_places.specs.Places.{replica_sectors};
+ghost use Rattle.bx_records.specs.bx_places.specs.Places.{replica_sectors};
 ghost use Rattle.bx_post.specs.declared.packets.Letter.{Letter};
 ghost use Rattle.bx_facts.specs.declared.input.FactError.TheVariants.{Disk as DiskFails, OutOfMemory as MemoryFails};
 ghost use Rattle.bx_facts.specs.declared.input.OpenError.TheVariants.{Disk as OpenFails, NoLabel, NoMajority, Spent};
@@ -24,10 +24,10 @@ ghost use Rattle.bx_facts.specs.Machines.{IsMachine, OnlyAt, OnlyFactsAt, SameFa
 ghost use Rattle.bx_facts.specs.Pasts.{Decides, MayHear, RegisterPast, found_register, opening_register, proposing, register_crashed, register_failed, register_restarted, register_with};
 
 use crate::input::{FactError, Input, OpenError, ProposeError};
-use bx_base::Actor;
-use bx_disk::Rack;
+use bx_calls::disk::Rack;
 use bx_global::{Change, GlobalState};
 use bx_post::Outbox;
+use bx_records::base::Actor;
 
 /// What the machines have agreed on: a chain of states, of which each machine knows one place. What was done with a register is no part
 /// of it: a clause says what fits it after a call, of each past that fitted it before.

@@ -1,17 +1,17 @@
 //! Stores: mirrored devices.
 
 ghost use Rattle.std.specs.Prelude.{◌≡◌, ◌≢◌, ℕ, ◌+◌, ◌-◌, ◌*◌, ◌<◌, ◌≤◌, ◌⊎◌, Bool, true, false, List, [], OnOk, IfOk, IfSome, IsErrOf, Option, Some, None, IsNone, IsSome, is_some};
-ghost use Rattle.bx_base.specs.declared.names.Actor.{Actor};
-ghost use Rattle.bx_base.specs.declared.names.Actor.TheVariants.{Node, Member};
-ghost use Rattle.bx_disk.specs.Disks.{Disks, blanked, sector_of};
-ghost use Rattle.bx_disk.specs.Counts.{NoneRose};
-ghost use Rattle.bx_disk.specs.Kept.{Counted};
+ghost use Rattle.bx_records.specs.bx_base.specs.declared.names.Actor.{Actor};
+ghost use Rattle.bx_records.specs.bx_base.specs.declared.names.Actor.TheVariants.{Node, Member};
+ghost use Rattle.bx_calls.specs.bx_disk.specs.Disks.{Disks, blanked, sector_of};
+ghost use Rattle.bx_calls.specs.bx_disk.specs.Counts.{NoneRose};
+ghost use Rattle.bx_calls.specs.bx_disk.specs.Kept.{Counted};
 ghost use Rattle.bx_calls.specs.Calls.{LeavesOnly};
 ghost use Rattle.bx_global.specs.Allowed.{IsAllowed};
 ghost use Rattle.bx_global.specs.Table.{IsLegal};
 ghost use Rattle.bx_global.specs.declared.change.Change.{Change};
 ghost use Rattle.bx_global.specs.declared.state.GlobalState.{GlobalState};
-ghost use Rattle.bx_layout.specs.Labels.{SpellsLabel};
+ghost use Rattle.bx_records.specs.bx_layout.specs.Labels.{SpellsLabel};
 ghost use Rattle.bx_post.specs.declared.packets.Letter.{Letter};
 ghost use Rattle.bx_facts.specs.declared.input.FactError.TheVariants.{Disk as DiskFails, OutOfMemory as MemoryFails};
 ghost use Rattle.bx_facts.specs.declared.input.Input.{Input};
@@ -23,11 +23,11 @@ ghost use Rattle.bx_facts.specs.Pasts.{MayRestart, MayTake};
 ghost use Rattle.bx_facts.specs.Writes.{AreRuns, Asked, GoesOn, HasSettled, IsDone, IsOfStore, IsOnly, IsOnlyOther, IsSettled, Made, MayWrite, NamesUpTo, Sent, StorePast, found_store, label_on, member_disk, opening_store, store_crashed, store_failed, store_grown, store_heard, store_restarted, store_room, store_with, without_session, writing};
 
 use crate::input::{FactError, Input};
-use bx_base::{Actor, OutOfMemory, Raw};
-use bx_disk::Rack;
+use bx_calls::disk::Rack;
 use bx_global::{Change, GlobalState};
 use bx_post::Outbox;
 use bx_records::Runs;
+use bx_records::base::{Actor, OutOfMemory, Raw};
 
 /// Devices, each on two members. All that is said of a sector is said of what is settled there: what each member that an audit
 /// would read has, and surely. What was done with a store is no part of it: a clause says what fits it after a call, of each past

@@ -3,15 +3,15 @@ use Rattle.std.proofs.Common.{◌≡◌, ℕ, zero, suc, ◌≤◌, true, List, 
 use Rattle.std.proofs.lemmas.Bool.{le-leb, lt-ltb}
 use Rattle.bx_base.specs.declared.names.Mode.{Mode}
 use Rattle.bx_base.specs.declared.names.Mode.TheVariants.{Shared}
-use Rattle.bx_blink.specs.Hints.{HintsAgree, Place, Sees, Under}
-use Rattle.bx_blink.specs.Walks.{MayAsk, OnPath, Reads, as_said, landed, most, reads_with, shared, start}
-use Rattle.bx_blink.proofs.OnWay.{After, IsOnWay}
-use Rattle.bx_blink.proofs.Rights.{on_way, step}
-use Rattle.bx_blink.proofs.Under.{agrees}
-use Rattle.bx_blink.proofs.Visits.{slot_of_spot}
+use Rattle.bx_inodes.specs.bx_blink.specs.Hints.{HintsAgree, Place, Sees, Under}
+use Rattle.bx_inodes.specs.bx_blink.specs.Walks.{MayAsk, OnPath, Reads, as_said, landed, most, reads_with, shared, start}
+use Rattle.bx_inodes.specs.bx_blink.proofs.OnWay.{After, IsOnWay}
+use Rattle.bx_inodes.specs.bx_blink.proofs.Rights.{on_way, step}
+use Rattle.bx_inodes.specs.bx_blink.proofs.Under.{agrees}
+use Rattle.bx_inodes.specs.bx_blink.proofs.Visits.{slot_of_spot}
 use Rattle.bx_places.specs.Places.{block_area, block_slot, is_block}
-use Rattle.bx_truth.specs.Chunks.{IsSlot, chunks_of}
-use Rattle.bx_truth.specs.PageTrees.{Chunks, IsTree, PageTree}
+use Rattle.bx_chunks.specs.bx_truth.specs.Chunks.{IsSlot, chunks_of}
+use Rattle.bx_chunks.specs.bx_truth.specs.PageTrees.{Chunks, IsTree, PageTree}
 use Rattle.bx_views.specs.Truths.{Held, Hints, Truth}
 
 -- a slot of a volume is one of its blocks

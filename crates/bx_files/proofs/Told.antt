@@ -8,10 +8,10 @@ use Rattle.bx_inodes.specs.declared.stop.Stop.TheVariants.{Need, Inner, Status, 
 use Rattle.bx_layout.specs.declared.block.Block.{Block}
 use Rattle.bx_page.specs.Contents.{value_of}
 use Rattle.bx_places.specs.Places.{is_block}
-use Rattle.bx_truth.specs.Keys.{content_key}
-use Rattle.bx_truth.specs.PageTrees.{Chunks, PageTree, handle_in, map_of}
-use Rattle.bx_truth.specs.Stored.{HasContents, Owner, Stored, piece_of}
-use Rattle.bx_truth.proofs.Frames.{handle_back}
+use Rattle.bx_chunks.specs.bx_truth.specs.Keys.{content_key}
+use Rattle.bx_chunks.specs.bx_truth.specs.PageTrees.{Chunks, PageTree, handle_in, map_of}
+use Rattle.bx_chunks.specs.bx_truth.specs.Stored.{HasContents, Owner, Stored, piece_of}
+use Rattle.bx_chunks.specs.bx_truth.proofs.Frames.{handle_back}
 
 -- a need of a block of the volume tells nothing
 pub need_told : {T : Type 0} (there : T) (areas at : ℕ) (stop : Stop) → IsNeed areas at stop → is_block areas at ≡ true → Tells there (Err stop)

@@ -6,7 +6,7 @@ use Rattle.std.proofs.lemmas.Bool.{cases_lt}
 use Rattle.std.proofs.lemmas.List.{ext_get_or, get_or-drop, get_or-take, length-drop, length-take}
 use Rattle.std.proofs.lemmas.List.Edits.{get_or-between, length-between}
 use Rattle.bx_layout.specs.declared.block.Block.{Block}
-use Rattle.bx_truth.specs.Stored.{AreBytesOf, byte_in}
+use Rattle.bx_chunks.specs.bx_truth.specs.Stored.{AreBytesOf, byte_in}
 use Rattle.bx_files.specs.Reads.{AreOfPieces}
 
 -- ---- pieces in numbers

@@ -2,16 +2,16 @@
 use Rattle.std.specs.Prelude.{◌≡◌, ℕ, ◌+◌, ◌/◌, ◌<◌, ◌≤◌, ◌⊎◌, true, false, List, [], Option, Some}
 use Rattle.bx_base.specs.declared.names.Mode.{Mode}
 use Rattle.bx_base.specs.declared.names.Mode.TheVariants.{Shared}
-use Rattle.bx_blink.specs.Answers.{LandsWith}
-use Rattle.bx_blink.specs.declared.steps.End.{End}
-use Rattle.bx_blink.specs.Walks.{Ends, OnPath, most, reads_with, start}
+use Rattle.bx_inodes.specs.bx_blink.specs.Answers.{LandsWith}
+use Rattle.bx_inodes.specs.bx_blink.specs.declared.steps.End.{End}
+use Rattle.bx_inodes.specs.bx_blink.specs.Walks.{Ends, OnPath, most, reads_with, start}
 use Rattle.bx_inodes.specs.declared.stop.Stop.{Stop}
 use Rattle.bx_inodes.specs.declared.stop.Stop.TheVariants.{Need, Status}
 use Rattle.bx_layout.specs.declared.inode.Inode.{Inode}
 use Rattle.bx_places.specs.Places.{is_block}
-use Rattle.bx_truth.specs.Chunks.{block_at}
-use Rattle.bx_truth.specs.Keys.{content_key}
-use Rattle.bx_truth.specs.PageTrees.{handle_in}
+use Rattle.bx_chunks.specs.bx_truth.specs.Chunks.{block_at}
+use Rattle.bx_chunks.specs.bx_truth.specs.Keys.{content_key}
+use Rattle.bx_chunks.specs.bx_truth.specs.PageTrees.{handle_in}
 use Rattle.bx_views.specs.Truths.{Held, Hints}
 
 -- a search for a key in the tree under a root ends so

@@ -3,7 +3,7 @@ use Rattle.std.specs.Prelude.{◌≡◌, ℕ, ◌+◌, ◌/◌, ◌%◌, ◌<◌
 use Rattle.bx_inodes.specs.declared.stop.Stop.{Stop}
 use Rattle.bx_inodes.specs.declared.stop.Stop.TheVariants.{Need, Inner, Status, OutOfMemory}
 use Rattle.bx_layout.specs.declared.block.Block.{Block}
-use Rattle.bx_truth.specs.Stored.{byte_in}
+use Rattle.bx_chunks.specs.bx_truth.specs.Stored.{byte_in}
 
 -- This is told, unless a block is needed first or memory ran out. No status comes.
 abbrev pub Tells : {T : Type 0} → T → Result T Stop → Type 0

@@ -1,7 +1,7 @@
 //! Keys and values of the trees of regular files.
 
 ghost use Rattle.std.specs.Prelude.{◌≡◌};
-ghost use Rattle.bx_truth.specs.Keys.{content_key as key_of_content};
+ghost use Rattle.bx_chunks.specs.bx_truth.specs.Keys.{content_key as key_of_content};
 
 /// The key of the piece with an index: 3, and the index.
 pub fn content_key(index: u32) -> [u8; 5]

@@ -2,10 +2,10 @@
 
 ghost use Rattle.std.specs.Prelude.{◌≡◌, ◌+◌, ◌*◌, ◌<◌, ◌≤◌, ◌^◌, ℕ, List, [], drop, length, slice_index, take};
 ghost use Rattle.std.specs.Option.{option_copied};
-ghost use Rattle.bx_truth.specs.Chunks.{chunks_of};
-ghost use Rattle.bx_truth.specs.Stored.{HasContents, IsRegular, Owner, Stored, byte_in, piece_of};
+ghost use Rattle.bx_chunks.specs.bx_truth.specs.Chunks.{chunks_of};
+ghost use Rattle.bx_chunks.specs.bx_truth.specs.Stored.{HasContents, IsRegular, Owner, Stored, byte_in, piece_of};
 ghost use Rattle.bx_views.specs.Truths.{Truth};
-ghost use Rattle.bx_blink.specs.Hints.{Under};
+ghost use Rattle.bx_inodes.specs.bx_blink.specs.Hints.{Under};
 ghost use Rattle.bx_inodes.specs.Stops.{NeedsOn, NeverInner};
 ghost use Rattle.bx_files.specs.Paths.{OnPieces, OnRead};
 ghost use Rattle.bx_files.specs.Reads.{ArePieces, Tells};

@@ -2,16 +2,16 @@
 
 ghost use Rattle.std.specs.Prelude.{[], IfOk};
 ghost use Rattle.bx_page.specs.Contents.{value_of};
-ghost use Rattle.bx_truth.specs.PageTrees.{PageTree, map_of};
+ghost use Rattle.bx_chunks.specs.bx_truth.specs.PageTrees.{PageTree, map_of};
 ghost use Rattle.bx_views.specs.Truths.{Truth};
-ghost use Rattle.bx_blink.specs.Hints.{Under};
+ghost use Rattle.bx_inodes.specs.bx_blink.specs.Hints.{Under};
 ghost use Rattle.bx_inodes.specs.Stops.{NeedsOn, NeverInner};
 ghost use Rattle.bx_files.specs.Paths.{Finds, IsNeed, OnSearch};
 ghost use Rattle.bx_files.specs.Reads.{Tells};
 
 use bx_base::{Mode, Raw};
-use bx_blink::{BlinkError, find};
 use bx_inodes::Stop;
+use bx_inodes::blink::{BlinkError, find};
 use bx_model::STALE;
 use bx_places::is_block;
 use bx_views::View;

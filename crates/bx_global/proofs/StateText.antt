@@ -4,11 +4,11 @@ use Rattle.std.specs.Int.{w64, to_be_bytes}
 use Rattle.std.specs.List.{AllByRecursion}
 use Rattle.std.proofs.lemmas.List.{append-nil}
 use Rattle.std.proofs.lemmas.Option.{some_pair_parts}
-use Rattle.bx_base.specs.Bytes.{IsBytes}
-use Rattle.bx_base.specs.declared.error.ReadError.{ReadError}
-use Rattle.bx_base.specs.declared.error.ReadError.TheVariants as errors
-use Rattle.bx_base.specs.Reading.{Fails}
-use Rattle.bx_base.proofs.Fields.{IsField, field64, then_field, as_field}
+use Rattle.bx_rows.specs.bx_base.specs.Bytes.{IsBytes}
+use Rattle.bx_rows.specs.bx_base.specs.declared.error.ReadError.{ReadError}
+use Rattle.bx_rows.specs.bx_base.specs.declared.error.ReadError.TheVariants as errors
+use Rattle.bx_rows.specs.bx_base.specs.Reading.{Fails}
+use Rattle.bx_rows.specs.bx_base.proofs.Fields.{IsField, field64, then_field, as_field}
 use Rattle.bx_rows.specs.declared.session.SessionRow.{SessionRow}
 use Rattle.bx_rows.specs.Conditions.{Fits, IsSession, IsDevice, IsPlaced}
 use Rattle.bx_rows.specs.Spelling.{pair_text}

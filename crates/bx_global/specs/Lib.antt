@@ -7,3 +7,4 @@ pub use Rattle.bx_rows.specs.Ballots
 pub use Rattle.bx_rows.specs.Modes
 pub use Rattle.bx_rows.specs.Rows
 pub use Rattle.bx_rows.specs.Words
+pub use Rattle.bx_rows

@@ -2,9 +2,9 @@
 use Rattle.std.specs.Prelude.{◌≡◌, ℕ, ◌<◌, Bool, nat_lt, List, ◌++◌}
 use Rattle.std.specs.Int.{w32, w64}
 use Rattle.std.specs.List.{AllByRecursion}
-use Rattle.bx_base.specs.Reading.{Reader, number_at, then_at, as_at, tested_at}
-use Rattle.bx_base.specs.declared.error.ReadError.{ReadError}
-use Rattle.bx_base.specs.declared.error.ReadError.TheVariants as errors
+use Rattle.bx_rows.specs.bx_base.specs.Reading.{Reader, number_at, then_at, as_at, tested_at}
+use Rattle.bx_rows.specs.bx_base.specs.declared.error.ReadError.{ReadError}
+use Rattle.bx_rows.specs.bx_base.specs.declared.error.ReadError.TheVariants as errors
 use Rattle.bx_rows.specs.declared.ballot.Ballot.{Ballot}
 use Rattle.bx_rows.specs.declared.device.DeviceRow.{DeviceRow}
 use Rattle.bx_rows.specs.declared.session.SessionRow.{SessionRow}

@@ -5,7 +5,7 @@ ghost use Rattle.bx_global.specs.Table.{IsAnswer};
 ghost use Rattle.bx_global.specs.declared.change.Change.TheVariants.{Renew, Take, Open, Expire, Claim, Close, Shift};
 
 use crate::state::GlobalState;
-use bx_base::{List, OutOfMemory};
+use bx_rows::base::{List, OutOfMemory};
 use bx_rows::{
     NODES, SLOTS, SessionRow, can_follow, claimed_sessions, dead_sessions, expired_sessions,
     find_live, find_row, free_slot, is_live, opened_sessions, other_sessions, shifted_row,

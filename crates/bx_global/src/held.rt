@@ -1,7 +1,7 @@
 //! What an acceptor's cell holds, and its bytes.
 
 ghost use Rattle.std.specs.Prelude.{◌≡◌, ◌++◌, ◌↔◌, IfOk, IfSome, IfNone, IsTrue, MatchResult, OnOk, length};
-ghost use Rattle.bx_base.specs.Reading.{Gives};
+ghost use Rattle.bx_rows.specs.bx_base.specs.Reading.{Gives};
 ghost use Rattle.bx_global.specs.Bytes.{HasCounts, SpellsHeld, held_text, marks_text};
 ghost use Rattle.bx_global.specs.Reading.{NotHeld, marks_at};
 ghost use Rattle.bx_global.specs.declared.held.Held.{Held};
@@ -9,7 +9,7 @@ ghost use Rattle.bx_global.specs.declared.held.Held.{Held};
 use crate::reading::state_of;
 use crate::state::GlobalState;
 use crate::writing::push_state;
-use bx_base::{OutOfMemory, Raw, ReadError, push_u32, push_u64, u32_at, u64_at};
+use bx_rows::base::{OutOfMemory, Raw, ReadError, push_u32, push_u64, u32_at, u64_at};
 use bx_rows::{Ballot, ballot_of, push_ballot};
 use std::alloc::Global;
 

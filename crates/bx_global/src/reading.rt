@@ -1,13 +1,13 @@
 //! Reading a state from bytes.
 
 ghost use Rattle.std.specs.Prelude.{◌≡◌, ◌↔◌, IfOk, IfSome, IfNone, IsTrue, MatchResult};
-ghost use Rattle.bx_base.specs.Reading.{Gives};
+ghost use Rattle.bx_rows.specs.bx_base.specs.Reading.{Gives};
 ghost use Rattle.bx_global.specs.Bytes.{Spells};
 ghost use Rattle.bx_global.specs.Reading.{Begins, IsSound, NoneBegins, heads_at, parts_at};
 ghost use Rattle.bx_global.specs.declared.state.GlobalState.{GlobalState};
 
 use crate::state::GlobalState;
-use bx_base::{OutOfMemory, ReadError, u64_at};
+use bx_rows::base::{OutOfMemory, ReadError, u64_at};
 use bx_rows::{
     are_placed, are_rising, devices_of, have_modes, have_own_slots, pair_of, sessions_of,
 };

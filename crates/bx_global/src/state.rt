@@ -6,7 +6,7 @@ ghost use Rattle.bx_global.specs.Table.{IsAnswer};
 
 use crate::change::Change;
 use crate::changes::{claim, close, expire, open, renew, shift, take};
-use bx_base::{List, OutOfMemory};
+use bx_rows::base::{List, OutOfMemory};
 use bx_rows::{DeviceRow, SessionRow};
 use std::alloc::Global;
 

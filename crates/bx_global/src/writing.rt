@@ -4,7 +4,7 @@ ghost use Rattle.std.specs.Prelude.{◌≡◌, ◌++◌, IfOk, OnOk};
 ghost use Rattle.bx_global.specs.Bytes.{HasCounts, heads_text, state_text};
 
 use crate::state::GlobalState;
-use bx_base::{OutOfMemory, Raw, push_u64};
+use bx_rows::base::{OutOfMemory, Raw, push_u64};
 use bx_rows::{push_devices, push_pair, push_sessions};
 use std::alloc::Global;
 

@@ -6,9 +6,9 @@ use Rattle.bx_places.specs.Handles.{number_of, own_handle}
 use Rattle.bx_layout.specs.declared.area.AreaBlock.{AreaBlock}
 use Rattle.bx_layout.specs.Areas.{SpellsArea, in_use, generation_in}
 use Rattle.bx_places.specs.Places.{IsBlock, block_area, block_slot}
-use Rattle.bx_truth.specs.Chunks.{IsChunked, IsSlot, handle_of, own_block, word_in, word_at}
-use Rattle.bx_views.specs.Truths.{Truth}
-use Rattle.bx_truth.proofs.Words.{word_is}
+use Rattle.bx_volume.specs.bx_truth.specs.Chunks.{IsChunked, IsSlot, handle_of, own_block, word_in, word_at}
+use Rattle.bx_volume.specs.bx_views.specs.Truths.{Truth}
+use Rattle.bx_volume.specs.bx_truth.proofs.Words.{word_is}
 use Rattle.bx_homes.specs.Slots.{HasHeader, IsAreaChunked, IsSlotFault, IsFirstFault, wanted_handle}
 
 -- the block of a slot is one of the volume

@@ -2,8 +2,8 @@
 use Rattle.std.proofs.Common.{◌≡◌, ℕ, ◌+◌, ◌*◌, ◌<◌, ◌≤◌, ◌⊎◌, ⊎_elim, arith, subst}
 use Rattle.bx_layout.specs.declared.block.Block.{Block}
 use Rattle.bx_places.specs.Places.{IsBlock, block_area, block_slot}
-use Rattle.bx_truth.specs.Chunks.{own_block}
-use Rattle.bx_views.specs.Truths.{Truth}
+use Rattle.bx_volume.specs.bx_truth.specs.Chunks.{own_block}
+use Rattle.bx_volume.specs.bx_views.specs.Truths.{Truth}
 use Rattle.bx_homes.specs.Slots.{AreBlocks, HasBlock, HasArea, HasHandle, StaysSo}
 
 pub are_still : (areas : ℕ) (before now : ℕ → Block → Type 0) (truth : Truth) → StaysSo before now → AreBlocks areas before truth → AreBlocks areas now truth

@@ -4,8 +4,8 @@ use Rattle.bx_places.specs.Handles.{number_of, own_handle}
 use Rattle.bx_layout.specs.declared.block.Block.{Block}
 use Rattle.bx_layout.specs.Areas.{in_use, generation_in}
 use Rattle.bx_places.specs.Places.{IsBlock, block_area, block_slot}
-use Rattle.bx_truth.specs.Chunks.{IsAreaBlock, handle_of, own_block, word_at}
-use Rattle.bx_views.specs.Truths.{Truth}
+use Rattle.bx_volume.specs.bx_truth.specs.Chunks.{IsAreaBlock, handle_of, own_block, word_at}
+use Rattle.bx_volume.specs.bx_views.specs.Truths.{Truth}
 
 -- each block of the volume stands there as the truth has it
 abbrev pub AreBlocks : ℕ → (ℕ → Block → Type 0) → Truth → Type 0

@@ -15,3 +15,8 @@ pub use homes::{member_disk, read_block, read_home};
 pub use labels::{first_label, is_labelled};
 pub use slots::{WrongBlock, first_fault};
 pub use sources::{first_absent, first_unlabelled};
+
+/// What the crates above use of `bx_volume`.
+pub mod volume {
+    pub use bx_volume::{one_first_label, one_tree_stands};
+}

@@ -3,8 +3,8 @@
 ghost use Rattle.std.specs.Prelude.{◌≡◌, ◌+◌, ◌*◌, ◌^◌, ◌<◌, ◌≤◌, ℕ, true, false, slice_index, IfOk, IfSome, IfNone, IsTrue, IsFalse};
 ghost use Rattle.bx_layout.specs.Areas.{IsArea, SpellsArea, generation_in, in_use};
 ghost use Rattle.bx_places.specs.Places.{IsBlock};
-ghost use Rattle.bx_truth.specs.Chunks.{IsAreaBlock, IsChunked, own_block};
-ghost use Rattle.bx_views.specs.Truths.{Truth};
+ghost use Rattle.bx_volume.specs.bx_truth.specs.Chunks.{IsAreaBlock, IsChunked, own_block};
+ghost use Rattle.bx_volume.specs.bx_views.specs.Truths.{Truth};
 ghost use Rattle.bx_homes.specs.Slots.{AreBlocks, HasBlock, HasArea, HasHandle, HasHeader, IsAreaChunked, IsAreaFault, IsFirstFault, StaysSo, wanted_handle};
 ghost use Rattle.bx_homes.specs.Reading.{CanRead, CanReadArea, ReadsBlocks};
 

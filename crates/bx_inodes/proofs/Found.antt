@@ -8,21 +8,21 @@ use Rattle.bx_blink.proofs.Sees.{sees}
 use Rattle.bx_layout.specs.declared.block.Block.{Block}
 use Rattle.bx_layout.specs.declared.inode.Inode.{Inode}
 use Rattle.bx_layout.specs.Areas.{generation_in}
-use Rattle.bx_model.specs.declared.tree.Tree.{Tree}
-use Rattle.bx_model.specs.Opening.{root_handle}
-use Rattle.bx_records.specs.Drafts.{Changed}
-use Rattle.bx_tree_files.specs.declared.file.Body.{Body}
-use Rattle.bx_tree_files.specs.declared.file.Body.TheVariants.{Bytes, Path, Names}
-use Rattle.bx_tree_files.specs.declared.file.File.{File}
-use Rattle.bx_tree_files.specs.Files.{file_at, size_of}
-use Rattle.bx_truth.specs.Chunks.{IsName, block_at, chunks_of, handle_of, word_at}
-use Rattle.bx_truth.specs.PageTrees.{Chunks}
-use Rattle.bx_truth.specs.Stands.{StandsFor, IsAnInode, IsOwned}
-use Rattle.bx_truth.specs.Stored.{HasBody, HasFields, HasInode, Inodes, IsFileOr, Owner, Stored}
-use Rattle.bx_truth.proofs.OneFiles.{itself, one_inode}
-use Rattle.bx_truth.proofs.Put.{is_live, some_there}
-use Rattle.bx_truth.proofs.Same.{chunk_is}
-use Rattle.bx_views.specs.Truths.{Held, Hints, IsTruth, Truth, with_draft}
+use Rattle.bx_blink.specs.bx_model.specs.declared.tree.Tree.{Tree}
+use Rattle.bx_blink.specs.bx_model.specs.Opening.{root_handle}
+use Rattle.bx_blink.specs.bx_records.specs.Drafts.{Changed}
+use Rattle.bx_blink.specs.bx_tree_files.specs.declared.file.Body.{Body}
+use Rattle.bx_blink.specs.bx_tree_files.specs.declared.file.Body.TheVariants.{Bytes, Path, Names}
+use Rattle.bx_blink.specs.bx_tree_files.specs.declared.file.File.{File}
+use Rattle.bx_blink.specs.bx_tree_files.specs.Files.{file_at, size_of}
+use Rattle.bx_blink.specs.bx_truth.specs.Chunks.{IsName, block_at, chunks_of, handle_of, word_at}
+use Rattle.bx_blink.specs.bx_truth.specs.PageTrees.{Chunks}
+use Rattle.bx_blink.specs.bx_truth.specs.Stands.{StandsFor, IsAnInode, IsOwned}
+use Rattle.bx_blink.specs.bx_truth.specs.Stored.{HasBody, HasFields, HasInode, Inodes, IsFileOr, Owner, Stored}
+use Rattle.bx_blink.specs.bx_truth.proofs.OneFiles.{itself, one_inode}
+use Rattle.bx_blink.specs.bx_truth.proofs.Put.{is_live, some_there}
+use Rattle.bx_blink.specs.bx_truth.proofs.Same.{chunk_is}
+use Rattle.bx_blink.specs.bx_views.specs.Truths.{Held, Hints, IsTruth, Truth, with_draft}
 use Rattle.bx_inodes.specs.declared.stop.Stop.{Stop}
 use Rattle.bx_inodes.specs.declared.stop.Stop.TheVariants.{Need, Inner, Status, OutOfMemory}
 use Rattle.bx_inodes.specs.Inodes.{FileAt, InodeAt, IsInodeOf, SeesNoInode, shown_size}

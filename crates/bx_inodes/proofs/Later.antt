@@ -3,14 +3,14 @@ use Rattle.std.proofs.Common.{◌≡◌, ℕ, arith, sym, ap, ◌∙◌, subst, 
 use Rattle.std.specs.Prelude.{◌≢◌, ◌⊎◌}
 use Rattle.bx_layout.specs.declared.block.Block.{Block}
 use Rattle.bx_layout.specs.declared.inode.Inode.{Inode}
-use Rattle.bx_model.specs.declared.tree.Tree.{Tree}
-use Rattle.bx_truth.specs.Chunks.{block_at, chunks_of}
-use Rattle.bx_truth.specs.PageTrees.{Node, PageTree, IsTree, IsPageOf}
-use Rattle.bx_truth.specs.Stands.{StandsFor, WasGiven}
-use Rattle.bx_truth.specs.Stored.{PageOf}
-use Rattle.bx_truth.proofs.Cases.{same_or}
-use Rattle.bx_truth.proofs.Frames.{tree_kept}
-use Rattle.bx_views.specs.Truths.{Truth, Hints}
+use Rattle.bx_blink.specs.bx_model.specs.declared.tree.Tree.{Tree}
+use Rattle.bx_blink.specs.bx_truth.specs.Chunks.{block_at, chunks_of}
+use Rattle.bx_blink.specs.bx_truth.specs.PageTrees.{Node, PageTree, IsTree, IsPageOf}
+use Rattle.bx_blink.specs.bx_truth.specs.Stands.{StandsFor, WasGiven}
+use Rattle.bx_blink.specs.bx_truth.specs.Stored.{PageOf}
+use Rattle.bx_blink.specs.bx_truth.proofs.Cases.{same_or}
+use Rattle.bx_blink.specs.bx_truth.proofs.Frames.{tree_kept}
+use Rattle.bx_blink.specs.bx_views.specs.Truths.{Truth, Hints}
 use Rattle.bx_inodes.specs.Hints.{HintsFit}
 use Rattle.bx_inodes.specs.Inodes.{HoldsInode}
 use Rattle.bx_inodes.specs.Fitting.{HintsFitAll, Continues, ChangesOne, IsPageUnder}

@@ -3,21 +3,21 @@ use Rattle.std.proofs.Common.{◌≡◌, ℕ, ◌≤◌, arith, [], sym, ap, ◌
 use Rattle.std.specs.Prelude.{◌≢◌, ◌⊎◌}
 use Rattle.bx_layout.specs.declared.block.Block.{Block}
 use Rattle.bx_layout.specs.declared.inode.Inode.{Inode}
-use Rattle.bx_model.specs.declared.tree.Tree.{Tree}
-use Rattle.bx_records.specs.Drafts.{Changed}
-use Rattle.bx_tree_files.specs.declared.file.Body.{Body}
-use Rattle.bx_tree_files.specs.declared.file.Body.TheVariants.{Bytes, Path, Names}
-use Rattle.bx_tree_files.specs.declared.file.File.{File}
-use Rattle.bx_tree_files.specs.Files.{file_at}
-use Rattle.bx_truth.specs.Chunks.{chunks_of}
-use Rattle.bx_truth.specs.PageTrees.{Chunks, Node, PageTree, IsTree, IsPageOf}
-use Rattle.bx_truth.specs.Stands.{StandsFor, IsAnInode, IsOwned}
-use Rattle.bx_truth.specs.Stored.{Owner, Inodes, PageOf, Stored, HasBody, HasContents, HasTree, IsFileOr}
-use Rattle.bx_truth.proofs.Named.{named}
-use Rattle.bx_truth.proofs.OneFiles.{itself, one_inode}
-use Rattle.bx_truth.proofs.OneTree.{same_pages}
-use Rattle.bx_truth.proofs.Put.{shown}
-use Rattle.bx_views.specs.Truths.{Truth, Held, Hints, IsTruth, with_draft}
+use Rattle.bx_blink.specs.bx_model.specs.declared.tree.Tree.{Tree}
+use Rattle.bx_blink.specs.bx_records.specs.Drafts.{Changed}
+use Rattle.bx_blink.specs.bx_tree_files.specs.declared.file.Body.{Body}
+use Rattle.bx_blink.specs.bx_tree_files.specs.declared.file.Body.TheVariants.{Bytes, Path, Names}
+use Rattle.bx_blink.specs.bx_tree_files.specs.declared.file.File.{File}
+use Rattle.bx_blink.specs.bx_tree_files.specs.Files.{file_at}
+use Rattle.bx_blink.specs.bx_truth.specs.Chunks.{chunks_of}
+use Rattle.bx_blink.specs.bx_truth.specs.PageTrees.{Chunks, Node, PageTree, IsTree, IsPageOf}
+use Rattle.bx_blink.specs.bx_truth.specs.Stands.{StandsFor, IsAnInode, IsOwned}
+use Rattle.bx_blink.specs.bx_truth.specs.Stored.{Owner, Inodes, PageOf, Stored, HasBody, HasContents, HasTree, IsFileOr}
+use Rattle.bx_blink.specs.bx_truth.proofs.Named.{named}
+use Rattle.bx_blink.specs.bx_truth.proofs.OneFiles.{itself, one_inode}
+use Rattle.bx_blink.specs.bx_truth.proofs.OneTree.{same_pages}
+use Rattle.bx_blink.specs.bx_truth.proofs.Put.{shown}
+use Rattle.bx_blink.specs.bx_views.specs.Truths.{Truth, Held, Hints, IsTruth, with_draft}
 use Rattle.bx_inodes.specs.Inodes.{HoldsInode}
 use Rattle.bx_inodes.specs.Fitting.{HintsFitAll}
 use Rattle.bx_inodes.specs.Pages.{HasPages}

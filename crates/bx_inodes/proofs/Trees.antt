@@ -1,9 +1,9 @@
 -- Hints of one page tree, and of the same tree by other lists of pages.
 use Rattle.std.proofs.Common.{◌≡◌, ℕ, ◌-◌, ◌≤◌, arith, sym, subst}
-use Rattle.bx_truth.specs.Chunks.{chunks_of}
-use Rattle.bx_truth.specs.PageTrees.{PageTree, IsIn, IsTree}
-use Rattle.bx_truth.proofs.OneTree.{same_height, same_levels}
-use Rattle.bx_views.specs.Truths.{Truth, Hints}
+use Rattle.bx_blink.specs.bx_truth.specs.Chunks.{chunks_of}
+use Rattle.bx_blink.specs.bx_truth.specs.PageTrees.{PageTree, IsIn, IsTree}
+use Rattle.bx_blink.specs.bx_truth.proofs.OneTree.{same_height, same_levels}
+use Rattle.bx_blink.specs.bx_views.specs.Truths.{Truth, Hints}
 use Rattle.bx_inodes.specs.Hints.{HintsFit, Place, StandsAt}
 
 module _ (areas : ℕ) (hints : Hints) (truth : Truth) (root : ℕ) (a b : PageTree) (is_a : IsTree (chunks_of areas truth) root a) (is_b : IsTree (chunks_of areas truth) root b) (fit : HintsFit areas hints truth root a) where

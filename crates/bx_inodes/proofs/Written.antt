@@ -5,19 +5,19 @@ use Rattle.bx_base.specs.declared.names.Mode.TheVariants.{Exclusive}
 use Rattle.bx_layout.specs.declared.block.Block.{Block}
 use Rattle.bx_layout.specs.declared.inode.Inode.{Inode}
 use Rattle.bx_layout.specs.Blocks.{HasParts}
-use Rattle.bx_model.specs.declared.tree.Tree.{Tree}
-use Rattle.bx_records.specs.Drafts.{Changed, block_in, with_block}
-use Rattle.bx_tree_files.specs.declared.file.File.{File}
-use Rattle.bx_tree_files.specs.Files.{file_at, with_file}
-use Rattle.bx_truth.specs.Chunks.{block_at}
-use Rattle.bx_truth.specs.Rewritten.{KeepsBody}
-use Rattle.bx_truth.specs.Stands.{StandsFor}
-use Rattle.bx_truth.specs.Stored.{HasFields}
-use Rattle.bx_truth.proofs.Cases.{eq_false, eq_true}
-use Rattle.bx_truth.proofs.Rewrite.{rewritten_stands}
-use Rattle.bx_truth.proofs.Same.{chunk_is, stands_same}
-use Rattle.bx_views.specs.Attempts.{AreBlocks, IsHeldDraft}
-use Rattle.bx_views.specs.Truths.{Held, Truth, with_draft}
+use Rattle.bx_blink.specs.bx_model.specs.declared.tree.Tree.{Tree}
+use Rattle.bx_blink.specs.bx_records.specs.Drafts.{Changed, block_in, with_block}
+use Rattle.bx_blink.specs.bx_tree_files.specs.declared.file.File.{File}
+use Rattle.bx_blink.specs.bx_tree_files.specs.Files.{file_at, with_file}
+use Rattle.bx_blink.specs.bx_truth.specs.Chunks.{block_at}
+use Rattle.bx_blink.specs.bx_truth.specs.Rewritten.{KeepsBody}
+use Rattle.bx_blink.specs.bx_truth.specs.Stands.{StandsFor}
+use Rattle.bx_blink.specs.bx_truth.specs.Stored.{HasFields}
+use Rattle.bx_blink.specs.bx_truth.proofs.Cases.{eq_false, eq_true}
+use Rattle.bx_blink.specs.bx_truth.proofs.Rewrite.{rewritten_stands}
+use Rattle.bx_blink.specs.bx_truth.proofs.Same.{chunk_is, stands_same}
+use Rattle.bx_blink.specs.bx_views.specs.Attempts.{AreBlocks, IsHeldDraft}
+use Rattle.bx_blink.specs.bx_views.specs.Truths.{Held, Truth, with_draft}
 use Rattle.bx_inodes.specs.Inodes.{HoldsInode}
 use Rattle.bx_inodes.specs.Writing.{PutsInode}
 

@@ -3,10 +3,10 @@ use Rattle.std.specs.Prelude.{◌≡◌, ℕ, ◌≤◌, ◌⊎◌, Some}
 use Rattle.bx_layout.specs.declared.block.Block.{Block}
 use Rattle.bx_layout.specs.declared.inode.Inode.{Inode}
 use Rattle.bx_layout.specs.Areas.{generation_in}
-use Rattle.bx_truth.specs.Chunks.{IsSlot, chunks_of, word_at}
-use Rattle.bx_truth.specs.PageTrees.{Node, PageTree, IsTree, IsPageOf}
-use Rattle.bx_truth.specs.Stands.{WasGiven}
-use Rattle.bx_views.specs.Truths.{Truth, Hints}
+use Rattle.bx_blink.specs.bx_truth.specs.Chunks.{IsSlot, chunks_of, word_at}
+use Rattle.bx_blink.specs.bx_truth.specs.PageTrees.{Node, PageTree, IsTree, IsPageOf}
+use Rattle.bx_blink.specs.bx_truth.specs.Stands.{WasGiven}
+use Rattle.bx_blink.specs.bx_views.specs.Truths.{Truth, Hints}
 use Rattle.bx_inodes.specs.Hints.{HintsFit}
 use Rattle.bx_inodes.specs.Inodes.{HoldsInode}
 

@@ -1,9 +1,9 @@
 -- What an inode says of its file.
 use Rattle.std.specs.Prelude.{ℕ, []}
 use Rattle.bx_layout.specs.declared.inode.Inode.{Inode}
-use Rattle.bx_tree_files.specs.declared.file.Body.{Body}
-use Rattle.bx_tree_files.specs.declared.file.Body.TheVariants.{Path}
-use Rattle.bx_tree_files.specs.declared.file.File.{File}
+use Rattle.bx_blink.specs.bx_tree_files.specs.declared.file.Body.{Body}
+use Rattle.bx_blink.specs.bx_tree_files.specs.declared.file.Body.TheVariants.{Path}
+use Rattle.bx_blink.specs.bx_tree_files.specs.declared.file.File.{File}
 
 -- the file with a handle and a body, whose other fields its inode has
 abbrev pub file_with : ℕ → Inode → Body → File

@@ -4,13 +4,13 @@ use Rattle.bx_base.specs.declared.names.Mode.{Mode}
 use Rattle.bx_blink.specs.Walks.{Reads}
 use Rattle.bx_layout.specs.declared.block.Block.{Block}
 use Rattle.bx_layout.specs.declared.inode.Inode.{Inode}
-use Rattle.bx_model.specs.declared.tree.Tree.{Tree}
+use Rattle.bx_blink.specs.bx_model.specs.declared.tree.Tree.{Tree}
 use Rattle.bx_places.specs.Places.{is_block}
-use Rattle.bx_tree_files.specs.declared.file.File.{File}
-use Rattle.bx_tree_files.specs.Files.{file_at, size_of}
-use Rattle.bx_truth.specs.Chunks.{IsName, block_at, chunks_of}
-use Rattle.bx_truth.specs.Stored.{HasFields, HasInode}
-use Rattle.bx_views.specs.Truths.{Truth}
+use Rattle.bx_blink.specs.bx_tree_files.specs.declared.file.File.{File}
+use Rattle.bx_blink.specs.bx_tree_files.specs.Files.{file_at, size_of}
+use Rattle.bx_blink.specs.bx_truth.specs.Chunks.{IsName, block_at, chunks_of}
+use Rattle.bx_blink.specs.bx_truth.specs.Stored.{HasFields, HasInode}
+use Rattle.bx_blink.specs.bx_views.specs.Truths.{Truth}
 use Rattle.bx_inodes.specs.declared.stop.Stop.{Stop}
 use Rattle.bx_inodes.specs.declared.stop.Stop.TheVariants.{Need, Inner, Status, OutOfMemory}
 

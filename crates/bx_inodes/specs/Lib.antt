@@ -6,3 +6,4 @@ pub mod Writing
 pub use Rattle.bx_blink.specs.Hints
 pub mod Fitting
 pub mod Pages
+pub use Rattle.bx_blink

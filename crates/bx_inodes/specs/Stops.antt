@@ -3,8 +3,8 @@ use Rattle.std.specs.Prelude.{◌≡◌, ℕ, true, List, None, Some, Result, Ok
 use Rattle.bx_base.specs.declared.names.Mode.{Mode}
 use Rattle.bx_places.specs.Handles.{named}
 use Rattle.bx_places.specs.Places.{is_block}
-use Rattle.bx_truth.specs.Chunks.{block_at}
-use Rattle.bx_views.specs.Truths.{Held}
+use Rattle.bx_blink.specs.bx_truth.specs.Chunks.{block_at}
+use Rattle.bx_blink.specs.bx_views.specs.Truths.{Held}
 use Rattle.bx_inodes.specs.declared.stop.Stop.{Stop}
 use Rattle.bx_inodes.specs.declared.stop.Stop.TheVariants.{Need, Inner, Status, OutOfMemory}
 

@@ -3,9 +3,9 @@ use Rattle.std.specs.Prelude.{◌≡◌, ℕ, List}
 use Rattle.bx_layout.specs.declared.block.Block.{Block}
 use Rattle.bx_layout.specs.declared.inode.Inode.{Inode}
 use Rattle.bx_layout.specs.Blocks.{HasParts}
-use Rattle.bx_records.specs.Drafts.{Changed, with_block}
-use Rattle.bx_truth.specs.Chunks.{block_at}
-use Rattle.bx_truth.specs.Stored.{HasInode}
+use Rattle.bx_blink.specs.bx_records.specs.Drafts.{Changed, with_block}
+use Rattle.bx_blink.specs.bx_truth.specs.Chunks.{block_at}
+use Rattle.bx_blink.specs.bx_truth.specs.Stored.{HasInode}
 
 -- the block is this inode, under this handle
 pub record IsInodeBlock (handle : ℕ) (inode : Inode) (block : Block) : Type 0 where

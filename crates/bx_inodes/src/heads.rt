@@ -4,8 +4,8 @@ ghost use Rattle.std.specs.Prelude.{◌≡◌, IfOk};
 ghost use Rattle.bx_inodes.specs.Heads.{file_with as file_by, head_of as head_by};
 
 use bx_base::{OutOfMemory, Raw};
+use bx_blink::tree_files::{Body, File};
 use bx_layout::Inode;
-use bx_tree_files::{Body, File};
 use std::alloc::Global;
 
 /// What an inode says of its file, by the number of the file's handle: the file but for its content, for which an empty path stands.

@@ -2,22 +2,22 @@
 
 ghost use Rattle.std.specs.Prelude.{◌≡◌, ◌≢◌, ◌↔◌, ℕ, IsTrue, IfOk, IfSome, IfNone};
 ghost use Rattle.bx_layout.specs.declared.inode.Inode.{Inode as Seen};
-ghost use Rattle.bx_model.specs.declared.tree.Tree.{Tree};
-ghost use Rattle.bx_truth.specs.Chunks.{IsName};
-ghost use Rattle.bx_truth.specs.Stands.{StandsFor};
-ghost use Rattle.bx_truth.specs.Stored.{HasInode};
-ghost use Rattle.bx_views.specs.Truths.{IsTruth, Truth, with_draft};
+ghost use Rattle.bx_blink.specs.bx_model.specs.declared.tree.Tree.{Tree};
+ghost use Rattle.bx_blink.specs.bx_truth.specs.Chunks.{IsName};
+ghost use Rattle.bx_blink.specs.bx_truth.specs.Stands.{StandsFor};
+ghost use Rattle.bx_blink.specs.bx_truth.specs.Stored.{HasInode};
+ghost use Rattle.bx_blink.specs.bx_views.specs.Truths.{IsTruth, Truth, with_draft};
 ghost use Rattle.bx_blink.specs.Walks.{reads_with};
 ghost use Rattle.bx_inodes.specs.Inodes.{FileAt, InodeAt};
 
 use crate::stop::Stop;
 use bx_base::{Mode, OutOfMemory};
+use bx_blink::model::STALE;
+use bx_blink::records::Draft;
+use bx_blink::views::View;
 use bx_blink::{block_at, seen};
 use bx_layout::{Block, Inode};
-use bx_model::STALE;
 use bx_places::{AREA_NUMBERS, SLOTS};
-use bx_records::Draft;
-use bx_views::View;
 use std::alloc::Global;
 
 /// The kind of the blocks that are inodes.

@@ -2,14 +2,14 @@
 
 ghost use Rattle.std.specs.Prelude.{◌≡◌, ◌≢◌, ◌≤◌, ℕ, List, Some};
 ghost use Rattle.bx_layout.specs.declared.inode.Inode.{Inode};
-ghost use Rattle.bx_model.specs.declared.tree.Tree.{Tree};
-ghost use Rattle.bx_records.specs.Drafts.{Changed};
-ghost use Rattle.bx_tree_files.specs.declared.file.File.{File};
-ghost use Rattle.bx_tree_files.specs.Files.{file_at};
-ghost use Rattle.bx_truth.specs.Chunks.{chunks_of};
-ghost use Rattle.bx_truth.specs.PageTrees.{PageTree, IsTree};
-ghost use Rattle.bx_truth.specs.Stands.{StandsFor};
-ghost use Rattle.bx_views.specs.Truths.{Truth, Held, Hints, IsTruth, with_draft};
+ghost use Rattle.bx_blink.specs.bx_model.specs.declared.tree.Tree.{Tree};
+ghost use Rattle.bx_blink.specs.bx_records.specs.Drafts.{Changed};
+ghost use Rattle.bx_blink.specs.bx_tree_files.specs.declared.file.File.{File};
+ghost use Rattle.bx_blink.specs.bx_tree_files.specs.Files.{file_at};
+ghost use Rattle.bx_blink.specs.bx_truth.specs.Chunks.{chunks_of};
+ghost use Rattle.bx_blink.specs.bx_truth.specs.PageTrees.{PageTree, IsTree};
+ghost use Rattle.bx_blink.specs.bx_truth.specs.Stands.{StandsFor};
+ghost use Rattle.bx_blink.specs.bx_views.specs.Truths.{Truth, Held, Hints, IsTruth, with_draft};
 ghost use Rattle.bx_inodes.specs.Hints.{HintsFit};
 ghost use Rattle.bx_inodes.specs.Inodes.{HoldsInode};
 ghost use Rattle.bx_inodes.specs.Fitting.{HintsFitAll, Continues, ChangesOne};

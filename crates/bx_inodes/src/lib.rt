@@ -13,3 +13,8 @@ pub use inodes::inode_at;
 pub use laws::{a_file_has_pages, hints_fit_later, hints_still_fit, one_tree_has_the_hints};
 pub use stop::Stop;
 pub use writing::put_inode;
+
+/// What the crates above use of `bx_blink`.
+pub mod blink {
+    pub use bx_blink::{BlinkError, find, handle_in};
+}

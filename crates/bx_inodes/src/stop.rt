@@ -4,7 +4,7 @@ ghost use Rattle.std.specs.Prelude.{◌≡◌};
 ghost use Rattle.bx_inodes.specs.declared.stop.Stop.TheVariants.{OutOfMemory as MemoryRanOut};
 
 use bx_base::Mode;
-use bx_records::Draft;
+use bx_blink::records::Draft;
 
 /// What stops an attempt of a call before it acts.
 #[derive(Drop)]

@@ -4,24 +4,24 @@ ghost use Rattle.std.specs.Prelude.{◌≡◌, ◌<◌, ℕ, IfOk, IsSome, OnErr
 ghost use Rattle.bx_base.specs.declared.names.Mode.TheVariants.{Exclusive};
 ghost use Rattle.bx_layout.specs.Inodes.{IsInode};
 ghost use Rattle.bx_layout.specs.declared.inode.Inode.{Inode as Kept};
-ghost use Rattle.bx_model.specs.declared.tree.Tree.{Tree};
-ghost use Rattle.bx_tree_files.specs.declared.file.File.{File};
-ghost use Rattle.bx_tree_files.specs.Files.{file_at, with_file};
-ghost use Rattle.bx_truth.specs.Chunks.{block_at as place_of};
-ghost use Rattle.bx_truth.specs.Rewritten.{KeepsBody};
-ghost use Rattle.bx_truth.specs.Stands.{StandsFor};
-ghost use Rattle.bx_truth.specs.Stored.{HasFields};
-ghost use Rattle.bx_views.specs.Attempts.{IsHeldDraft};
-ghost use Rattle.bx_views.specs.Truths.{Held, Truth, with_draft};
+ghost use Rattle.bx_blink.specs.bx_model.specs.declared.tree.Tree.{Tree};
+ghost use Rattle.bx_blink.specs.bx_tree_files.specs.declared.file.File.{File};
+ghost use Rattle.bx_blink.specs.bx_tree_files.specs.Files.{file_at, with_file};
+ghost use Rattle.bx_blink.specs.bx_truth.specs.Chunks.{block_at as place_of};
+ghost use Rattle.bx_blink.specs.bx_truth.specs.Rewritten.{KeepsBody};
+ghost use Rattle.bx_blink.specs.bx_truth.specs.Stands.{StandsFor};
+ghost use Rattle.bx_blink.specs.bx_truth.specs.Stored.{HasFields};
+ghost use Rattle.bx_blink.specs.bx_views.specs.Attempts.{IsHeldDraft};
+ghost use Rattle.bx_blink.specs.bx_views.specs.Truths.{Held, Truth, with_draft};
 ghost use Rattle.bx_inodes.specs.Inodes.{HoldsInode};
 ghost use Rattle.bx_inodes.specs.Writing.{IsInodeBlock, PutsInode};
 
 use crate::inodes::INODE;
 use bx_base::{OutOfMemory, Raw};
 use bx_blink::block_at;
+use bx_blink::records::Draft;
 use bx_layout::{Block, Inode};
 use bx_places::PAYLOAD;
-use bx_records::Draft;
 use std::alloc::Global;
 
 /// Puts the inode of the file with a handle into a draft that has room for it. On an error nothing changes.

@@ -5,3 +5,5 @@ pub mod Inodes
 pub mod AreaReading
 pub mod InodeReading
 pub mod InodeParts
+pub use Rattle.bx_base
+pub use Rattle.bx_places

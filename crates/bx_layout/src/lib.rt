@@ -18,3 +18,16 @@ pub use gate::Gate;
 pub use inode::Inode;
 pub use label::Label;
 pub use readings::{one_reading, own_blocks, taken_slots, written_reads};
+
+/// What the crates above use of `bx_base`.
+pub mod base {
+    pub use bx_base::{
+        Actor, List, Mode, Numbers, OutOfMemory, Raw, ReadError, before_zeros, clear_from, put_u32,
+        put_u64, u32_at, u64_at,
+    };
+}
+
+/// What the crates above use of `bx_places`.
+pub mod places {
+    pub use bx_places::{MOST_AREAS, MOST_BLOCKS, SECTOR, is_block};
+}

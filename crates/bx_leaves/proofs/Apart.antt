@@ -6,7 +6,7 @@ use Rattle.bx_page.specs.Keys.{is_below, IsBelow}
 use Rattle.bx_page.specs.Contents.{Contents}
 use Rattle.bx_page.proofs.Order.{not_below_itself}
 use Rattle.bx_page.proofs.Whole.{one_page}
-use Rattle.bx_truth.specs.PageTrees.{Chunks, Node, HasPage, IsNode, Leads}
+use Rattle.bx_blink.specs.bx_truth.specs.PageTrees.{Chunks, Node, HasPage, IsNode, Leads}
 use Rattle.bx_blink.proofs.Keys.{lt_not}
 use Rattle.bx_blink.proofs.Chains.{IsRange, all_before}
 

@@ -4,9 +4,9 @@ use Rattle.std.specs.Prelude.{Option, Result, Ok, Err, IsSome}
 use Rattle.bx_base.specs.declared.names.Mode.TheVariants.{Exclusive}
 use Rattle.bx_records.specs.Drafts.{Changed}
 use Rattle.bx_page.specs.Contents.{Contents, value_of, with_entry}
-use Rattle.bx_truth.specs.Chunks.{chunks_of}
-use Rattle.bx_truth.specs.PageTrees.{PageTree, map_of, without_entry}
-use Rattle.bx_views.specs.Truths.{Truth, Held, Hints, with_draft}
+use Rattle.bx_blink.specs.bx_truth.specs.Chunks.{chunks_of}
+use Rattle.bx_blink.specs.bx_truth.specs.PageTrees.{PageTree, map_of, without_entry}
+use Rattle.bx_blink.specs.bx_views.specs.Truths.{Truth, Held, Hints, with_draft}
 use Rattle.bx_blink.specs.declared.error.BlinkError.{BlinkError}
 use Rattle.bx_blink.specs.declared.error.BlinkError.TheVariants.{Need, Stale, Full, NoRoom, Absent, Present, OutOfMemory, Crowded}
 use Rattle.bx_blink.specs.declared.steps.End.TheVariants.{Lost}

@@ -5,8 +5,8 @@ use Rattle.std.proofs.lemmas.List.{append_assoc}
 use Rattle.bx_layout.specs.declared.block.Block.{Block}
 use Rattle.bx_page.specs.declared.entry.Entry.{Entry}
 use Rattle.bx_page.specs.Contents.{Contents}
-use Rattle.bx_truth.specs.Edits.{ChunkAnew}
-use Rattle.bx_truth.specs.PageTrees.{Chunks, Node, IsIn, IsNode, Leads, IsChain, IsLevel, NamesChild}
+use Rattle.bx_blink.specs.bx_truth.specs.Edits.{ChunkAnew}
+use Rattle.bx_blink.specs.bx_truth.specs.PageTrees.{Chunks, Node, IsIn, IsNode, Leads, IsChain, IsLevel, NamesChild}
 use Rattle.bx_blink.proofs.Chains.{IsRange, leads_in, ranges_at}
 use Rattle.bx_blink.proofs.Places.{range_of, ranges_of}
 use Rattle.bx_leaves.proofs.Apart.{same_page, later_differs}

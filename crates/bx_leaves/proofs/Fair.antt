@@ -9,9 +9,9 @@ use Rattle.bx_layout.specs.declared.block.Block.{Block}
 use Rattle.bx_layout.specs.Blocks.{HasParts}
 use Rattle.bx_records.specs.Drafts.{Changed, block_in, with_block}
 use Rattle.bx_page.specs.Contents.{Contents}
-use Rattle.bx_truth.specs.Chunks.{block_at}
-use Rattle.bx_views.specs.Attempts.{AreBlocks, IsHeldDraft}
-use Rattle.bx_views.specs.Truths.{Held, Hints}
+use Rattle.bx_blink.specs.bx_truth.specs.Chunks.{block_at}
+use Rattle.bx_blink.specs.bx_views.specs.Attempts.{AreBlocks, IsHeldDraft}
+use Rattle.bx_blink.specs.bx_views.specs.Truths.{Held, Hints}
 use Rattle.bx_blink.specs.declared.error.BlinkError.{BlinkError}
 use Rattle.bx_blink.specs.declared.error.BlinkError.TheVariants.{Need, Stale, Full, NoRoom, Absent, Present, OutOfMemory, Crowded}
 use Rattle.bx_blink.specs.Walks.{Reads, reads_with, start, most}

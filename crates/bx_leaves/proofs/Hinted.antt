@@ -4,9 +4,9 @@ use Rattle.std.specs.Prelude.{◌⊎◌}
 use Rattle.std.proofs.lemmas.Bool.{cases_eq}
 use Rattle.bx_layout.specs.declared.block.Block.{Block}
 use Rattle.bx_page.specs.Contents.{Contents}
-use Rattle.bx_truth.specs.Edits.{ChunkAnew}
-use Rattle.bx_truth.specs.PageTrees.{Chunks, Node, IsIn, PageTree}
-use Rattle.bx_views.specs.Truths.{Hints}
+use Rattle.bx_blink.specs.bx_truth.specs.Edits.{ChunkAnew}
+use Rattle.bx_blink.specs.bx_truth.specs.PageTrees.{Chunks, Node, IsIn, PageTree}
+use Rattle.bx_blink.specs.bx_views.specs.Truths.{Hints}
 use Rattle.bx_blink.specs.Hints.{HintsAgree}
 use Rattle.bx_leaves.proofs.Exchanged.{with_page}
 use Rattle.bx_leaves.proofs.Members.{in_left, in_right, in_split, in_middle}

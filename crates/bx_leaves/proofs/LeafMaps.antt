@@ -8,9 +8,9 @@ use Rattle.bx_records.specs.Drafts.{Changed, with_block}
 use Rattle.bx_page.specs.declared.entry.Entry.{Entry}
 use Rattle.bx_page.specs.Keys.{is_below}
 use Rattle.bx_page.specs.Contents.{Contents, below, above, with_entry, with_value, without_key}
-use Rattle.bx_truth.specs.Chunks.{block_at, chunks_of}
-use Rattle.bx_truth.specs.PageTrees.{HasPage, PageTree, entries_of, map_of, without_entry}
-use Rattle.bx_views.specs.Truths.{Truth, Held, Hints, with_draft}
+use Rattle.bx_blink.specs.bx_truth.specs.Chunks.{block_at, chunks_of}
+use Rattle.bx_blink.specs.bx_truth.specs.PageTrees.{HasPage, PageTree, entries_of, map_of, without_entry}
+use Rattle.bx_blink.specs.bx_views.specs.Truths.{Truth, Held, Hints, with_draft}
 use Rattle.bx_blink.specs.Hints.{Under}
 use Rattle.bx_blink.specs.Places.{IsPlaceOf}
 use Rattle.bx_blink.proofs.Chains.{entries_at}

@@ -2,7 +2,7 @@
 use Rattle.std.proofs.Common.{◌≡◌, List, [], ◌∷◌, ◌++◌, refl, sym, ap, ◌∙◌, inl, inr}
 use Rattle.std.specs.Prelude.{◌⊎◌}
 use Rattle.std.proofs.lemmas.List.{append_assoc}
-use Rattle.bx_truth.specs.PageTrees.{IsIn}
+use Rattle.bx_blink.specs.bx_truth.specs.PageTrees.{IsIn}
 
 pub in_head : {X : Type 0} (x : X) (xs : List X) → IsIn x (x ∷ xs)
 in_head x xs = record { before = []; behind = xs; parts = refl }

@@ -7,8 +7,8 @@ use Rattle.bx_layout.specs.declared.block.Block.{Block}
 use Rattle.bx_page.specs.declared.entry.Entry.{Entry}
 use Rattle.bx_page.specs.Keys.{is_below, IsBelow}
 use Rattle.bx_page.specs.Contents.{Contents}
-use Rattle.bx_truth.specs.Edits.{ChunkAnew}
-use Rattle.bx_truth.specs.PageTrees.{Chunks, Node, IsIn, HasPage, IsNode, IsLevel, NamesChild, IsInterior, PageTree, IsTree}
+use Rattle.bx_blink.specs.bx_truth.specs.Edits.{ChunkAnew}
+use Rattle.bx_blink.specs.bx_truth.specs.PageTrees.{Chunks, Node, IsIn, HasPage, IsNode, IsLevel, NamesChild, IsInterior, PageTree, IsTree}
 use Rattle.bx_leaves.proofs.Apart.{same_page}
 use Rattle.bx_leaves.proofs.Exchanged.{with_page, stays, chain_with, names_with, apart_before, apart_behind}
 use Rattle.bx_leaves.proofs.Members.{in_left, in_right, in_split, in_middle}

@@ -4,10 +4,10 @@ use Rattle.bx_layout.specs.declared.block.Block.{Block}
 use Rattle.bx_records.specs.Drafts.{Changed, with_block}
 use Rattle.bx_page.specs.declared.entry.Entry.{Entry}
 use Rattle.bx_page.specs.Contents.{Contents}
-use Rattle.bx_truth.specs.Chunks.{block_at, own_block, chunks_of}
-use Rattle.bx_truth.specs.Edits.{ChunkAnew}
-use Rattle.bx_truth.specs.PageTrees.{Chunks, Node, IsNode, PageTree, map_of}
-use Rattle.bx_views.specs.Truths.{Truth, Held, Hints, with_draft}
+use Rattle.bx_blink.specs.bx_truth.specs.Chunks.{block_at, own_block, chunks_of}
+use Rattle.bx_blink.specs.bx_truth.specs.Edits.{ChunkAnew}
+use Rattle.bx_blink.specs.bx_truth.specs.PageTrees.{Chunks, Node, IsNode, PageTree, map_of}
+use Rattle.bx_blink.specs.bx_views.specs.Truths.{Truth, Held, Hints, with_draft}
 use Rattle.bx_blink.specs.Hints.{HintsFit, Under}
 use Rattle.bx_blink.proofs.Sees.{Holds, chunk_is}
 use Rattle.bx_leaves.specs.Changes.{MakesMap}

@@ -7,9 +7,9 @@ use Rattle.bx_layout.specs.declared.block.Block.{Block}
 use Rattle.bx_records.specs.Drafts.{Changed}
 use Rattle.bx_page.specs.Contents.{Contents, size, with_value}
 use Rattle.bx_page.proofs.Whole.{one_page}
-use Rattle.bx_truth.specs.Chunks.{block_at}
-use Rattle.bx_truth.specs.PageTrees.{HasPage}
-use Rattle.bx_views.specs.Truths.{Held, Hints}
+use Rattle.bx_blink.specs.bx_truth.specs.Chunks.{block_at}
+use Rattle.bx_blink.specs.bx_truth.specs.PageTrees.{HasPage}
+use Rattle.bx_blink.specs.bx_views.specs.Truths.{Held, Hints}
 use Rattle.bx_blink.specs.declared.error.BlinkError.{BlinkError}
 use Rattle.bx_blink.specs.declared.error.BlinkError.TheVariants.{Need, Stale, Full, NoRoom, Absent, Present, OutOfMemory, Crowded}
 use Rattle.bx_blink.specs.Walks.{reads_with}

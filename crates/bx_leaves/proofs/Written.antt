@@ -6,10 +6,10 @@ use Rattle.bx_layout.specs.declared.block.Block.{Block}
 use Rattle.bx_layout.specs.Areas.{in_use, generation_in}
 use Rattle.bx_places.specs.Places.{block_area, block_slot}
 use Rattle.bx_records.specs.Drafts.{Changed, block_in, with_block}
-use Rattle.bx_views.specs.Truths.{Truth, Held, with_draft}
-use Rattle.bx_truth.specs.Chunks.{block_at, handle_of, own_block, IsSlot, is_slot, word_in, word_at, chunks_of, IsAreaBlock, IsChunked}
-use Rattle.bx_truth.specs.Edits.{ChunkAnew}
-use Rattle.bx_truth.specs.Stands.{WasGiven}
+use Rattle.bx_blink.specs.bx_views.specs.Truths.{Truth, Held, with_draft}
+use Rattle.bx_blink.specs.bx_truth.specs.Chunks.{block_at, handle_of, own_block, IsSlot, is_slot, word_in, word_at, chunks_of, IsAreaBlock, IsChunked}
+use Rattle.bx_blink.specs.bx_truth.specs.Edits.{ChunkAnew}
+use Rattle.bx_blink.specs.bx_truth.specs.Stands.{WasGiven}
 use Rattle.bx_blink.proofs.Sees.{IsChunk, Holds, chunk_is, chunk_from}
 
 pub own_not_slot : (areas block a : ℕ) → IsSlot areas block → own_block a ≡ block → ⊥

@@ -4,10 +4,10 @@ use Rattle.bx_base.specs.declared.names.Mode.{Mode}
 use Rattle.bx_records.specs.Drafts.{Changed}
 use Rattle.bx_page.specs.declared.entry.Entry.{Entry}
 use Rattle.bx_page.specs.Contents.{Contents, value_of, with_entry}
-use Rattle.bx_truth.specs.Chunks.{chunks_of, own_block}
-use Rattle.bx_truth.specs.Edits.{HasPagesOf}
-use Rattle.bx_truth.specs.PageTrees.{Node, PageTree, IsPageOf, map_of, without_entry}
-use Rattle.bx_views.specs.Truths.{Truth, Held, Hints, with_draft}
+use Rattle.bx_blink.specs.bx_truth.specs.Chunks.{chunks_of, own_block}
+use Rattle.bx_blink.specs.bx_truth.specs.Edits.{HasPagesOf}
+use Rattle.bx_blink.specs.bx_truth.specs.PageTrees.{Node, PageTree, IsPageOf, map_of, without_entry}
+use Rattle.bx_blink.specs.bx_views.specs.Truths.{Truth, Held, Hints, with_draft}
 use Rattle.bx_blink.specs.declared.error.BlinkError.{BlinkError}
 use Rattle.bx_blink.specs.declared.error.BlinkError.TheVariants.{Need, Stale, Full, NoRoom, Absent, Present, OutOfMemory, Crowded}
 use Rattle.bx_blink.specs.Hints.{HintsFit, Under}

@@ -7,9 +7,9 @@ use Rattle.bx_layout.specs.Blocks.{HasParts}
 use Rattle.bx_records.specs.Drafts.{Changed, block_in, with_block}
 use Rattle.bx_page.specs.Contents.{Contents, size, value_of, with_value, without_key}
 use Rattle.bx_page.specs.Spelling.{Spells}
-use Rattle.bx_truth.specs.Chunks.{block_at}
-use Rattle.bx_truth.specs.PageTrees.{HasPage}
-use Rattle.bx_views.specs.Truths.{Held, Hints}
+use Rattle.bx_blink.specs.bx_truth.specs.Chunks.{block_at}
+use Rattle.bx_blink.specs.bx_truth.specs.PageTrees.{HasPage}
+use Rattle.bx_blink.specs.bx_views.specs.Truths.{Held, Hints}
 use Rattle.bx_blink.specs.declared.error.BlinkError.{BlinkError}
 use Rattle.bx_blink.specs.declared.error.BlinkError.TheVariants.{Need, Stale, Full, NoRoom, Absent, Present, OutOfMemory, Crowded}
 use Rattle.bx_blink.specs.declared.steps.End.{End}

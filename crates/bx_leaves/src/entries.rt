@@ -1,9 +1,9 @@
 //! The calls that change an entry.
 
 ghost use Rattle.std.specs.Prelude.{◌≡◌, ℕ, ◌+◌, ◌≤◌, length, OnOk, OnErr};
-ghost use Rattle.bx_truth.specs.PageTrees.{PageTree};
-ghost use Rattle.bx_views.specs.Attempts.{IsHeldDraft};
-ghost use Rattle.bx_views.specs.Truths.{Truth};
+ghost use Rattle.bx_blink.specs.bx_truth.specs.PageTrees.{PageTree};
+ghost use Rattle.bx_blink.specs.bx_views.specs.Attempts.{IsHeldDraft};
+ghost use Rattle.bx_blink.specs.bx_views.specs.Truths.{Truth};
 ghost use Rattle.bx_blink.specs.Hints.{Under};
 ghost use Rattle.bx_blink.specs.Walks.{reads_with};
 ghost use Rattle.bx_leaves.specs.Leaves.{OnLeafPath, InsertsAt, RemovesAt, LeafWith, LeafWithout};
@@ -12,9 +12,9 @@ ghost use Rattle.bx_leaves.specs.Changes.{InsertsIn, RemovesIn, NeedsUnheld};
 use crate::leaf::leaf_of;
 use crate::pages::{is_nearly_full, put_bytes};
 use bx_blink::BlinkError;
+use bx_blink::views::View;
 use bx_places::PAYLOAD;
 use bx_records::Draft;
-use bx_views::View;
 use std::alloc::Global;
 
 /// Puts an entry into the leaf of its key, in the tree under a root, by the root's handle. It changes one page.

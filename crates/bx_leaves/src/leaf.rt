@@ -4,10 +4,10 @@ ghost use Rattle.bx_blink.specs.Walks.{reads_with};
 ghost use Rattle.bx_leaves.specs.Leaves.{LeafOf};
 
 use bx_base::Mode;
+use bx_blink::page_bytes::PageBytes;
+use bx_blink::views::View;
 use bx_blink::{BlinkError, End, block_at, seen, walk};
-use bx_page_bytes::PageBytes;
 use bx_records::Draft;
-use bx_views::View;
 
 /// The leaf of a key with its handle, held exclusively.
 pub fn leaf_of<'a, V: View>(

@@ -6,12 +6,12 @@ ghost use Rattle.bx_page.specs.Spelling.{Spells};
 ghost use Rattle.bx_leaves.specs.Leaves.{IsNearlyFull, PutsOrNot};
 
 use bx_base::{Mode, Raw};
+use bx_blink::views::View;
 use bx_blink::{BlinkError, block_at, page_of};
 use bx_layout::Block;
 use bx_page::Page;
 use bx_places::PAYLOAD;
 use bx_records::Draft;
-use bx_views::View;
 use std::alloc::Global;
 
 /// The kind of the blocks that are pages.

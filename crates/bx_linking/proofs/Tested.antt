@@ -6,11 +6,11 @@ use Rattle.std.proofs.lemmas.Bool.Decides.{nat_tests}
 use Rattle.bx_entries.specs.RoomFinding.{RoomIn}
 use Rattle.bx_changes.specs.declared.error.ChangeError.{ChangeError}
 use Rattle.bx_changes.specs.declared.error.ChangeError.TheVariants.{Stopped, Full}
-use Rattle.bx_dirs.specs.Entries.{HasEntries}
+use Rattle.bx_entries.specs.bx_dirs.specs.Entries.{HasEntries}
 use Rattle.bx_entries.specs.declared.finding.Removable.TheVariants as of
 use Rattle.bx_entries.specs.Finding.{IsDirectoryOf}
 use Rattle.bx_entries.proofs.RemovedFrom.{IsListed, listed}
-use Rattle.bx_files.specs.Paths.{IsNeed}
+use Rattle.bx_changes.specs.bx_files.specs.Paths.{IsNeed}
 use Rattle.bx_inodes.proofs.Pages.{inode_is}
 use Rattle.bx_inodes.specs.declared.stop.Stop.{Stop}
 use Rattle.bx_inodes.specs.declared.stop.Stop.TheVariants.{Need, Inner, Status, OutOfMemory}

@@ -8,9 +8,9 @@ use Rattle.bx_blink.specs.Walks.{reads_with}
 use Rattle.bx_changes.specs.declared.error.ChangeError.{ChangeError}
 use Rattle.bx_changes.specs.declared.error.ChangeError.TheVariants.{Stopped, Full}
 use Rattle.bx_changes.specs.Growing.{IsNearlyFull, LeavesTrees}
-use Rattle.bx_dirs.specs.Changes.{OnAddPath, entry_of}
+use Rattle.bx_entries.specs.bx_dirs.specs.Changes.{OnAddPath, entry_of}
 use Rattle.bx_entries.specs.Finding.{usable}
-use Rattle.bx_files.specs.Paths.{OnSearch}
+use Rattle.bx_changes.specs.bx_files.specs.Paths.{OnSearch}
 use Rattle.bx_places.specs.Handles.{named, parts_of}
 use Rattle.bx_inodes.specs.Fitting.{HintsFitAll}
 use Rattle.bx_inodes.specs.Inodes.{IsInodeOf, LiveAt}

@@ -3,7 +3,7 @@
 ghost use Rattle.std.specs.Prelude.{◌<◌, ◌≤◌, ℕ, [], length, IfErr, IfOk, IsSome};
 ghost use Rattle.bx_entries.specs.Lacking.{IfFirst, MakesPlace, NoSlotsNear, ReadyToEnter};
 ghost use Rattle.bx_changes.specs.Procedures.{Exclusive, HoldsFirst, IfFull, IsHeldDraft, IsInode, IsInodeOf, LiveAt, NeedsBy, NeverFirst, OnVolume, Tree, Truth, block_at, reads_with};
-ghost use Rattle.bx_dirs.specs.Changes.{OnAddPath, entry_of};
+ghost use Rattle.bx_entries.specs.bx_dirs.specs.Changes.{OnAddPath, entry_of};
 ghost use Rattle.bx_model.specs.Reading.{named_file};
 ghost use Rattle.bx_linking.specs.Drafting.{ComesBy};
 ghost use Rattle.bx_linking.specs.Linking.{IsLinking, LinksIn, MayLink, OnInto, linking, with_link};

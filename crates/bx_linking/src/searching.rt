@@ -2,13 +2,13 @@
 
 ghost use Rattle.std.specs.Prelude.{List, [], IfOk, IfSome, Some};
 ghost use Rattle.bx_changes.specs.Procedures.{Name, NeedsOn, NeverInner, Truth};
-ghost use Rattle.bx_dirs.specs.Entries.{HasEntries};
-ghost use Rattle.bx_files.specs.Paths.{Finds, OnSearch};
+ghost use Rattle.bx_entries.specs.bx_dirs.specs.Entries.{HasEntries};
+ghost use Rattle.bx_changes.specs.bx_files.specs.Paths.{Finds, OnSearch};
 ghost use Rattle.bx_truth.specs.Keys.{name_key, name_value};
 ghost use Rattle.bx_linking.specs.Linking.{TellsEntry};
 
 use bx_blink::BlinkError;
-use bx_files::needed;
+use bx_changes::files::needed;
 use bx_inodes::Stop;
 use bx_model::STALE;
 use bx_views::View;
@@ -30,7 +30,7 @@ pub fn find_entry<V: View>(
     ensures need { NeedsOn areas (V.held view.now) (OnSearch (V.held view.now) (V.hints view.now) root (name_key name.now)) result }
     ensures inner { NeverInner result }
 {
-    match bx_dirs::lookup(alloc, view, root, name) {
+    match bx_entries::dirs::lookup(alloc, view, root, name) {
         Ok(found) => Ok(Some(found)),
         Err(BlinkError::Absent) => Ok(None),
         Err(BlinkError::Need(at, _)) => Err(needed(areas, at)),

@@ -3,7 +3,7 @@
 ghost use Rattle.std.specs.Prelude.{◌≡◌, ◌<◌, ℕ, [], None, IfErr, IfOk};
 ghost use Rattle.bx_entries.specs.Lacking.{FindsBoth, IfFirst, MakesEither};
 ghost use Rattle.bx_changes.specs.Procedures.{HoldsFirst, IfFull, NeedsBy, NeedsOn, NeverInner, NoSlots, Tree, Truth, parts_of};
-ghost use Rattle.bx_files.specs.Paths.{OnSearch};
+ghost use Rattle.bx_changes.specs.bx_files.specs.Paths.{OnSearch};
 ghost use Rattle.bx_truth.specs.Keys.{name_key};
 ghost use Rattle.bx_linking.specs.Linking.{IsLinking, LinkErrorIn, MayLinkIn, OnTest};
 

@@ -4,8 +4,8 @@ use Rattle.std.proofs.lemmas.List.{reverse-append, length-reverse}
 use Rattle.bx_disk.specs.Disks.{Image}
 use Rattle.bx_layout.specs.Labels.{IsOpenGate}
 use Rattle.bx_places.specs.Places.{log_device, body_place}
-use Rattle.bx_volume.specs.Images.{by_device, devices_of, member_disk}
-use Rattle.bx_volume.specs.Records.{Logged, IsInBody, StandOpen, IsLog, gate_of}
+use Rattle.bx_homes.specs.bx_volume.specs.Images.{by_device, devices_of, member_disk}
+use Rattle.bx_homes.specs.bx_volume.specs.Records.{Logged, IsInBody, StandOpen, IsLog, gate_of}
 use Rattle.bx_logs.specs.Bodies.{IsRecordAt}
 
 -- ---- the log of a device depends on what that device holds

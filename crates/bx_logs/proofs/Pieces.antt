@@ -13,8 +13,8 @@ use Rattle.bx_layout.specs.Blocks.{HasParts, block_text}
 use Rattle.bx_places.specs.Places.{IsBlock}
 use Rattle.bx_records.specs.Drafts.{Changed, same_number}
 use Rattle.bx_records.specs.Records.{SpellsHead, head_text}
-use Rattle.bx_volume.specs.Records.{Logged, IsLogged, logged_text}
-use Rattle.bx_volume.proofs.Sizes.{block_bytes, head_long}
+use Rattle.bx_homes.specs.bx_volume.specs.Records.{Logged, IsLogged, logged_text}
+use Rattle.bx_homes.specs.bx_volume.proofs.Sizes.{block_bytes, head_long}
 use Rattle.bx_homes.specs.Standing.{StandsAt}
 use Rattle.bx_logs.specs.Bodies.{AreNumbers, IsRecordAt, StandOn}
 

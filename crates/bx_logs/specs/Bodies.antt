@@ -6,7 +6,7 @@ use Rattle.bx_disk.specs.Disks.{Image}
 use Rattle.bx_calls.specs.Regions.{ReadsAs}
 use Rattle.bx_places.specs.Places.{IsBlock}
 use Rattle.bx_records.specs.Drafts.{Changed}
-use Rattle.bx_volume.specs.Records.{Logged, IsLogged, logged_text}
+use Rattle.bx_homes.specs.bx_volume.specs.Records.{Logged, IsLogged, logged_text}
 use Rattle.bx_homes.specs.Standing.{StandsAt}
 
 -- numbers of blocks of a volume with so many areas, each once

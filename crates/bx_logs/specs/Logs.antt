@@ -4,7 +4,7 @@ use Rattle.std.specs.List.{flat_map}
 use Rattle.bx_base.specs.declared.names.Point.{Point}
 use Rattle.bx_disk.specs.Disks.{Image}
 use Rattle.bx_rows.specs.declared.session.SessionRow.{SessionRow}
-use Rattle.bx_volume.specs.Records.{Logged, IsLog, LogWhere, HasLog}
+use Rattle.bx_homes.specs.bx_volume.specs.Records.{Logged, IsLog, LogWhere, HasLog}
 use Rattle.bx_logs.specs.declared.members.Members.{Members}
 use Rattle.bx_logs.specs.Members.{held_by}
 use Rattle.bx_logs.specs.Bodies.{point_of}

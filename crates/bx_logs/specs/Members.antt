@@ -2,7 +2,7 @@
 use Rattle.std.specs.Prelude.{◌≡◌, ℕ, ◌<◌, ◌≤◌, Bool, false, List, length, slice_index, slice_get, unwrap_or}
 use Rattle.bx_disk.specs.Disks.{Image}
 use Rattle.bx_places.specs.Places.{IsVolume, member_sectors}
-use Rattle.bx_volume.specs.Images.{by_device, devices_of, member_disk}
+use Rattle.bx_homes.specs.bx_volume.specs.Images.{by_device, devices_of, member_disk}
 use Rattle.bx_logs.specs.declared.members.Members.{Members}
 
 -- the member of a device: A (false) or B (true)

@@ -3,7 +3,7 @@ use Rattle.std.specs.Prelude.{◌≡◌, ℕ, ◌<◌, reverse, length, List, []
 use Rattle.std.specs.BTreeMap.{BTreeMap, get}
 use Rattle.std.specs.Ordering.{nat_cmp}
 use Rattle.bx_layout.specs.declared.block.Block.{Block}
-use Rattle.bx_volume.specs.Records.{Logged, newest_in, or_older}
+use Rattle.bx_homes.specs.bx_volume.specs.Records.{Logged, newest_in, or_older}
 
 -- the newest blocks that a log has, by their numbers
 abbrev pub Newest : Type 0

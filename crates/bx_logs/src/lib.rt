@@ -12,3 +12,8 @@ pub use logs::{points_of, read_logs};
 pub use members::Members;
 pub use newest::{Newest, clash_in, copy_of, newest_of_all};
 pub use record::Record;
+
+/// What the crates above use of `bx_homes`.
+pub mod homes {
+    pub use bx_homes::{Blocks, first_absent, first_label, first_unlabelled, read_home};
+}

@@ -1,7 +1,7 @@
 //! The logs of a volume.
 
 ghost use Rattle.std.specs.Prelude.{◌≡◌, ◌<◌, List, IfOk, IfSome, IfNone};
-ghost use Rattle.bx_volume.specs.Records.{Logged, IsInBody};
+ghost use Rattle.bx_homes.specs.bx_volume.specs.Records.{Logged, IsInBody};
 ghost use Rattle.bx_logs.specs.Members.{AreThere, held_by};
 ghost use Rattle.bx_logs.specs.Logs.{IsLogOf, HasNoLog};
 ghost use Rattle.bx_disk.specs.Kept.{Fails};

@@ -2,7 +2,7 @@
 
 ghost use Rattle.std.specs.Prelude.{◌≡◌, ◌↔◌, ℕ, length, reverse, IfOk, IfSome, IfNone, OnOk, IsTrue};
 ghost use Rattle.bx_records.specs.Drafts.{block_in};
-ghost use Rattle.bx_volume.specs.Records.{newest_in, or_older};
+ghost use Rattle.bx_homes.specs.bx_volume.specs.Records.{newest_in, or_older};
 ghost use Rattle.bx_logs.specs.Newest.{Agree, AreAgreed, AreNewest, Differ, IsClash, newest_at};
 
 use crate::record::Record;

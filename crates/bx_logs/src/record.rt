@@ -4,7 +4,7 @@ ghost use Rattle.std.specs.Prelude.{◌≡◌, ◌≢◌, ◌↔◌, ◌+◌, �
 ghost use Rattle.std.specs.List.{AllByRecursion};
 ghost use Rattle.bx_records.specs.declared.record_head.RecordHead.{RecordHead};
 ghost use Rattle.bx_records.specs.Records.{SpellsHead};
-ghost use Rattle.bx_volume.specs.Records.{Logged};
+ghost use Rattle.bx_homes.specs.bx_volume.specs.Records.{Logged};
 ghost use Rattle.bx_logs.specs.Bodies.{AreNumbers, IsGap, IsRecordAt, StandOn};
 ghost use Rattle.bx_disk.specs.Kept.{FailsOn};
 
@@ -26,7 +26,7 @@ pub struct Record {
 }
 
 impl Model for Record {
-    ghost use Rattle.bx_volume.specs.Records.{Logged};
+    ghost use Rattle.bx_homes.specs.bx_volume.specs.Records.{Logged};
 
     ghost Value = { Logged };
 

@@ -11,9 +11,9 @@ use bx_base::{Actor, CallNo, OutOfMemory};
 use bx_engine::BoxFs;
 use bx_facts::Store;
 use bx_global::GlobalState;
-use bx_lone_node::LoneNode;
 use bx_lone_standing::Waiting;
 use bx_lone_store::PlainStore;
+use bx_lone_turns::lone_node::LoneNode;
 use std::alloc::Global;
 
 /// The one node of a volume of one device and one area, and the store whose members stand on a bench of disks. It waits for nothing:

@@ -3,7 +3,7 @@
 ghost use Rattle.std.specs.Prelude.{◌≡◌, ◌≢◌, [], ℕ, List, IfOk, OnErr, OnOk, true, false};
 ghost use Rattle.bx_disk.specs.Disks.{Disks};
 ghost use Rattle.bx_lone_machine.specs.Machine.{Holds, IsReady, calls_of, latest_of, record_of, volume_of};
-ghost use Rattle.bx_clean.specs.Tidying.{IsClean};
+ghost use Rattle.bx_engine.specs.bx_clean.specs.Tidying.{IsClean};
 ghost use Rattle.bx_lone_standing.specs.declared.stage.Stage.TheVariants.{Idle};
 ghost use Rattle.bx_model.specs.declared.tree.Tree.{Tree};
 

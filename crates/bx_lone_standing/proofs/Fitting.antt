@@ -23,11 +23,11 @@ use Rattle.bx_redo.specs.declared.work.Work.{Work}
 use Rattle.bx_redo.specs.declared.work.Work.TheVariants as works
 use Rattle.bx_redo.proofs.Stored.{only_one}
 use Rattle.bx_redo.proofs.Within.{decided}
-use Rattle.bx_truth.proofs.Cases.{eq_true, same_or}
-use Rattle.bx_volume.specs.Overlay.{Logs}
-use Rattle.bx_volume.specs.Records.{Logged, IsLogged, logged_text, newest_in}
-use Rattle.bx_volume.proofs.Apart.{two_homes}
-use Rattle.bx_volume.proofs.Sizes.{block_bytes, logged_bytes}
+use Rattle.bx_redo.specs.bx_truth.proofs.Cases.{eq_true, same_or}
+use Rattle.bx_redo.specs.bx_volume.specs.Overlay.{Logs}
+use Rattle.bx_redo.specs.bx_volume.specs.Records.{Logged, IsLogged, logged_text, newest_in}
+use Rattle.bx_redo.specs.bx_volume.proofs.Apart.{two_homes}
+use Rattle.bx_redo.specs.bx_volume.proofs.Sizes.{block_bytes, logged_bytes}
 use Rattle.bx_lone_standing.specs.Node.{IsBody}
 use Rattle.bx_lone_standing.specs.Runs.{AreBlocks, homes_of}
 

@@ -7,8 +7,8 @@ use Rattle.bx_facts.proofs.Lists.{front_or_behind, nothing}
 use Rattle.bx_records.specs.declared.runs.Run.{Run}
 use Rattle.bx_rows.specs.declared.session.SessionRow.{SessionRow}
 use Rattle.bx_views.specs.Truths.{Truth}
-use Rattle.bx_volume.specs.Overlay.{Logs}
-use Rattle.bx_volume.specs.Records.{Logged}
+use Rattle.bx_redo.specs.bx_volume.specs.Overlay.{Logs}
+use Rattle.bx_redo.specs.bx_volume.specs.Records.{Logged}
 use Rattle.bx_redo.specs.Homes.{AreItsHomes}
 use Rattle.bx_redo.specs.Stands.{LogStands, IsAcknowledged, bytes_of, resting, stored}
 use Rattle.bx_redo.specs.Steps.{writes}

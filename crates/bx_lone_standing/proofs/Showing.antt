@@ -23,10 +23,10 @@ use Rattle.bx_redo.proofs.Settled.{settled_has}
 use Rattle.bx_redo.proofs.Shown.{shown}
 use Rattle.bx_redo.proofs.Stored.{its_sectors}
 use Rattle.bx_views.specs.Truths.{with_draft}
-use Rattle.bx_volume.specs.Images.{AreSources, devices_of}
-use Rattle.bx_volume.specs.Overlay.{IsTruth, with_log}
-use Rattle.bx_volume.specs.Records.{Logged}
-use Rattle.bx_volume.proofs.Overlay.{log_here, log_there}
+use Rattle.bx_redo.specs.bx_volume.specs.Images.{AreSources, devices_of}
+use Rattle.bx_redo.specs.bx_volume.specs.Overlay.{IsTruth, with_log}
+use Rattle.bx_redo.specs.bx_volume.specs.Records.{Logged}
+use Rattle.bx_redo.specs.bx_volume.proofs.Overlay.{log_here, log_there}
 use Rattle.bx_lone_standing.specs.declared.stage.Recorded.{Recorded}
 use Rattle.bx_lone_standing.specs.declared.stage.Stage.{Stage}
 use Rattle.bx_lone_standing.specs.declared.stage.Stage.TheVariants.{Idle, Reads, Logs, Homes, Closes, Spent}

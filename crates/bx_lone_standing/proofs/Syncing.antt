@@ -9,7 +9,7 @@ use Rattle.bx_facts.specs.Writes.{Asked, IsOnly, Made, Sent, StorePast, WritesIn
 use Rattle.bx_global.specs.declared.state.GlobalState.{GlobalState}
 use Rattle.bx_model.specs.declared.tree.Tree.{Tree}
 use Rattle.bx_records.specs.declared.runs.Run.{Run}
-use Rattle.bx_truth.proofs.Cases.{eq_true}
+use Rattle.bx_redo.specs.bx_truth.proofs.Cases.{eq_true}
 use Rattle.bx_lone_standing.specs.Node.{IsNode, NodeView}
 use Rattle.bx_lone_standing.specs.Standing.{IsLone, NodeStands}
 use Rattle.bx_lone_standing.proofs.Phases.{of_one}

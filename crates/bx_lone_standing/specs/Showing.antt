@@ -7,7 +7,7 @@ use Rattle.bx_model.specs.declared.tree.Tree.{Tree}
 use Rattle.bx_redo.specs.declared.work.Work.TheVariants.{Opens}
 use Rattle.bx_rows.specs.declared.session.SessionRow.{SessionRow}
 use Rattle.bx_views.specs.Truths.{Truth}
-use Rattle.bx_volume.specs.Overlay.{Logs as Records, IsTruth}
+use Rattle.bx_redo.specs.bx_volume.specs.Overlay.{Logs as Records, IsTruth}
 use Rattle.bx_lone_standing.specs.declared.stage.Stage.{Stage}
 use Rattle.bx_lone_standing.specs.declared.stage.Stage.TheVariants.{Idle, Reads, Logs, Homes, Closes, Spent}
 use Rattle.bx_lone_standing.specs.Node.{NodeView}

@@ -21,8 +21,8 @@ use Rattle.bx_redo.specs.declared.work.Work.{Work}
 use Rattle.bx_redo.specs.declared.work.Work.TheVariants as works
 use Rattle.bx_views.specs.Attempts.{Deed}
 use Rattle.bx_views.specs.Truths.{Truth, with_draft}
-use Rattle.bx_volume.specs.Overlay.{Logs as Records}
-use Rattle.bx_volume.specs.Records.{Logged}
+use Rattle.bx_redo.specs.bx_volume.specs.Overlay.{Logs as Records}
+use Rattle.bx_redo.specs.bx_volume.specs.Records.{Logged}
 use Rattle.bx_lone_standing.specs.declared.stage.Acted.{Acted}
 use Rattle.bx_lone_standing.specs.declared.stage.Recorded.{Recorded}
 use Rattle.bx_lone_standing.specs.declared.stage.Recorded.TheVariants.{Call, Inner}

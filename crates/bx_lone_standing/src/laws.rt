@@ -4,7 +4,7 @@ ghost use Rattle.std.specs.Prelude.{ℕ, Bool};
 ghost use Rattle.bx_disk.specs.Disks.{Disks, Image, IsImage};
 ghost use Rattle.bx_global.specs.declared.state.GlobalState.{GlobalState};
 ghost use Rattle.bx_model.specs.declared.tree.Tree.{Tree};
-ghost use Rattle.bx_volume.specs.Images.{AreSources, devices_of};
+ghost use Rattle.bx_redo.specs.bx_volume.specs.Images.{AreSources, devices_of};
 ghost use Rattle.bx_lone_standing.specs.Node.{IsNode, NodeView};
 ghost use Rattle.bx_lone_standing.specs.Showing.{NodeShows};
 ghost use Rattle.bx_lone_standing.specs.Standing.{NodeStands};

@@ -10,7 +10,7 @@ ghost use Rattle.bx_lone_standing.specs.declared.stage.Recorded.{Recorded};
 ghost use Rattle.bx_redo.specs.Stands.{doing};
 ghost use Rattle.bx_redo.specs.Steps.{AreBlocksOf, record_of, writes};
 ghost use Rattle.bx_redo.specs.declared.work.Work.TheVariants.{Idle, Body, Closes};
-ghost use Rattle.bx_volume.specs.Records.{IsLogged, logged_text};
+ghost use Rattle.bx_redo.specs.bx_volume.specs.Records.{IsLogged, logged_text};
 
 use crate::stores::send;
 use bx_base::{OutOfMemory, Point};

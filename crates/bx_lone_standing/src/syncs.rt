@@ -13,7 +13,7 @@ ghost use Rattle.bx_model.specs.declared.tree.Tree.{Tree};
 ghost use Rattle.bx_lone_standing.specs.Node.{IsJoined, IsNode, NodeView};
 ghost use Rattle.bx_lone_standing.specs.Showing.{NodeShows};
 ghost use Rattle.bx_lone_standing.specs.Standing.{NodeStands};
-ghost use Rattle.bx_volume.specs.Images.{AreSources, devices_of};
+ghost use Rattle.bx_redo.specs.bx_volume.specs.Images.{AreSources, devices_of};
 
 use bx_base::Actor;
 use bx_disk::Rack;

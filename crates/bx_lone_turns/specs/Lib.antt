@@ -1,3 +1,4 @@
 pub mod Attempts
 pub mod Engines
 pub mod Tidying
+pub use Rattle.bx_lone_node

@@ -8,3 +8,8 @@ mod turns;
 
 pub use tidying::tidy;
 pub use turns::turn;
+
+/// What the crates above use of `bx_lone_node`.
+pub mod lone_node {
+    pub use bx_lone_node::LoneNode;
+}

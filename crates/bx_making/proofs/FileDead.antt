@@ -32,8 +32,8 @@ use Rattle.bx_truth.proofs.Put.{shown}
 use Rattle.bx_truth.proofs.Same.{chunk_is}
 use Rattle.bx_views.specs.Attempts.{IsHeldDraft}
 use Rattle.bx_views.specs.Truths.{Truth, Held, Hints, IsTruth, with_draft}
-use Rattle.bx_blink.specs.Hints.{HintsFit}
-use Rattle.bx_blink.proofs.Sees.{Holds}
+use Rattle.bx_leaves.specs.bx_blink.specs.Hints.{HintsFit}
+use Rattle.bx_leaves.specs.bx_blink.proofs.Sees.{Holds}
 use Rattle.bx_chunks.specs.Marking.{Marks, MarksAt, MarksIn}
 use Rattle.bx_chunks.specs.declared.error.ChunkError.{ChunkError}
 use Rattle.bx_chunks.specs.declared.error.ChunkError.TheVariants.{Need, Stale, Full, OutOfMemory, Crowded}

@@ -26,8 +26,8 @@ use Rattle.bx_truth.proofs.OneFiles.{one_inode}
 use Rattle.bx_truth.proofs.Taking.{taken_keeps}
 use Rattle.bx_views.specs.Attempts.{IsHeldDraft}
 use Rattle.bx_views.specs.Truths.{Truth, Held, Hints, IsTruth, with_draft}
-use Rattle.bx_blink.specs.Hints.{HintsFit}
-use Rattle.bx_blink.proofs.Sees.{Holds}
+use Rattle.bx_leaves.specs.bx_blink.specs.Hints.{HintsFit}
+use Rattle.bx_leaves.specs.bx_blink.proofs.Sees.{Holds}
 use Rattle.bx_chunks.specs.Allocating.{Adds, NeedsFairly}
 use Rattle.bx_chunks.specs.Putting.{empty_of}
 use Rattle.bx_chunks.specs.declared.error.ChunkError.{ChunkError}

@@ -8,7 +8,7 @@ use Rattle.bx_truth.specs.Shown.{KeepsSlots}
 use Rattle.bx_truth.proofs.Dirs.{keeps_slots}
 use Rattle.bx_truth.proofs.Same.{chunk_is}
 use Rattle.bx_views.specs.Truths.{Truth, Held, with_draft}
-use Rattle.bx_blink.proofs.Sees.{Holds}
+use Rattle.bx_leaves.specs.bx_blink.proofs.Sees.{Holds}
 use Rattle.bx_leaves.proofs.Written.{draft_elsewhere, holds_still, own_not_slot, puts_writes}
 
 module _ (areas : ℕ) (held : Held) (truth : Truth) (old new : List Changed) (handle : ℕ) (before block : Block) (holds : Holds areas held truth old)

@@ -7,10 +7,10 @@ ghost use Rattle.bx_making.specs.Common.{IsHeldDraft, IsInode, IsTruth, NeedsFai
 ghost use Rattle.bx_making.specs.Made.{MakesIn};
 ghost use Rattle.bx_making.specs.Making.{FillsAt, MakesAt};
 
-use bx_blink::BlinkError;
 use bx_chunks::{ChunkError, allocate, copy_of};
 use bx_inodes::put_inode;
 use bx_layout::Inode;
+use bx_leaves::blink::BlinkError;
 use bx_leaves::put_page;
 use bx_page::Page;
 use bx_places::MOST_BLOCKS;

@@ -3,7 +3,7 @@
 ghost use Rattle.std.specs.Prelude.{◌≡◌, ◌<◌, ℕ, OnErr, IfSome, IfNone, false, slice_index};
 ghost use Rattle.bx_places.specs.Handles.{number_of, parts_of};
 ghost use Rattle.bx_layout.specs.Areas.{IsArea, generation_in, is_dead};
-ghost use Rattle.bx_truth.specs.Chunks.{IsChunked};
+ghost use Rattle.bx_chunks.specs.bx_truth.specs.Chunks.{IsChunked};
 ghost use Rattle.bx_views.specs.Attempts.{IsHeldDraft};
 ghost use Rattle.bx_views.specs.Truths.{IsTruth, Truth, with_draft};
 ghost use Rattle.bx_chunks.specs.Allocating.{NeedsFairly};

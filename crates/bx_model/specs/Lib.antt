@@ -14,3 +14,4 @@ pub mod Act
 pub mod FileTrees
 pub mod History
 pub mod Listing
+pub use Rattle.bx_tree_files

@@ -5,7 +5,7 @@ use Rattle.bx_model.specs.declared.reply.Reply.{Reply}
 use Rattle.bx_model.specs.declared.reply.Reply.TheVariants as reply
 use Rattle.bx_model.specs.declared.status.TheConstants.{NOENT}
 use Rattle.bx_model.specs.declared.tree.Tree.{Tree}
-use Rattle.bx_places.specs.Handles.{file_text}
+use Rattle.bx_tree_files.specs.bx_places.specs.Handles.{file_text}
 
 -- MNT: the root's file handle, of the path `/`. UMNT answers nothing.
 abbrev pub mount : Tree → ℕ → List ℕ → Reply

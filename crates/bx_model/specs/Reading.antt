@@ -10,7 +10,7 @@ use Rattle.bx_model.specs.declared.reply.Reply.{Reply}
 use Rattle.bx_model.specs.declared.reply.Reply.TheVariants as reply
 use Rattle.bx_model.specs.declared.status.TheConstants.{ACCES, ISDIR, NOENT, NOTDIR, NXIO, STALE}
 use Rattle.bx_model.specs.declared.tree.Tree.{Tree}
-use Rattle.bx_places.specs.Handles.{file_text, named}
+use Rattle.bx_tree_files.specs.bx_places.specs.Handles.{file_text, named}
 use Rattle.bx_tree_files.specs.Attributes.{attributes_of}
 use Rattle.bx_tree_files.specs.Files.{file_at, is_directory, is_link}
 use Rattle.bx_tree_files.specs.Entries.{entry_named}

@@ -1,7 +1,7 @@
 //! What a client asks for.
 
-use bx_base::{Raw, Words};
 use bx_tree_files::Sattr;
+use bx_tree_files::base::{Raw, Words};
 
 /// The arguments of a procedure, in their order (RFC 1094, section 2.2 and appendix A). A file handle is given as its 32
 /// bytes.

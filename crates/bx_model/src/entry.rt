@@ -2,7 +2,7 @@
 
 use crate::call::Call;
 use crate::reply::Reply;
-use bx_base::CallNo;
+use bx_tree_files::base::CallNo;
 
 /// A step of a history: a call, and what came of it.
 #[derive(Drop)]

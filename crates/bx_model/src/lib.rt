@@ -8,7 +8,10 @@ mod reply;
 mod status;
 mod tree;
 
-pub use bx_tree_files::{Body, Content, File, Files, Handles, Name, NameList, Sattr, attributes};
+pub use bx_tree_files::{
+    Body, Content, DIRECTORY, File, Files, Handles, LINK, Name, NameList, Sattr, attributes,
+    fileid, is_given,
+};
 pub use call::{Args, Call};
 pub use entry::Entry;
 pub use permissions::{Want, may};

@@ -1,6 +1,6 @@
 //! What a client is answered.
 
-use bx_base::{List, Raw, Words};
+use bx_tree_files::base::{List, Raw, Words};
 
 /// An entry of a directory as READDIR lists it (RFC 1094, section 2.2.17).
 #[derive(Drop)]

@@ -3,7 +3,7 @@
 ghost use Rattle.std.specs.Prelude.{◌≡◌, IfOk};
 ghost use Rattle.bx_model.specs.Opening.{opening, opening_root as the_root};
 
-use bx_base::OutOfMemory;
+use bx_tree_files::base::OutOfMemory;
 use bx_tree_files::{Body, DIRECTORY, File, Files, Handles, NameList};
 use std::alloc::Global;
 

@@ -13,7 +13,7 @@ use Rattle.bx_blink.proofs.Found.{place}
 use Rattle.bx_blink.proofs.Under.{agrees}
 use Rattle.bx_entries.specs.Taking.{IsEntryOf, TakesOutAt, inode_without}
 use Rattle.bx_entries.proofs.Taken.{listed}
-use Rattle.bx_dirs.specs.Entries.{HasEntries}
+use Rattle.bx_entries.specs.bx_dirs.specs.Entries.{HasEntries}
 use Rattle.bx_inodes.specs.Inodes.{HoldsInode}
 use Rattle.bx_layout.specs.Inodes.{SpellsInode}
 use Rattle.bx_layout.specs.declared.block.Block.{Block}
@@ -21,7 +21,7 @@ use Rattle.bx_layout.specs.declared.inode.Inode.{Inode}
 use Rattle.bx_leaves.specs.Changes.{MakesMap}
 use Rattle.bx_leaves.specs.Leaves.{TakesOut}
 use Rattle.bx_leaves.proofs.Done.{removes_in}
-use Rattle.bx_making.proofs.Puts.{put_chunk}
+use Rattle.bx_entries.specs.bx_making.proofs.Puts.{put_chunk}
 use Rattle.bx_model.specs.declared.tree.Tree.{Tree}
 use Rattle.bx_page.specs.Contents.{Contents, above, below, entry_size, size, without_key}
 use Rattle.bx_page.specs.Keys.{is_below}

@@ -8,7 +8,7 @@ use Rattle.bx_inodes.specs.Inodes.{IsInodeOf}
 use Rattle.bx_inodes.specs.Writing.{PutsInode}
 use Rattle.bx_layout.specs.declared.inode.Inode.{Inode}
 use Rattle.bx_leaves.proofs.Written.{draft_elsewhere, own_not_slot}
-use Rattle.bx_making.proofs.Puts.{put_chunk, put_holds}
+use Rattle.bx_entries.specs.bx_making.proofs.Puts.{put_chunk, put_holds}
 use Rattle.bx_model.specs.Edits.{changed}
 use Rattle.bx_model.specs.declared.tree.Tree.{Tree}
 use Rattle.bx_records.specs.Drafts.{Changed}

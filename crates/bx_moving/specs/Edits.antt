@@ -7,7 +7,7 @@ use Rattle.bx_base.specs.declared.names.Mode.TheVariants.{Exclusive}
 use Rattle.bx_blink.specs.Walks.{reads_with}
 use Rattle.bx_changes.specs.declared.error.ChangeError.{ChangeError}
 use Rattle.bx_changes.specs.declared.error.ChangeError.TheVariants.{Stopped, Full}
-use Rattle.bx_dirs.specs.Changes.{OnAddPath, OnTakePath, entry_of}
+use Rattle.bx_entries.specs.bx_dirs.specs.Changes.{OnAddPath, OnTakePath, entry_of}
 use Rattle.bx_entries.specs.Finding.{IsOwnBlock}
 use Rattle.bx_entries.specs.Removing.{OnUnlinking}
 use Rattle.bx_entries.specs.Taking.{TakesOutAt}

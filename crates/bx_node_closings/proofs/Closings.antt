@@ -7,11 +7,11 @@ use Rattle.bx_layout.specs.Labels.{IsOpenGate, gate_text}
 use Rattle.bx_layout.specs.declared.gate.Gate.TheVariants.{Closed}
 use Rattle.bx_places.specs.Places.{IsBlock, block_place, gate_place, log_device, log_start}
 use Rattle.bx_records.specs.Drafts.{Block, block_in}
-use Rattle.bx_redo.specs.Stands.{IsAcknowledged}
-use Rattle.bx_redo.specs.Steps.{shut_text}
-use Rattle.bx_redo.specs.declared.work.Work.TheVariants as works
-use Rattle.bx_redo.proofs.Opened.{one_only}
-use Rattle.bx_redo.proofs.Within.{within_it}
+use Rattle.bx_world_logs.specs.bx_redo.specs.Stands.{IsAcknowledged}
+use Rattle.bx_world_logs.specs.bx_redo.specs.Steps.{shut_text}
+use Rattle.bx_world_logs.specs.bx_redo.specs.declared.work.Work.TheVariants as works
+use Rattle.bx_world_logs.specs.bx_redo.proofs.Opened.{one_only}
+use Rattle.bx_world_logs.specs.bx_redo.proofs.Within.{within_it}
 use Rattle.bx_rows.specs.declared.session.SessionRow.{SessionRow}
 use Rattle.bx_rows.specs.Words.{is_taken}
 use Rattle.bx_views.specs.Truths.{Truth}

@@ -4,12 +4,12 @@ use Rattle.std.proofs.lemmas.Bool.Decides.{nat_tests}
 use Rattle.bx_disk.specs.Disks.{Image, is_within}
 use Rattle.bx_layout.specs.Labels.{IsOpenGate}
 use Rattle.bx_places.specs.Places.{block_place, log_device, log_start}
-use Rattle.bx_redo.specs.Stands.{IsAcknowledged}
-use Rattle.bx_redo.specs.Steps.{shut_text}
-use Rattle.bx_redo.specs.declared.work.Work.TheVariants as works
-use Rattle.bx_redo.proofs.Own.{most_of}
-use Rattle.bx_redo.proofs.Shown.{not_in_gates}
-use Rattle.bx_redo.proofs.Within.{before_it, behind_it, within_it}
+use Rattle.bx_world_logs.specs.bx_redo.specs.Stands.{IsAcknowledged}
+use Rattle.bx_world_logs.specs.bx_redo.specs.Steps.{shut_text}
+use Rattle.bx_world_logs.specs.bx_redo.specs.declared.work.Work.TheVariants as works
+use Rattle.bx_world_logs.specs.bx_redo.proofs.Own.{most_of}
+use Rattle.bx_world_logs.specs.bx_redo.proofs.Shown.{not_in_gates}
+use Rattle.bx_world_logs.specs.bx_redo.proofs.Within.{before_it, behind_it, within_it}
 use Rattle.bx_rows.specs.declared.session.SessionRow.{SessionRow}
 use Rattle.bx_rows.specs.Words.{is_taken}
 use Rattle.bx_views.specs.Truths.{Truth}

@@ -15,14 +15,14 @@ use Rattle.bx_rows.specs.Words.{row_in}
 use Rattle.bx_rows.specs.declared.session.SessionRow.{SessionRow}
 use Rattle.bx_views.specs.Attempts.{Deed}
 use Rattle.bx_views.specs.Truths.{Held, Hints, Truth}
-use Rattle.bx_world_logs.specs.Logs.{IsInLog}
-use Rattle.bx_world_logs.proofs.Growing.{rows_go}
+use Rattle.bx_node_views.specs.bx_world_logs.specs.Logs.{IsInLog}
+use Rattle.bx_node_views.specs.bx_world_logs.proofs.Growing.{rows_go}
 use Rattle.bx_world_views.specs.Views.{AreApart, VolumeStands}
-use Rattle.bx_world_standing.specs.Rights.{HasBlock, IsReached, IsWithin, MayTouch}
-use Rattle.bx_world_standing.specs.Rights.MayTouch.{OfHeld, OfLogged, OfSlot}
-use Rattle.bx_world_standing.specs.Sessions.{IsOfNode}
-use Rattle.bx_world_standing.specs.Standing.{Course, Known, StandsAt, SureOf, own_up}
-use Rattle.bx_world_standing.proofs.Owns.{own_is, own_of}
+use Rattle.bx_node_views.specs.bx_world_standing.specs.Rights.{HasBlock, IsReached, IsWithin, MayTouch}
+use Rattle.bx_node_views.specs.bx_world_standing.specs.Rights.MayTouch.{OfHeld, OfLogged, OfSlot}
+use Rattle.bx_node_views.specs.bx_world_standing.specs.Sessions.{IsOfNode}
+use Rattle.bx_node_views.specs.bx_world_standing.specs.Standing.{Course, Known, StandsAt, SureOf, own_up}
+use Rattle.bx_node_views.specs.bx_world_standing.proofs.Owns.{own_is, own_of}
 use Rattle.bx_node_views.specs.Changes.{Hides}
 use Rattle.bx_node_views.proofs.Knowing.{exclusive_is}
 use Rattle.bx_node_views.proofs.Views.{gave_up}

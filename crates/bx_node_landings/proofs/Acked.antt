@@ -24,13 +24,13 @@ use Rattle.bx_volume.specs.Records.{Logged, newest_in, or_older}
 use Rattle.bx_volume.proofs.Overlay.{log_here, log_there}
 use Rattle.bx_global.specs.Allowed.{IsAllowed, IsSession}
 use Rattle.bx_world_chains.proofs.Rows.{all_row, one_slot, taken_of}
-use Rattle.bx_world_logs.specs.Logs.{IsInLog, Slot, OfLog, begins, idle, view_of}
+use Rattle.bx_world_standing.specs.bx_world_logs.specs.Logs.{IsInLog, Slot, OfLog, begins, idle, view_of}
 use Rattle.bx_world_views.specs.Views.{Doubt, ShowsDraft, StepOf, VolumeStands}
 use Rattle.bx_world_standing.specs.Rights.{MayTouch}
 use Rattle.bx_world_standing.specs.Rights.MayTouch.{OfSlot, OfHeld, OfLogged}
 use Rattle.bx_world_standing.specs.Doubts.{IsRecordOf}
 use Rattle.bx_world_standing.specs.Standing.{Course, Known, StandsAt, SureOf, own_up}
-use Rattle.bx_world_logs.proofs.Moving.{slot_here, slot_there, with_slot}
+use Rattle.bx_world_standing.specs.bx_world_logs.proofs.Moving.{slot_here, slot_there, with_slot}
 use Rattle.bx_node_logs.proofs.Steps.{gate_lands}
 use Rattle.bx_world_views.proofs.Doubts.{without_doubt, without_only}
 use Rattle.bx_world_views.proofs.Steps.{acked, some_is}

@@ -26,9 +26,9 @@ use Rattle.bx_volume.specs.Records.{Logged, newest_in}
 use Rattle.bx_volume.proofs.Overlay.{log_here, log_there}
 use Rattle.bx_world_chains.specs.Entitled.{IsEntitled}
 use Rattle.bx_world_chains.proofs.Rows.{all_row, one_entitled, one_slot, taken_of}
-use Rattle.bx_world_logs.specs.Logs.{AreHomed, IsInLog, LogsStand, OfLog, Slot, begins, idle, view_of}
-use Rattle.bx_world_logs.proofs.Moving.{slot_here, slot_there, with_slot}
-use Rattle.bx_world_logs.proofs.Regions.{IsIn}
+use Rattle.bx_world_standing.specs.bx_world_logs.specs.Logs.{AreHomed, IsInLog, LogsStand, OfLog, Slot, begins, idle, view_of}
+use Rattle.bx_world_standing.specs.bx_world_logs.proofs.Moving.{slot_here, slot_there, with_slot}
+use Rattle.bx_world_standing.specs.bx_world_logs.proofs.Regions.{IsIn}
 use Rattle.bx_world_standing.specs.Doubts.{IsRecordOf}
 use Rattle.bx_world_standing.specs.Rights.{MayTouch}
 use Rattle.bx_world_standing.specs.Rights.MayTouch.{OfHeld, OfLogged, OfSlot}

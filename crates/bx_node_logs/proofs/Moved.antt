@@ -8,14 +8,14 @@ use Rattle.bx_layout.specs.Labels.{IsOpenGate}
 use Rattle.bx_layout.specs.Blocks.{block_text}
 use Rattle.bx_places.specs.Places.{IsBlock, block_place, body_place, gate_place, log_device, log_start}
 use Rattle.bx_records.specs.Drafts.{Block, block_in}
-use Rattle.bx_redo.specs.Stands.{AreClosed, IsUnderWay}
-use Rattle.bx_redo.specs.declared.work.Work.TheVariants as works
+use Rattle.bx_world_logs.specs.bx_redo.specs.Stands.{AreClosed, IsUnderWay}
+use Rattle.bx_world_logs.specs.bx_redo.specs.declared.work.Work.TheVariants as works
 use Rattle.bx_rows.specs.declared.session.SessionRow.{SessionRow}
 use Rattle.bx_rows.specs.Words.{is_taken}
 use Rattle.bx_views.specs.Truths.{Truth}
-use Rattle.bx_volume.specs.Overlay.{Logs, IsTruth, IsUnlogged, filled_of}
-use Rattle.bx_volume.specs.Records.{Logged, IsInBody, LogWhere, StandOpen, logged_text, newest_in}
-use Rattle.bx_volume.proofs.Sizes.{length-block_text, logged_sectors}
+use Rattle.bx_world_logs.specs.bx_volume.specs.Overlay.{Logs, IsTruth, IsUnlogged, filled_of}
+use Rattle.bx_world_logs.specs.bx_volume.specs.Records.{Logged, IsInBody, LogWhere, StandOpen, logged_text, newest_in}
+use Rattle.bx_world_logs.specs.bx_volume.proofs.Sizes.{length-block_text, logged_sectors}
 use Rattle.bx_world_logs.specs.Logs.{AreHomed, AreSure, Activity, OfLog, Found, Finds, IsBegun, IsHomeSure, IsInLog, LogsStand, Slot, SlotStands, begins, writes_in}
 use Rattle.bx_world_logs.proofs.Regions.{IsIn, body_is_in, gate_is_in}
 

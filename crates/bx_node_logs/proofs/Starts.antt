@@ -6,14 +6,14 @@ use Rattle.bx_facts.specs.Writes.{IsOnly, Sent, WritesTo}
 use Rattle.bx_facts.proofs.Lists.{front_or_behind}
 use Rattle.bx_places.specs.Places.{IsBlock, block_place, body_place, gate_place, log_device, log_start}
 use Rattle.bx_records.specs.Drafts.{Block, block_in}
-use Rattle.bx_redo.specs.declared.work.Work.TheVariants as works
-use Rattle.bx_redo.proofs.Within.{before_it, within_is}
+use Rattle.bx_world_logs.specs.bx_redo.specs.declared.work.Work.TheVariants as works
+use Rattle.bx_world_logs.specs.bx_redo.proofs.Within.{before_it, within_is}
 use Rattle.bx_rows.specs.declared.session.SessionRow.{SessionRow}
 use Rattle.bx_rows.specs.Words.{is_taken}
 use Rattle.bx_views.specs.Truths.{Truth}
-use Rattle.bx_volume.specs.Overlay.{Logs}
-use Rattle.bx_volume.specs.Records.{Logged, IsLogged, LogWhere, logged_text, newest_in}
-use Rattle.bx_volume.proofs.Sizes.{logged_sectors}
+use Rattle.bx_world_logs.specs.bx_volume.specs.Overlay.{Logs}
+use Rattle.bx_world_logs.specs.bx_volume.specs.Records.{Logged, IsLogged, LogWhere, logged_text, newest_in}
+use Rattle.bx_world_logs.specs.bx_volume.proofs.Sizes.{logged_sectors}
 use Rattle.bx_world_logs.specs.Logs.{Activity, OfLog, Found, Finds, IsInLog, IsLogOf, LogsStand, Slot, SlotStands, begins, idle, point_in, writes_in}
 use Rattle.bx_world_logs.proofs.Regions.{IsIn, body_is_in, gate_is_in, home_in_none, idle_writes, one_slot}
 use Rattle.bx_node_logs.proofs.Moved.{fills_few, is_some_block}

@@ -8,18 +8,18 @@ use Rattle.bx_layout.specs.Labels.{IsOpenGate, gate_text}
 use Rattle.bx_layout.specs.declared.gate.Gate.TheVariants.{Open}
 use Rattle.bx_places.specs.Places.{IsBlock, block_place, log_device, log_start}
 use Rattle.bx_records.specs.Drafts.{Block, block_in}
-use Rattle.bx_redo.specs.Stands.{IsAcknowledged}
-use Rattle.bx_redo.specs.declared.work.Work.TheVariants as works
-use Rattle.bx_redo.proofs.Opened.{one_only, open_is}
-use Rattle.bx_redo.proofs.Within.{before_it, behind_it, elsewhere, within_it}
+use Rattle.bx_world_logs.specs.bx_redo.specs.Stands.{IsAcknowledged}
+use Rattle.bx_world_logs.specs.bx_redo.specs.declared.work.Work.TheVariants as works
+use Rattle.bx_world_logs.specs.bx_redo.proofs.Opened.{one_only, open_is}
+use Rattle.bx_world_logs.specs.bx_redo.proofs.Within.{before_it, behind_it, elsewhere, within_it}
 use Rattle.bx_rows.specs.declared.session.SessionRow.{SessionRow}
 use Rattle.bx_rows.specs.Words.{is_taken}
 use Rattle.bx_views.specs.Truths.{Truth, with_draft}
-use Rattle.bx_volume.specs.Overlay.{Logs, IsTruth, IsUnlogged, WritesOnly, filled_of, with_log}
-use Rattle.bx_volume.specs.Records.{Logged, LogWhere, StandOpen, gate_of, newest_in, or_older}
-use Rattle.bx_volume.proofs.Overlay.{log_here, log_there, older_none}
-use Rattle.bx_volume.proofs.Sizes.{filled_below, filled_there, logged_sectors}
-use Rattle.bx_volume.proofs.Steps.{body_written, gate_opens}
+use Rattle.bx_world_logs.specs.bx_volume.specs.Overlay.{Logs, IsTruth, IsUnlogged, WritesOnly, filled_of, with_log}
+use Rattle.bx_world_logs.specs.bx_volume.specs.Records.{Logged, LogWhere, StandOpen, gate_of, newest_in, or_older}
+use Rattle.bx_world_logs.specs.bx_volume.proofs.Overlay.{log_here, log_there, older_none}
+use Rattle.bx_world_logs.specs.bx_volume.proofs.Sizes.{filled_below, filled_there, logged_sectors}
+use Rattle.bx_world_logs.specs.bx_volume.proofs.Steps.{body_written, gate_opens}
 use Rattle.bx_world_logs.specs.Logs.{Activity, OfLog, IsHomeSure, IsInLog, IsLogOf, LogsStand, Slot, SlotStands, begins, idle, view_of, writes_in}
 use Rattle.bx_world_logs.proofs.Moving.{slot_here, slot_there, with_slot}
 use Rattle.bx_world_logs.proofs.Regions.{IsIn, home_in_none, one_slot, writes_within}

@@ -16,9 +16,9 @@ use Rattle.bx_post.specs.declared.packets.Letter.{Letter}
 use Rattle.bx_rows.specs.declared.session.SessionRow.{SessionRow}
 use Rattle.bx_views.specs.Attempts.{Deed}
 use Rattle.bx_views.specs.Truths.{Hints, Truth, no_hints}
-use Rattle.bx_world_standing.specs.Parts.{Clocks}
-use Rattle.bx_world_standing.specs.Standing.{Course, SureOf, own_up}
-use Rattle.bx_world_standing.proofs.Owns.{own_of}
+use Rattle.bx_node_views.specs.bx_world_standing.specs.Parts.{Clocks}
+use Rattle.bx_node_views.specs.bx_world_standing.specs.Standing.{Course, SureOf, own_up}
+use Rattle.bx_node_views.specs.bx_world_standing.proofs.Owns.{own_of}
 
 module _ {G O S T : Type 0} (g : register.Ghosts G) (o : owners.Ghosts O) (st : store.Ghosts S) (Stands : Truth → Hints → T → Type 0) (Step : T → Deed → T → Type 0)
     (register_is : G) (owners_are : O) (store_is : S) (x : Disks) (letters : List Letter) (clocks : Clocks) (machines later : List MachineView) (c : Course) (tree : T) (node : ℕ) (machine : MachineView)

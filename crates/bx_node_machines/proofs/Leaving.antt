@@ -10,13 +10,13 @@ use Rattle.bx_node_machines.specs.Machines as words
 use Rattle.bx_node_machines.specs.Machines.{AreAbout, AreAway, Fetch, IsAbout, IsAtWork, IsDoubtIn, IsFetched, IsFetching, IsFresh, IsUnwritten, IsWriting, MachineView, Scene, Stage, home_of, is_one, is_under}
 use Rattle.bx_places.specs.Places.{block_place}
 use Rattle.bx_records.specs.declared.runs.Run.{Run}
-use Rattle.bx_redo.specs.Homes.{AreItsHomes}
-use Rattle.bx_redo.specs.Steps.{writes}
+use Rattle.bx_node_views.specs.bx_redo.specs.Homes.{AreItsHomes}
+use Rattle.bx_node_views.specs.bx_redo.specs.Steps.{writes}
 use Rattle.bx_rows.specs.Words.{row_in}
 use Rattle.bx_rows.specs.declared.session.SessionRow.{SessionRow}
-use Rattle.bx_volume.specs.Overlay.{Logs}
-use Rattle.bx_volume.specs.Records.{Logged, newest_in}
-use Rattle.bx_world_logs.specs.Logs.{OfLog, Slot}
+use Rattle.bx_node_views.specs.bx_volume.specs.Overlay.{Logs}
+use Rattle.bx_node_views.specs.bx_volume.specs.Records.{Logged, newest_in}
+use Rattle.bx_node_views.specs.bx_world_logs.specs.Logs.{OfLog, Slot}
 use Rattle.bx_world_views.specs.Views.{Allows, Doubt}
 
 -- An event leaves the log of a slot, what is under way there, and the doubt of its session.

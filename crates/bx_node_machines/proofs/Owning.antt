@@ -6,30 +6,30 @@ use Rattle.bx_facts.specs.Writes.{Writes, WritesIn}
 use Rattle.bx_facts.proofs.Lists.{front_or_behind, nothing}
 use Rattle.bx_global.specs.Allowed.{IsAllowed, IsSession}
 use Rattle.bx_global.specs.declared.state.GlobalState.{GlobalState}
-use Rattle.bx_volume.proofs.Sizes.{length-block_text}
+use Rattle.bx_node_views.specs.bx_volume.proofs.Sizes.{length-block_text}
 use Rattle.bx_node_machines.specs.Machines.{IsAbout, MachineView, Scene}
 use Rattle.bx_node_machines.proofs.Leaving.{MayWork}
 use Rattle.bx_places.specs.Places.{block_place, log_device, log_start}
 use Rattle.bx_records.specs.declared.runs.Run.{Run}
-use Rattle.bx_redo.specs.Homes.{AreItsHomes, home_run}
-use Rattle.bx_redo.specs.Stands.{begins_at, run_of, sectors_of}
-use Rattle.bx_redo.specs.Steps.{writes}
-use Rattle.bx_redo.specs.View.{LogView}
-use Rattle.bx_redo.specs.declared.work.Work.{Work}
-use Rattle.bx_redo.specs.declared.work.Work.TheVariants as works
-use Rattle.bx_redo.proofs.Asked.{as_many, one_asked}
-use Rattle.bx_redo.proofs.Within.{within_it}
+use Rattle.bx_node_views.specs.bx_redo.specs.Homes.{AreItsHomes, home_run}
+use Rattle.bx_node_views.specs.bx_redo.specs.Stands.{begins_at, run_of, sectors_of}
+use Rattle.bx_node_views.specs.bx_redo.specs.Steps.{writes}
+use Rattle.bx_node_views.specs.bx_redo.specs.View.{LogView}
+use Rattle.bx_node_views.specs.bx_redo.specs.declared.work.Work.{Work}
+use Rattle.bx_node_views.specs.bx_redo.specs.declared.work.Work.TheVariants as works
+use Rattle.bx_node_views.specs.bx_redo.proofs.Asked.{as_many, one_asked}
+use Rattle.bx_node_views.specs.bx_redo.proofs.Within.{within_it}
 use Rattle.bx_rows.specs.Words.{row_in}
 use Rattle.bx_rows.specs.declared.session.SessionRow.{SessionRow}
 use Rattle.bx_views.specs.Truths.{Truth}
-use Rattle.bx_volume.specs.Overlay.{Logs}
-use Rattle.bx_volume.specs.Records.{newest_in}
-use Rattle.bx_world_chains.specs.Entitled.{IsEntitled}
-use Rattle.bx_world_chains.proofs.Rows.{all_row, lives_of, taken_of}
-use Rattle.bx_world_logs.specs.Logs.{Activity, IsInLog, LogsStand, OfLog, Slot, SlotStands, view_of, writes_in}
-use Rattle.bx_world_logs.proofs.Regions.{writes_within}
-use Rattle.bx_world_standing.specs.Rights.{IsOfSlot, MayTouch}
-use Rattle.bx_world_standing.specs.Rights.MayTouch.{OfLogged, OfSlot}
+use Rattle.bx_node_views.specs.bx_volume.specs.Overlay.{Logs}
+use Rattle.bx_node_views.specs.bx_volume.specs.Records.{newest_in}
+use Rattle.bx_node_views.specs.bx_world_chains.specs.Entitled.{IsEntitled}
+use Rattle.bx_node_views.specs.bx_world_chains.proofs.Rows.{all_row, lives_of, taken_of}
+use Rattle.bx_node_views.specs.bx_world_logs.specs.Logs.{Activity, IsInLog, LogsStand, OfLog, Slot, SlotStands, view_of, writes_in}
+use Rattle.bx_node_views.specs.bx_world_logs.proofs.Regions.{writes_within}
+use Rattle.bx_node_views.specs.bx_world_standing.specs.Rights.{IsOfSlot, MayTouch}
+use Rattle.bx_node_views.specs.bx_world_standing.specs.Rights.MayTouch.{OfLogged, OfSlot}
 
 -- a work begins in its slot's view where it begins in the log
 begins_same : (log : LogView) (devices slot count : ℕ) → log.slot ≡ slot → log.count ≡ count → (work : Work) → begins_at (view_of devices slot count work) work ≡ begins_at log work

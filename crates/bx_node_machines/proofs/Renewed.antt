@@ -16,15 +16,15 @@ use Rattle.bx_node_machines.proofs.Showing.{shown_at}
 use Rattle.bx_owners.specs.declared.owners.Owners as owners
 use Rattle.bx_places.specs.Places.{log_device}
 use Rattle.bx_post.specs.declared.packets.Letter.{Letter}
-use Rattle.bx_redo.specs.Steps.{closed_log}
-use Rattle.bx_redo.specs.View.{LogView}
+use Rattle.bx_node_views.specs.bx_redo.specs.Steps.{closed_log}
+use Rattle.bx_node_views.specs.bx_redo.specs.View.{LogView}
 use Rattle.bx_rows.specs.Words.{row_in}
 use Rattle.bx_rows.specs.declared.session.SessionRow.{SessionRow}
 use Rattle.bx_views.specs.Attempts.{Deed}
 use Rattle.bx_views.specs.Truths.{Hints, Truth}
-use Rattle.bx_volume.specs.Records.{Logged, newest_in}
-use Rattle.bx_world_standing.specs.Parts.{Clocks}
-use Rattle.bx_world_standing.specs.Standing.{Course, SureOf, own_up}
+use Rattle.bx_node_views.specs.bx_volume.specs.Records.{Logged, newest_in}
+use Rattle.bx_node_views.specs.bx_world_standing.specs.Parts.{Clocks}
+use Rattle.bx_node_views.specs.bx_world_standing.specs.Standing.{Course, SureOf, own_up}
 use Rattle.bx_world_views.specs.Views.{ViewStands}
 
 -- A node has nothing under a session yet; its log is the closed one of a slot.

@@ -8,7 +8,7 @@ use Rattle.bx_node_machines.specs.Machines.{Fetch, IsFetching, IsFlying, IsUnwri
 use Rattle.bx_node_machines.proofs.Leaving.{Leaves, LeavesSlot}
 use Rattle.bx_places.specs.Places.{IsBlock, block_place}
 use Rattle.bx_records.specs.declared.runs.Run.{Run}
-use Rattle.bx_volume.specs.Overlay.{IsUnlogged}
+use Rattle.bx_node_views.specs.bx_volume.specs.Overlay.{IsUnlogged}
 use Rattle.bx_world_views.specs.Views.{Allows}
 
 module _ (devices areas : ℕ) (Reads Reads_then : ℕ → List ℕ → Type 0) (old new : Scene) (node session : ℕ) (asked : new.asked node ≡ old.asked node) where

@@ -8,17 +8,17 @@ use Rattle.bx_facts.specs.Writes.{Asked, Sent, WritesIn}
 use Rattle.bx_places.specs.Places.{IsBlock, block_place, log_device}
 use Rattle.bx_records.specs.Drafts.{Block as Content, Changed, block_in}
 use Rattle.bx_records.specs.declared.runs.Run.{Run}
-use Rattle.bx_redo.specs.Homes.{AreItsHomes}
-use Rattle.bx_redo.specs.Steps.{writes}
-use Rattle.bx_redo.specs.View.{LogView}
-use Rattle.bx_redo.specs.declared.work.Work.{Work}
-use Rattle.bx_redo.specs.declared.work.Work.TheVariants as works
+use Rattle.bx_node_views.specs.bx_redo.specs.Homes.{AreItsHomes}
+use Rattle.bx_node_views.specs.bx_redo.specs.Steps.{writes}
+use Rattle.bx_node_views.specs.bx_redo.specs.View.{LogView}
+use Rattle.bx_node_views.specs.bx_redo.specs.declared.work.Work.{Work}
+use Rattle.bx_node_views.specs.bx_redo.specs.declared.work.Work.TheVariants as works
 use Rattle.bx_rows.specs.declared.session.SessionRow.{SessionRow}
 use Rattle.bx_rows.specs.Words.{row_in}
 use Rattle.bx_views.specs.Truths.{Held, Hints}
-use Rattle.bx_volume.specs.Overlay.{Logs, IsUnlogged}
-use Rattle.bx_volume.specs.Records.{newest_in}
-use Rattle.bx_world_logs.specs.Logs.{OfLog, Slot, begins, idle}
+use Rattle.bx_node_views.specs.bx_volume.specs.Overlay.{Logs, IsUnlogged}
+use Rattle.bx_node_views.specs.bx_volume.specs.Records.{newest_in}
+use Rattle.bx_node_views.specs.bx_world_logs.specs.Logs.{OfLog, Slot, begins, idle}
 use Rattle.bx_world_views.specs.Views.{Act, Allows, Doubt, OfCall, OfTidy}
 
 -- ---- a node

@@ -11,9 +11,9 @@ use Rattle.bx_owners.specs.declared.owners.Owners as owners
 use Rattle.bx_post.specs.declared.packets.Letter.{Letter}
 use Rattle.bx_views.specs.Attempts.{Deed}
 use Rattle.bx_views.specs.Truths.{Held, Hints, Truth, no_hints}
-use Rattle.bx_world_standing.specs.Parts.{Clocks}
-pub use Rattle.bx_world_standing.specs.Sessions.{IsOfNode}
-use Rattle.bx_world_standing.specs.Standing.{Course, Known, StandsAt, SureOf, own_up}
+use Rattle.bx_node_views.specs.bx_world_standing.specs.Parts.{Clocks}
+pub use Rattle.bx_node_views.specs.bx_world_standing.specs.Sessions.{IsOfNode}
+use Rattle.bx_node_views.specs.bx_world_standing.specs.Standing.{Course, Known, StandsAt, SureOf, own_up}
 
 -- What a node shows: nothing, where its session isn't the one that it has its blocks under; and hints, whatever the session.
 abbrev pub nothing_held : Held

@@ -11,7 +11,7 @@ use Rattle.bx_rows.specs.Words.{is_taken}
 use Rattle.bx_views.specs.Truths.{Truth}
 use Rattle.bx_volume.specs.Records.{Logged, gate_of}
 use Rattle.bx_volume.proofs.Matters.{homes_truth}
-use Rattle.bx_world_logs.specs.Logs.{IsInLog, LogsStand, SlotStands}
+use Rattle.bx_world_stays.specs.bx_world_logs.specs.Logs.{IsInLog, LogsStand, SlotStands}
 use Rattle.bx_world_stays.proofs.Begins.{IsSettledWithin, idle_slots, no_logs}
 
 -- a home is on a device, behind the label, within its members

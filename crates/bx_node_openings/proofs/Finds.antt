@@ -26,8 +26,8 @@ use Rattle.bx_views.specs.Attempts.{Deed}
 use Rattle.bx_views.specs.Truths.{Hints, Truth, no_hints}
 use Rattle.bx_volume.specs.Records.{Logged}
 use Rattle.bx_world_chains.proofs.Rows.{lives_has}
-use Rattle.bx_world_logs.proofs.Growing.{rows_go}
-use Rattle.bx_world_standing.specs.Standing.{Course, StandsAt, SureOf}
+use Rattle.bx_world_stays.specs.bx_world_logs.proofs.Growing.{rows_go}
+use Rattle.bx_world_stays.specs.bx_world_standing.specs.Standing.{Course, StandsAt, SureOf}
 use Rattle.bx_world_stays.proofs.Begins.{IsSettledWithin, idle_slots, no_doubts, no_logs}
 
 -- What owners and a store promise of new ones where their machines find a volume.

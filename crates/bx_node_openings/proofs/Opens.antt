@@ -21,7 +21,7 @@ use Rattle.bx_views.specs.Truths.{Hints, Truth, no_hints}
 use Rattle.bx_volume.specs.Records.{Logged}
 use Rattle.bx_world_chains.proofs.Rows.{lives_of}
 use Rattle.bx_world_chains.proofs.Sessions.{own_row}
-use Rattle.bx_world_standing.specs.Standing.{Known, StandsAt}
+use Rattle.bx_world_stays.specs.bx_world_standing.specs.Standing.{Known, StandsAt}
 use Rattle.bx_world_stays.proofs.Begins.{begins, opening_course, opening_known}
 
 -- What owners and a store promise of new ones.

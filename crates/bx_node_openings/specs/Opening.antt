@@ -12,7 +12,7 @@ use Rattle.bx_global.specs.declared.state.GlobalState.{GlobalState}
 use Rattle.bx_node_machines.specs.Machines.{MachineView}
 use Rattle.bx_owners.specs.declared.owners.Owners as owners
 use Rattle.bx_views.specs.Truths.{no_hints}
-use Rattle.bx_world_standing.specs.Parts.{Clocks}
+use Rattle.bx_world_stays.specs.bx_world_standing.specs.Parts.{Clocks}
 
 -- with a new volume all machines are up, in their first boot, and no clock was read
 abbrev pub opening_clocks : Clocks

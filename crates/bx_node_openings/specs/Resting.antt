@@ -9,8 +9,8 @@ use Rattle.bx_places.specs.Places.{IsBlock, IsVolume, gate_place}
 use Rattle.bx_views.specs.Truths.{Truth}
 use Rattle.bx_volume.specs.Overlay.{IsHome}
 use Rattle.bx_volume.specs.Records.{gate_of}
-use Rattle.bx_world_logs.specs.Logs.{IsHomeSure}
-use Rattle.bx_world_standing.specs.Labels.{LabelsStand}
+use Rattle.bx_world_stays.specs.bx_world_logs.specs.Logs.{IsHomeSure}
+use Rattle.bx_world_stays.specs.bx_world_standing.specs.Labels.{LabelsStand}
 
 -- By a state all gates of the log slots are closed, and each block of the volume is in its home, and that is settled; and the labels of its disks stand.
 -- (`held` is what the devices hold, `truth` what the blocks are.)

@@ -5,7 +5,7 @@ use Rattle.bx_facts.specs.declared.register.Register as register
 use Rattle.bx_facts.specs.declared.store.Store as store
 use Rattle.bx_facts.specs.Disks.{HasRoom}
 use Rattle.bx_facts.specs.Writes.{store_room}
-use Rattle.bx_node_openings.specs.Opening.{opening_clocks}
+use Rattle.bx_nodes.specs.bx_node_openings.specs.Opening.{opening_clocks}
 use Rattle.bx_node_rounds.specs.declared.cluster.Cluster.{Cluster}
 use Rattle.bx_node_rounds.specs.declared.cluster.Parts.{Parts}
 use Rattle.bx_node_rounds.specs.declared.rounds.Told.{Told}

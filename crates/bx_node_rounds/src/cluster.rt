@@ -5,15 +5,15 @@ ghost use Rattle.bx_disk.specs.Disks.{Disks, Image};
 ghost use Rattle.bx_facts.specs.Disks.{HasRoom};
 ghost use Rattle.bx_facts.specs.Writes.{store_room};
 ghost use Rattle.bx_global.specs.declared.state.GlobalState.{GlobalState};
-ghost use Rattle.bx_node_openings.specs.Opening.{AreNew};
-ghost use Rattle.bx_node_openings.specs.Resting.{VolumeRests};
+ghost use Rattle.bx_nodes.specs.bx_node_openings.specs.Opening.{AreNew};
+ghost use Rattle.bx_nodes.specs.bx_node_openings.specs.Resting.{VolumeRests};
 ghost use Rattle.bx_node_rounds.specs.Rounds.{AreFor, AreReady, HasSession, IsReady, NoneWaits, Standing};
 ghost use Rattle.bx_places.specs.Places.{IsVolume};
 ghost use Rattle.bx_views.specs.Truths.{Truth, no_hints};
 
 use bx_base::{CallNo, OutOfMemory};
 use bx_facts::{Register, Store};
-use bx_node_openings::what_nodes_begin_with;
+use bx_nodes::node_openings::what_nodes_begin_with;
 use bx_nodes::{Nodes, first_machines};
 use bx_owners::Owners;
 use bx_plain_parts::Shape;

@@ -9,3 +9,8 @@ mod ticks;
 
 pub use cluster::{Cluster, Parts};
 pub use rounds::Told;
+
+/// What the crates above use of `bx_plain_parts`.
+pub mod plain_parts {
+    pub use bx_plain_parts::{PlainParts, Shape};
+}

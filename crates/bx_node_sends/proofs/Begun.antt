@@ -13,7 +13,7 @@ use Rattle.bx_global.specs.declared.change.Change.TheVariants.{Close}
 use Rattle.bx_owners.specs.declared.owners.Owners as owners
 use Rattle.bx_places.specs.Places.{IsBlock}
 use Rattle.bx_records.specs.Drafts.{Block, block_in}
-use Rattle.bx_redo.specs.declared.work.Work.TheVariants as works
+use Rattle.bx_node_views.specs.bx_redo.specs.declared.work.Work.TheVariants as works
 use Rattle.bx_rows.specs.Words.{is_taken, row_in}
 use Rattle.bx_rows.specs.declared.session.SessionRow.{SessionRow}
 use Rattle.bx_views.specs.Attempts.{Deed, IsHeldDraft}
@@ -21,15 +21,15 @@ use Rattle.bx_views.specs.Truths.{Hints, IsTruth, Truth}
 use Rattle.bx_volume.specs.Records.{Logged, IsLogged, logged_text, newest_in}
 use Rattle.bx_global.specs.Allowed.{IsAllowed, IsSession}
 use Rattle.bx_world_chains.proofs.Rows.{all_row, one_slot, taken_of}
-use Rattle.bx_world_logs.specs.Logs.{IsInLog, Slot, OfLog, begins, idle, point_in}
+use Rattle.bx_node_views.specs.bx_world_logs.specs.Logs.{IsInLog, Slot, OfLog, begins, idle, point_in}
 use Rattle.bx_world_views.specs.Views as views
 use Rattle.bx_world_views.specs.Views.{Act, Allows, Doubt, IsOwned}
-use Rattle.bx_world_standing.specs.Rights.{HasBlock, MayTouch}
-use Rattle.bx_world_standing.specs.Rights.MayTouch.{OfSlot, OfHeld, OfLogged}
-use Rattle.bx_world_standing.specs.Doubts.{IsRecordOf}
-use Rattle.bx_world_standing.specs.Standing.{Course, Known, StandsAt, SureOf, own_up}
+use Rattle.bx_node_views.specs.bx_world_standing.specs.Rights.{HasBlock, MayTouch}
+use Rattle.bx_node_views.specs.bx_world_standing.specs.Rights.MayTouch.{OfSlot, OfHeld, OfLogged}
+use Rattle.bx_node_views.specs.bx_world_standing.specs.Doubts.{IsRecordOf}
+use Rattle.bx_node_views.specs.bx_world_standing.specs.Standing.{Course, Known, StandsAt, SureOf, own_up}
 use Rattle.bx_node_logs.proofs.Starts.{record_begins}
-use Rattle.bx_world_logs.proofs.Moving.{slot_here, slot_there, with_slot}
+use Rattle.bx_node_views.specs.bx_world_logs.proofs.Moving.{slot_here, slot_there, with_slot}
 use Rattle.bx_node_views.proofs.Views.{began, owned}
 
 -- the doubts with one more

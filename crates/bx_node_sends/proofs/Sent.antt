@@ -16,12 +16,12 @@ use Rattle.bx_rows.specs.Words.{row_in}
 use Rattle.bx_rows.specs.declared.session.SessionRow.{SessionRow}
 use Rattle.bx_views.specs.Attempts.{Deed}
 use Rattle.bx_views.specs.Truths.{Hints, Truth}
-use Rattle.bx_world_logs.specs.Logs.{LogsStand}
-use Rattle.bx_world_standing.specs.Rights.{IsOfSlot, IsWithin, MayTouch, RightsStand, Surely, WritesStand}
-use Rattle.bx_world_standing.specs.Labels.{LabelsStand}
-use Rattle.bx_world_standing.specs.Closings.{ClosingStands}
-use Rattle.bx_world_standing.specs.Sessions.{IsOfNode}
-use Rattle.bx_world_standing.specs.Standing.{Course, Known, StandsAt, own_up}
+use Rattle.bx_node_views.specs.bx_world_logs.specs.Logs.{LogsStand}
+use Rattle.bx_node_views.specs.bx_world_standing.specs.Rights.{IsOfSlot, IsWithin, MayTouch, RightsStand, Surely, WritesStand}
+use Rattle.bx_node_views.specs.bx_world_standing.specs.Labels.{LabelsStand}
+use Rattle.bx_node_views.specs.bx_world_standing.specs.Closings.{ClosingStands}
+use Rattle.bx_node_views.specs.bx_world_standing.specs.Sessions.{IsOfNode}
+use Rattle.bx_node_views.specs.bx_world_standing.specs.Standing.{Course, Known, StandsAt, own_up}
 
 -- the course with more letters, and with a write
 abbrev pub with_write : Course → List Letter → Sent → Course

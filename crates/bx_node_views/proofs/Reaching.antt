@@ -6,11 +6,11 @@ use Rattle.bx_global.specs.declared.state.GlobalState.{GlobalState}
 use Rattle.bx_places.specs.Places.{IsBlock, IsVolume}
 use Rattle.bx_rows.specs.Words.{row_in}
 use Rattle.bx_rows.specs.declared.session.SessionRow.{SessionRow}
-use Rattle.bx_volume.specs.Overlay.{Logs}
-use Rattle.bx_world_chains.specs.Entitled.{AreAllowed, IsEntitled}
-use Rattle.bx_world_chains.proofs.Chains.{entitled_last, last_place}
-use Rattle.bx_world_chains.proofs.Rows.{has_of, lives_of, one_entitled}
-use Rattle.bx_world_logs.specs.Logs.{IsInLog, Slot}
+use Rattle.bx_world_standing.specs.bx_volume.specs.Overlay.{Logs}
+use Rattle.bx_world_standing.specs.bx_world_chains.specs.Entitled.{AreAllowed, IsEntitled}
+use Rattle.bx_world_standing.specs.bx_world_chains.proofs.Chains.{entitled_last, last_place}
+use Rattle.bx_world_standing.specs.bx_world_chains.proofs.Rows.{has_of, lives_of, one_entitled}
+use Rattle.bx_world_standing.specs.bx_world_logs.specs.Logs.{IsInLog, Slot}
 use Rattle.bx_world_standing.specs.Rights.{HasBlock, IsKnown, IsOfHome, IsOfSlot, IsReached, IsToldOf, IsWithin, MayTouch, RightsStand}
 use Rattle.bx_world_standing.specs.Rights.MayTouch.{OfSlot, OfHeld, OfLogged}
 use Rattle.bx_node_views.proofs.Touching.{one_home, one_slot, slot_and_home}

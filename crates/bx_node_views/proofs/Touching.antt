@@ -11,15 +11,15 @@ use Rattle.bx_global.specs.declared.state.GlobalState.{GlobalState}
 use Rattle.bx_places.specs.Places.{IsBlock, IsVolume}
 use Rattle.bx_rows.specs.Words.{row_in}
 use Rattle.bx_rows.specs.declared.session.SessionRow.{SessionRow}
-use Rattle.bx_volume.specs.Overlay.{Logs}
-use Rattle.bx_world_chains.specs.Entitled.{IsEntitled}
-use Rattle.bx_world_logs.specs.Logs.{IsInLog, Slot}
-use Rattle.bx_volume.proofs.Apart.{home_and_log, two_homes}
-use Rattle.bx_world_chains.proofs.Rows.{one_entitled}
+use Rattle.bx_world_standing.specs.bx_volume.specs.Overlay.{Logs}
+use Rattle.bx_world_standing.specs.bx_world_chains.specs.Entitled.{IsEntitled}
+use Rattle.bx_world_standing.specs.bx_world_logs.specs.Logs.{IsInLog, Slot}
+use Rattle.bx_world_standing.specs.bx_volume.proofs.Apart.{home_and_log, two_homes}
+use Rattle.bx_world_standing.specs.bx_world_chains.proofs.Rows.{one_entitled}
 use Rattle.bx_node_views.proofs.Knowing.{exclusive_is}
 use Rattle.bx_world_standing.specs.Rights.{HasBlock, IsOfHome, IsOfSlot, MayTouch, RightsStand, WritesStand}
 use Rattle.bx_world_standing.specs.Rights.MayTouch.{OfSlot, OfHeld, OfLogged}
-use Rattle.bx_world_views.specs.Views.{AreApart}
+use Rattle.bx_world_standing.specs.bx_world_views.specs.Views.{AreApart}
 
 -- A sector is of one slot, or of one block's home.
 module _ (devices areas : ℕ) (volume : IsVolume devices areas) where

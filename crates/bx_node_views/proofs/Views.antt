@@ -8,7 +8,7 @@ use Rattle.bx_views.specs.Truths.{Truth, Held, Hints, IsTruth}
 use Rattle.bx_views.specs.Attempts.{Deed, IsHeldDraft}
 use Rattle.bx_facts.specs.Holds.{Hold, Holds, KeepsOthers}
 use Rattle.bx_node_views.specs.Changes.{Hides, ShowsOne}
-use Rattle.bx_world_views.specs.Views.{Allows, AreApart, ViewStands, IsOwned, OnlyOf, Act, Doubt, DoubtStands, VolumeStands, Works}
+use Rattle.bx_world_standing.specs.bx_world_views.specs.Views.{Allows, AreApart, ViewStands, IsOwned, OnlyOf, Act, Doubt, DoubtStands, VolumeStands, Works}
 
 some_of : {X : Type 0} (found : Option X) (x : X) → found ≡ Some x → IsSome found
 some_of found x is = cc

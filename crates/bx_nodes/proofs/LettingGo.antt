@@ -15,7 +15,7 @@ use Rattle.bx_facts.specs.Writes.{GoesOn, Sent, StorePast}
 use Rattle.bx_node_cache.specs.Kept.{held_in, hint_in, kept_in, shown_of}
 use Rattle.bx_node_cache.specs.declared.cache.Kept.{Kept}
 use Rattle.bx_node_events.proofs.Wanted.{LeavesFetch, released}
-use Rattle.bx_node_holds.proofs.Released.{with_holds}
+use Rattle.bx_node_events.specs.bx_node_holds.proofs.Released.{with_holds}
 use Rattle.bx_node_machines.specs.Machines as words
 use Rattle.bx_node_machines.specs.Machines.{MachineView}
 use Rattle.bx_node_machines.specs.Nodes.{NodesStand}

@@ -48,7 +48,7 @@ use Rattle.bx_volume.specs.Records.{newest_in, or_older}
 use Rattle.bx_world_chains.proofs.Rows.{lives_row}
 use Rattle.bx_world_standing.specs.Parts.{Clocks}
 use Rattle.bx_world_standing.specs.Standing.{Course}
-use Rattle.bx_world_stays.proofs.Drops.{dropped_course}
+use Rattle.bx_node_events.specs.bx_world_stays.proofs.Drops.{dropped_course}
 use Rattle.bx_world_views.specs.Views.{ShowsDraft, StepOf}
 
 -- ---- what a cache shows

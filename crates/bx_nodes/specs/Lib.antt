@@ -11,3 +11,6 @@ pub mod Stopping
 pub mod Taking
 pub mod Tells
 pub mod Turns
+pub use Rattle.bx_node_events
+pub use Rattle.bx_node_openings
+pub use Rattle.bx_node_events.specs.bx_world_stays

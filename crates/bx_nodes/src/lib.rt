@@ -19,3 +19,8 @@ mod turns;
 pub use answers::Attempted;
 pub use nodes::{Nodes, first_machines};
 pub use turns::Lease;
+
+/// What the crates above use of `bx_node_openings`.
+pub mod node_openings {
+    pub use bx_node_openings::what_nodes_begin_with;
+}

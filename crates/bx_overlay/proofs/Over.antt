@@ -12,11 +12,11 @@ use Rattle.bx_layout.specs.Blocks.{HasParts}
 use Rattle.bx_places.specs.Places.{IsBlock}
 use Rattle.bx_records.specs.Drafts.{Changed, block_in}
 use Rattle.bx_views.specs.Truths.{Truth}
-use Rattle.bx_truth.proofs.Cases.{found}
+use Rattle.bx_volume.specs.bx_truth.proofs.Cases.{found}
 use Rattle.bx_volume.specs.Records.{Logged, StandOpen, HasLog, LogWhere, newest_in, or_older}
 use Rattle.bx_volume.specs.Overlay.{Logs, IsTruth, IsUnlogged, IsHome}
 use Rattle.bx_volume.proofs.OneLog.{one_has_log}
-use Rattle.bx_homes.specs.Slots.{AreBlocks}
+use Rattle.bx_logs.specs.bx_homes.specs.Slots.{AreBlocks}
 use Rattle.bx_logs.specs.declared.members.Members.{Members}
 use Rattle.bx_logs.specs.Logs.{AreLogs, log_in}
 use Rattle.bx_logs.specs.Members.{held_by}

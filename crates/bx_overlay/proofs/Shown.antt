@@ -15,7 +15,7 @@ use Rattle.bx_views.specs.Truths.{Truth}
 use Rattle.bx_volume.specs.Images.{IsLabelled, AreReadFrom, ShowsTree, by_device, devices_of, member_disk}
 use Rattle.bx_volume.specs.Overlay.{Logs, IsTruth}
 use Rattle.bx_volume.proofs.Kept.{has_log}
-use Rattle.bx_homes.specs.Sources.{HasSource, IsFirstAbsent, IsFirstUnlabelled}
+use Rattle.bx_logs.specs.bx_homes.specs.Sources.{HasSource, IsFirstAbsent, IsFirstUnlabelled}
 use Rattle.bx_logs.specs.declared.members.Members.{Members}
 use Rattle.bx_logs.specs.Members.{held_by, member_in}
 use Rattle.bx_overlay.specs.Reading.{AreMembers}

@@ -9,7 +9,7 @@ use Rattle.bx_places.specs.Places.{disk_sectors, member_sectors}
 use Rattle.bx_rows.specs.declared.device.DeviceRow.{DeviceRow}
 use Rattle.bx_rows.specs.Modes.{IsReadAtA, IsSource}
 use Rattle.bx_volume.specs.Images.{member_disk}
-use Rattle.bx_homes.specs.Sources.{HasSource, HaveRoom}
+use Rattle.bx_logs.specs.bx_homes.specs.Sources.{HasSource, HaveRoom}
 use Rattle.bx_logs.specs.declared.members.Members.{Members}
 use Rattle.bx_logs.specs.Members.{AreThere, disk_of, member_in}
 use Rattle.bx_overlay.specs.Reading.{AreMembers}

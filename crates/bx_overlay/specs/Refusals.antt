@@ -8,7 +8,7 @@ use Rattle.bx_rows.specs.declared.session.SessionRow.{SessionRow}
 use Rattle.bx_layout.specs.declared.label.Label.{Label}
 use Rattle.bx_volume.specs.Images.{IsOwnLabel}
 use Rattle.bx_volume.specs.Records.{Logged}
-use Rattle.bx_homes.specs.Sources.{AreLabelled, IsFirstUnlabelled, HasSource, IsFirstAbsent}
+use Rattle.bx_logs.specs.bx_homes.specs.Sources.{AreLabelled, IsFirstUnlabelled, HasSource, IsFirstAbsent}
 use Rattle.bx_overlay.specs.declared.error.AuditError.{AuditError}
 use Rattle.bx_overlay.specs.declared.error.AuditError.TheVariants.{DiskFault, NoLabel, NoMajority, NoSource, Torn, OutOfMemory}
 use Rattle.bx_logs.specs.declared.members.Members.{Members}

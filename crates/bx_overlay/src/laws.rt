@@ -9,7 +9,7 @@ ghost use Rattle.bx_views.specs.Truths.{Truth};
 ghost use Rattle.bx_volume.specs.Images.{AreReadFrom, ShowsTree, by_device};
 ghost use Rattle.bx_volume.specs.Overlay.{Logs, IsTruth};
 ghost use Rattle.bx_volume.specs.Records.{Logged};
-ghost use Rattle.bx_homes.specs.Slots.{AreBlocks};
+ghost use Rattle.bx_logs.specs.bx_homes.specs.Slots.{AreBlocks};
 ghost use Rattle.bx_overlay.specs.declared.error.AuditError.{AuditError};
 ghost use Rattle.bx_overlay.specs.declared.volume_disks.VolumeDisks.{VolumeDisks};
 ghost use Rattle.bx_logs.specs.declared.members.Members.{Members};

@@ -7,8 +7,8 @@ ghost use Rattle.bx_logs.specs.Newest.{first_in};
 ghost use Rattle.bx_overlay.specs.Over.{StandsOver};
 
 use bx_disk::{Rack, RackError};
-use bx_homes::{Blocks, read_home};
 use bx_layout::Block;
+use bx_logs::homes::{Blocks, read_home};
 use bx_logs::{Members, Newest, copy_of};
 use bx_places::place;
 use std::alloc::Global;

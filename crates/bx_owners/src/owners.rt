@@ -10,7 +10,7 @@ ghost use Rattle.bx_global.specs.Table.{IsLegal};
 ghost use Rattle.bx_global.specs.declared.change.Change.{Change};
 ghost use Rattle.bx_global.specs.declared.state.GlobalState.{GlobalState};
 ghost use Rattle.bx_post.specs.declared.packets.Letter.{Letter};
-ghost use Rattle.bx_rows.specs.Words.{row_in};
+ghost use Rattle.bx_global.specs.bx_rows.specs.Words.{row_in};
 ghost use Rattle.bx_facts.specs.declared.input.Input.{Input};
 ghost use Rattle.bx_facts.specs.Chains.{HasRow, IsOwnersKind, IsOwnersOwn, IsPlace, LivesIn, last, oldest, opened_at, session_by};
 ghost use Rattle.bx_facts.specs.Holds.{Hold, Holding, IsRevoke, KeepsHolds, KeepsOthers, OwnersPast, first_of, found_owners, given, hold_of, leased, opening_owners, owners_crashed, owners_grown, owners_heard, owners_restarted, owners_with, without_block};

@@ -5,3 +5,4 @@ pub mod View
 pub mod Spelling
 pub mod Parts
 pub mod Reading
+pub use Rattle.bx_base

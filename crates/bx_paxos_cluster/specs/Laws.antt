@@ -11,11 +11,11 @@ use Rattle.bx_facts.specs.Labelled.{IsLabelled}
 use Rattle.bx_facts.specs.Pasts.{RegisterPast}
 use Rattle.bx_global.specs.Allowed.{IsAllowed}
 use Rattle.bx_global.specs.declared.state.GlobalState.{GlobalState}
-use Rattle.bx_paxos.proofs.Events.{is_legal}
-use Rattle.bx_paxos.proofs.OneReading.{one_reading}
-use Rattle.bx_paxos.specs.Reading.{ReadsState}
-use Rattle.bx_paxos_found.proofs.Refusals.{one_greatest}
-use Rattle.bx_paxos_found.specs.Finding.{IsGreatestBoot}
+use Rattle.bx_paxos_machines.specs.bx_paxos.proofs.Events.{is_legal}
+use Rattle.bx_paxos_machines.specs.bx_paxos.proofs.OneReading.{one_reading}
+use Rattle.bx_paxos_machines.specs.bx_paxos.specs.Reading.{ReadsState}
+use Rattle.bx_paxos_machines.specs.bx_paxos_found.proofs.Refusals.{one_greatest}
+use Rattle.bx_paxos_machines.specs.bx_paxos_found.specs.Finding.{IsGreatestBoot}
 use Rattle.bx_post.specs.declared.packets.Letter.{Letter}
 use Rattle.bx_paxos_machines.proofs.Beginnings.{idle_at, new_idle}
 use Rattle.bx_paxos_machines.proofs.Needs.{needs_far, needs_most, needs_up as nothing_down}

@@ -8,8 +8,8 @@ use bx_global::{Change, GlobalState};
 
 impl Register for Paxos {
     ghost use Rattle.std.specs.Prelude.{◌≡◌, length};
-    ghost use Rattle.bx_paxos.specs.Reading.{ReadsState};
-    ghost use Rattle.bx_paxos_found.specs.Finding.{IsGreatestBoot};
+    ghost use Rattle.bx_paxos_machines.specs.bx_paxos.specs.Reading.{ReadsState};
+    ghost use Rattle.bx_paxos_machines.specs.bx_paxos_found.specs.Finding.{IsGreatestBoot};
     ghost use Rattle.bx_paxos_machines.specs.Beginning.{AreNew};
     ghost use Rattle.bx_paxos_machines.specs.Cluster.{is_busy as busy_in, knows as known_in, needs as needed_in};
     ghost use Rattle.bx_paxos_machines.specs.Keeps.{Keeps};

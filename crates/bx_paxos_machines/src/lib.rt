@@ -11,3 +11,8 @@ pub use finding::place_of;
 pub use laws::{other_disks_and_letters, what_a_register_tells};
 pub use machine::Machine;
 pub use making::{begin_anew, make_all};
+
+/// What the crates above use of `bx_paxos_found`.
+pub mod paxos_found {
+    pub use bx_paxos_found::{Origins, find};
+}

@@ -17,7 +17,7 @@ use Rattle.bx_redo.proofs.Settled.{one_disk}
 use Rattle.bx_truth.specs.Opening.{opening_truth}
 use Rattle.bx_volume.proofs.Sizes.{block_bytes}
 use Rattle.bx_volume.specs.AtRest.{IsAtRest}
-use Rattle.bx_world_standing.specs.Labels.{IsLabelledSurely, LabelsStand}
+use Rattle.bx_node_openings.specs.bx_world_standing.specs.Labels.{IsLabelledSurely, LabelsStand}
 
 module _ (x : Disks) (volume nodes devices areas : ℕ) (s : GlobalState) (is : IsLabel (record { volume = volume; disk = 0; devices = devices; areas = areas })) (many : length s.devices ≡ devices)
     (made : IsFormatted x (record { volume = volume; disk = 0; devices = devices; areas = areas })) where

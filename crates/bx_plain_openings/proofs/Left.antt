@@ -16,8 +16,8 @@ use Rattle.bx_rows.specs.Words.{is_taken}
 use Rattle.bx_views.specs.Attempts.{Deed}
 use Rattle.bx_views.specs.Truths.{Hints, Truth}
 use Rattle.bx_volume.specs.Records.{gate_of}
-use Rattle.bx_world_logs.specs.Logs.{IsShut, SlotStands}
-use Rattle.bx_world_standing.specs.Standing.{Course, Known, StandsAt, SureOf}
+use Rattle.bx_node_openings.specs.bx_world_logs.specs.Logs.{IsShut, SlotStands}
+use Rattle.bx_node_openings.specs.bx_world_standing.specs.Standing.{Course, Known, StandsAt, SureOf}
 
 -- a gate is closed, and settled
 pub record IsShutGate (x : Disks) (slot gate : ℕ) : Type 0 where

@@ -17,8 +17,8 @@ use Rattle.bx_redo.proofs.Within.{behind_it, within_it}
 use Rattle.bx_volume.proofs.Sizes.{block_bytes}
 use Rattle.bx_volume.specs.Overlay.{Home}
 use Rattle.bx_volume.specs.Records.{gate_of}
-use Rattle.bx_world_standing.specs.Labels.{LabelsStand}
-use Rattle.bx_world_stays.proofs.Labels.{labels_keep}
+use Rattle.bx_node_openings.specs.bx_world_standing.specs.Labels.{LabelsStand}
+use Rattle.bx_node_openings.specs.bx_world_stays.proofs.Labels.{labels_keep}
 
 -- what a recovery leaves of the other slots, and of labels
 pub others_stay_shut : (x y : Disks) (slot gate : ℕ) → SparesOthers x y → slot ≢ 0 → slot < 8 → gate < 8 → IsShutGate x slot gate → IsShutGate y slot gate

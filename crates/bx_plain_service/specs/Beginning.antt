@@ -9,8 +9,8 @@ use Rattle.bx_node_openings.specs.Resting.{VolumeRests}
 use Rattle.bx_plain.specs.Begin.{plain_state}
 use Rattle.bx_plain.specs.contracts.owners.PlainOwnersOwners.TheImpl as plain_owners
 use Rattle.bx_plain.specs.contracts.register.PlainRegisterRegister.TheImpl as plain_register
-use Rattle.bx_plain_parts.specs.declared.parts.PlainParts.{PlainParts}
-use Rattle.bx_plain_parts.specs.declared.parts.Shape.{Shape}
+use Rattle.bx_node_rounds.specs.bx_plain_parts.specs.declared.parts.PlainParts.{PlainParts}
+use Rattle.bx_node_rounds.specs.bx_plain_parts.specs.declared.parts.Shape.{Shape}
 use Rattle.bx_steps.specs.Steps.{StandsWith}
 use Rattle.bx_views.specs.Truths.{Truth, no_hints}
 

@@ -11,8 +11,8 @@ ghost use Rattle.bx_plain_service.specs.Stages.{IsOfShape, MayRun, Stands};
 use crate::service::PlainCluster;
 use bx_base::{CallNo, OutOfMemory};
 use bx_engine::BoxFs;
+use bx_node_rounds::plain_parts::{PlainParts, Shape};
 use bx_node_rounds::{Cluster, Parts};
-use bx_plain_parts::{PlainParts, Shape};
 use std::alloc::Global;
 
 /// How many devices and areas there are, for so many nodes.

@@ -7,9 +7,9 @@ use Rattle.bx_lone_store.specs.contracts.store.PlainStoreStore.TheImpl as plain_
 use Rattle.bx_model.specs.declared.tree.Tree.{Tree}
 use Rattle.bx_node_machines.specs.Machines.{MachineView}
 use Rattle.bx_node_machines.specs.Nodes.{NodesStand}
-use Rattle.bx_node_openings.proofs.Opens.{OpeningLaws, opens}
-use Rattle.bx_node_openings.specs.Opening.{AreNew, HaveNothing, opening_clocks}
-use Rattle.bx_node_openings.specs.Resting.{VolumeRests}
+use Rattle.bx_plain_openings.specs.bx_node_openings.proofs.Opens.{OpeningLaws, opens}
+use Rattle.bx_plain_openings.specs.bx_node_openings.specs.Opening.{AreNew, HaveNothing, opening_clocks}
+use Rattle.bx_plain_openings.specs.bx_node_openings.specs.Resting.{VolumeRests}
 use Rattle.bx_plain.specs.Begin.{plain_state}
 use Rattle.bx_plain.specs.Laws.{fits_new}
 use Rattle.bx_plain.specs.contracts.owners.PlainOwnersOwners.TheImpl as plain_owners

@@ -2,7 +2,7 @@
 use Rattle.std.proofs.Common.{◌≡◌, ◌⊎◌, inl, inr, ℕ, ◌≤◌, Bool, true, false, List, [], ◌∷◌, ◌++◌, Option, refl, sym, ap, ◌∙◌, subst, arith}
 use Rattle.std.specs.Prelude.{filter, map, nat_lt, reverse, slice_index}
 use Rattle.std.proofs.lemmas.List.{append-nil, reverse-append}
-use Rattle.bx_audit.specs.Audited.{AreOpen}
+use Rattle.bx_service.specs.bx_audit.specs.Audited.{AreOpen}
 use Rattle.bx_base.specs.declared.names.Point.{Point}
 use Rattle.bx_disk.specs.Disks.{Disks}
 use Rattle.bx_facts.specs.Writes.{IsSettled}

@@ -3,7 +3,7 @@ use Rattle.std.proofs.Common.{◌≡◌, ◌⊎◌, inl, inr, ℕ, zero, suc, �
 use Rattle.std.specs.Prelude.{replicate, reverse, slice_get}
 use Rattle.std.proofs.lemmas.List.{append-nil}
 use Rattle.std.proofs.Math.Nat.{mod-lt}
-use Rattle.bx_audit.specs.Audited.{AreOpen}
+use Rattle.bx_service.specs.bx_audit.specs.Audited.{AreOpen}
 use Rattle.bx_base.specs.declared.names.Point.{Point}
 use Rattle.bx_disk.specs.Disks.{Disks, Image, sector_of}
 use Rattle.bx_global.specs.Opening.{first_device, opening_state}

@@ -1,7 +1,7 @@
 -- What disks show of nodes once what was unsure on them was lost.
 use Rattle.std.proofs.Common.{◌≡◌, inl, ℕ, ◌<◌, ◌≤◌, Bool, false, List, Option, refl, ap, ◌∙◌, subst, arith}
 use Rattle.std.specs.Prelude.{filter}
-use Rattle.bx_audit.specs.Audited.{AreOpen}
+use Rattle.bx_service.specs.bx_audit.specs.Audited.{AreOpen}
 use Rattle.bx_base.specs.declared.names.Point.{Point}
 use Rattle.bx_disk.specs.Disks.{Disks, Image, IsImage}
 use Rattle.bx_facts.specs.Chains.{HasRow, LivesIn}
@@ -9,8 +9,8 @@ use Rattle.bx_facts.specs.Holds.{Holds}
 use Rattle.bx_facts.specs.Writes.{IsOfStore, IsSettled, Made, label_on}
 use Rattle.bx_global.specs.Opening.{opening_state}
 use Rattle.bx_model.specs.declared.tree.Tree.{Tree}
-use Rattle.bx_node_openings.proofs.Kept.{members_keep, settled_in, settled_keeps}
-use Rattle.bx_node_openings.specs.Resting.{KeepsVolume}
+use Rattle.bx_plain_openings.specs.bx_node_openings.proofs.Kept.{members_keep, settled_in, settled_keeps}
+use Rattle.bx_plain_openings.specs.bx_node_openings.specs.Resting.{KeepsVolume}
 use Rattle.bx_plain.specs.Begin.{plain_rows, plain_state}
 use Rattle.bx_plain_openings.proofs.Left.{crashed_volume}
 use Rattle.bx_plain_standing.proofs.Open.{are_sources, each_first, not_taken, open_points}

@@ -1,7 +1,7 @@
 -- What the one-machine parts make of nodes that stand: no state came after the first, and node n has session n + 1.
 use Rattle.std.proofs.Common.{◌≡◌, inl, inr, ℕ, zero, suc, ◌+◌, ◌<◌, ◌≤◌, Bool, false, List, [], ◌∷◌, Option, Some, None, length, refl, sym, ap, ◌∙◌, subst, arith}
 use Rattle.std.specs.Prelude.{if◌then◌else◌, slice_get}
-use Rattle.bx_audit.specs.Audited.{AreOpen}
+use Rattle.bx_service.specs.bx_audit.specs.Audited.{AreOpen}
 use Rattle.bx_base.specs.declared.names.Actor.TheVariants.{Node}
 use Rattle.bx_base.specs.declared.names.Point.{Point}
 use Rattle.bx_disk.specs.Disks.{Disks}

@@ -5,7 +5,7 @@ use Rattle.bx_lone_repair.specs.Bench.{made_for}
 use Rattle.bx_lone_repair.specs.Left as lefts
 use Rattle.bx_lone_repair.specs.Left.{IsLeft}
 use Rattle.bx_model.specs.declared.tree.Tree.{Tree}
-use Rattle.bx_node_openings.specs.Resting.{VolumeRests}
+use Rattle.bx_plain_openings.specs.bx_node_openings.specs.Resting.{VolumeRests}
 use Rattle.bx_plain.specs.Begin.{plain_state}
 use Rattle.bx_plain_openings.proofs.Alike.{first_members}
 use Rattle.bx_plain_openings.proofs.Left.{IsShutGate}

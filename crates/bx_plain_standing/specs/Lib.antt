@@ -1,3 +1,4 @@
 pub mod Doubts
 pub mod Left
 pub mod Parts
+pub use Rattle.bx_plain_openings

@@ -18,7 +18,7 @@ use Rattle.bx_blink.specs.declared.error.BlinkError.TheVariants.{Need, Stale, Fu
 use Rattle.bx_blink.specs.Walks.{Reads, reads_with, passes, most, start}
 use Rattle.bx_blink.proofs.Landings.{landing}
 use Rattle.bx_blink.proofs.Paths.{needs, not_led}
-use Rattle.bx_leaves.proofs.Fair.{page_held, seen_held}
+use Rattle.bx_splits.specs.bx_leaves.proofs.Fair.{page_held, seen_held}
 use Rattle.bx_splits.specs.declared.halves.Halves.{Halves}
 use Rattle.bx_splits.specs.Halves.{half_in}
 use Rattle.bx_splits.proofs.SplitFair.{halves_full, halves_held, halves_need}

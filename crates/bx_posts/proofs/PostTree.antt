@@ -22,8 +22,8 @@ use Rattle.bx_blink.proofs.Found.{place}
 use Rattle.bx_blink.proofs.Handles.{alone}
 use Rattle.bx_blink.proofs.Tired.{never_lost}
 use Rattle.bx_blink.proofs.Under.{agrees}
-use Rattle.bx_leaves.specs.Leaves.{PutsPage}
-use Rattle.bx_leaves.proofs.Apart.{same_page}
+use Rattle.bx_splits.specs.bx_leaves.specs.Leaves.{PutsPage}
+use Rattle.bx_splits.specs.bx_leaves.proofs.Apart.{same_page}
 use Rattle.bx_splits.specs.declared.halves.Halves.{Halves}
 use Rattle.bx_splits.specs.Halves.{HalvesAt, halves_of, half_in}
 use Rattle.bx_splits.specs.Splits.{SplitsIn}

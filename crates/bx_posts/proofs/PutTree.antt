@@ -16,9 +16,9 @@ use Rattle.bx_views.specs.Truths.{Truth, Held, Hints, with_draft}
 use Rattle.bx_blink.specs.Hints.{Under}
 use Rattle.bx_blink.specs.Places.{IsPlaceOf}
 use Rattle.bx_blink.proofs.Sees.{Holds}
-use Rattle.bx_leaves.specs.Changes.{MakesMap}
-use Rattle.bx_leaves.specs.Leaves.{PutsPage}
-use Rattle.bx_leaves.proofs.Written.{puts_writes}
+use Rattle.bx_splits.specs.bx_leaves.specs.Changes.{MakesMap}
+use Rattle.bx_splits.specs.bx_leaves.specs.Leaves.{PutsPage}
+use Rattle.bx_splits.specs.bx_leaves.proofs.Written.{puts_writes}
 use Rattle.bx_splits.specs.Splits.{GrowsTree}
 use Rattle.bx_splits.proofs.Kept.{kept_and, written_keeps}
 use Rattle.bx_splits.proofs.Posted.{posted}

@@ -13,7 +13,7 @@ use Rattle.bx_blink.specs.declared.error.BlinkError.TheVariants.{Need, Stale, Fu
 use Rattle.bx_blink.specs.declared.steps.End.{End}
 use Rattle.bx_blink.specs.declared.steps.End.TheVariants.{Needs, Lost, Lands}
 use Rattle.bx_blink.specs.Walks.{Reads, Ends, start, most, OnPath}
-use Rattle.bx_leaves.specs.Leaves.{IsCrowded, PutsPage}
+use Rattle.bx_splits.specs.bx_leaves.specs.Leaves.{IsCrowded, PutsPage}
 use Rattle.bx_splits.specs.declared.halves.Halves.{Halves}
 use Rattle.bx_splits.specs.Halves.{HalvesAt, half_in}
 use Rattle.bx_posts.specs.declared.posting.Posted.{Posted}

@@ -7,3 +7,8 @@ mod separators;
 
 pub use posting::{Posted, post};
 pub use separators::may_post;
+
+/// What the crates above use of `bx_splits`.
+pub mod splits {
+    pub use bx_splits::split;
+}

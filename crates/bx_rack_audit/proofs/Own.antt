@@ -7,7 +7,7 @@ use Rattle.bx_layout.specs.declared.label.Label.{Label}
 use Rattle.bx_overlay.specs.Refusals.{HasNoLabel, IsBreak}
 use Rattle.bx_overlay.specs.declared.error.AuditError.{AuditError}
 use Rattle.bx_overlay.specs.declared.error.AuditError.TheVariants.{NoLabel, NoMajority}
-use Rattle.bx_paxos.specs.Reading.{ReadsState}
+use Rattle.bx_paxos_found.specs.bx_paxos.specs.Reading.{ReadsState}
 use Rattle.bx_paxos_found.proofs.Labelling.{of_none, of_some}
 use Rattle.bx_paxos_found.specs.Finding.{LackMajority}
 use Rattle.bx_rack_audit.specs.Alone.{IsOwnState, LackState}

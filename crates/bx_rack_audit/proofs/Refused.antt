@@ -9,7 +9,7 @@ use Rattle.bx_layout.specs.declared.label.Label.{Label}
 use Rattle.bx_model.specs.declared.tree.Tree.{Tree}
 use Rattle.bx_overlay.specs.Refusals.{IsBreak}
 use Rattle.bx_overlay.specs.declared.error.AuditError.{AuditError}
-use Rattle.bx_paxos.specs.Reading.{ReadsState}
+use Rattle.bx_paxos_found.specs.bx_paxos.specs.Reading.{ReadsState}
 use Rattle.bx_paxos_found.specs.Finding.{LackMajority}
 use Rattle.bx_rack_audit.proofs.Own.{IsNoState}
 use Rattle.bx_rack_audit.proofs.Telling.{in_state, refused_in, refused_label, refused_lack}

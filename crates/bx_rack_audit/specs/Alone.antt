@@ -9,7 +9,7 @@ use Rattle.bx_model.specs.declared.tree.Tree.{Tree}
 use Rattle.bx_overlay.specs.Refusals.{HasNoLabel}
 use Rattle.bx_overlay.specs.declared.error.AuditError.{AuditError}
 use Rattle.bx_overlay.specs.declared.error.AuditError.TheVariants.{NoLabel, NoMajority}
-use Rattle.bx_paxos.specs.Reading.{ReadsState}
+use Rattle.bx_paxos_found.specs.bx_paxos.specs.Reading.{ReadsState}
 use Rattle.bx_paxos_found.specs.Finding.{LackMajority}
 use Rattle.bx_volume.specs.Images.{ImageStandsFor, IsFirstLabel}
 

@@ -20,7 +20,7 @@ use Rattle.bx_global.specs.declared.state.GlobalState.{GlobalState}
 use Rattle.bx_global.specs.Opening.{first_device, formatted_state}
 use Rattle.bx_layout.specs.declared.label.Label.{Label}
 use Rattle.bx_layout.specs.Labels.{IsLabel}
-use Rattle.bx_paxos.specs.Reading.{AreSeen, ReadsFirst, Tells}
+use Rattle.bx_rack_audit.specs.bx_paxos.specs.Reading.{AreSeen, ReadsFirst, Tells}
 use Rattle.bx_places.specs.Places.{disk_sectors, replica_sectors}
 use Rattle.bx_rack_audit.proofs.Labels.{labelled_agrees}
 use Rattle.bx_rack_audit.specs.Alone.{IsOwnState}

@@ -1,7 +1,7 @@
 -- What an audit's answer is to a check.
 use Rattle.std.proofs.Common.{◌≡◌, ℕ, ◌⊎◌, inl, inr, List, Err, refl}
 use Rattle.std.specs.Prelude.{IsErrOf}
-use Rattle.bx_audit.specs.declared.listing.Listing.{Listing}
+use Rattle.bx_rack_audit.specs.bx_audit.specs.declared.listing.Listing.{Listing}
 use Rattle.bx_base.specs.Faults.{Rose}
 use Rattle.bx_disk.specs.Disks.{Disks}
 use Rattle.bx_overlay.specs.declared.error.AuditError.{AuditError}

@@ -1,7 +1,7 @@
 -- A volume that was laid out, whose cells were written, and that was labelled then.
 use Rattle.std.specs.Prelude.{slice_index}
 use Rattle.std.proofs.Common.{◌≡◌, ℕ, ◌+◌, ◌<◌, ◌≤◌, Bool, inl, inr, false, true, List, length, refl, sym, ap, subst, ◌∙◌, arith}
-use Rattle.bx_audit.proofs.Volumes.{stands}
+use Rattle.bx_rack_audit.specs.bx_audit.proofs.Volumes.{stands}
 use Rattle.bx_calls.specs.Calls.{LeavesOnly}
 use Rattle.bx_calls.specs.Laws.{leaves_implies, leaves_then}
 use Rattle.bx_cell.specs.Formats.{HasBeside, KeepsBeside}

@@ -1,6 +1,6 @@
 -- Why a check stops short, and what it has written then.
 use Rattle.std.specs.Prelude.{◌≡◌, ℕ, ◌<◌, List, ◌++◌, length, take}
-use Rattle.bx_audit.specs.declared.listing.Listing.{Listing}
+use Rattle.bx_rack_audit.specs.bx_audit.specs.declared.listing.Listing.{Listing}
 use Rattle.bx_base.specs.Faults.{Rose}
 use Rattle.bx_disk.specs.Disks.{Disks}
 use Rattle.bx_overlay.specs.declared.error.AuditError.{AuditError}

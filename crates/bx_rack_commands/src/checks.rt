@@ -1,7 +1,7 @@
 //! A rack that is checked.
 
 ghost use Rattle.std.specs.Prelude.{◌≡◌, ◌≤◌, ◌++◌, IfErr, OnOk};
-ghost use Rattle.bx_audit.specs.declared.listing.Listing.{Listing};
+ghost use Rattle.bx_rack_audit.specs.bx_audit.specs.declared.listing.Listing.{Listing};
 ghost use Rattle.bx_model.specs.declared.tree.Tree.{Tree};
 ghost use Rattle.bx_model.specs.Listing.{listing};
 ghost use Rattle.bx_rack_audit.specs.Alone.{IsListedAlone, StandAlone};

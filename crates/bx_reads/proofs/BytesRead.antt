@@ -2,14 +2,14 @@
 use Rattle.std.proofs.Common.{◌≡◌, ℕ, ◌≤◌, Bool, true, false, List, [], take, drop, Option, Some, None, refl, sym, ap, ◌∙◌}
 use Rattle.std.specs.Prelude.{◌≢◌, not, min, if◌then◌else◌, Result, Ok, Err}
 use Rattle.bx_files.specs.Reads.{Tells}
-use Rattle.bx_inodes.specs.Fitting.{HintsFitAll}
-use Rattle.bx_inodes.specs.Pages.{HasPages}
-use Rattle.bx_inodes.proofs.Pages.{has_pages}
-use Rattle.bx_blink.specs.Hints.{Under}
-use Rattle.bx_inodes.specs.declared.stop.Stop.{Stop}
-use Rattle.bx_inodes.specs.declared.stop.Stop.TheVariants.{Need, Inner, Status, OutOfMemory}
-use Rattle.bx_inodes.specs.Heads.{head_of}
-use Rattle.bx_inodes.specs.Stands.{Stands}
+use Rattle.bx_files.specs.bx_inodes.specs.Fitting.{HintsFitAll}
+use Rattle.bx_files.specs.bx_inodes.specs.Pages.{HasPages}
+use Rattle.bx_files.specs.bx_inodes.proofs.Pages.{has_pages}
+use Rattle.bx_files.specs.bx_blink.specs.Hints.{Under}
+use Rattle.bx_files.specs.bx_inodes.specs.declared.stop.Stop.{Stop}
+use Rattle.bx_files.specs.bx_inodes.specs.declared.stop.Stop.TheVariants.{Need, Inner, Status, OutOfMemory}
+use Rattle.bx_files.specs.bx_inodes.specs.Heads.{head_of}
+use Rattle.bx_files.specs.bx_inodes.specs.Stands.{Stands}
 use Rattle.bx_layout.specs.declared.inode.Inode.{Inode}
 use Rattle.bx_model.specs.declared.call.Call.{Call}
 use Rattle.bx_model.specs.declared.permissions.Want.TheVariants as want
@@ -23,10 +23,10 @@ use Rattle.bx_tree_files.specs.declared.file.Body.TheVariants as bodies
 use Rattle.bx_tree_files.specs.declared.file.File.{File}
 use Rattle.bx_tree_files.specs.Attributes.{attributes_of}
 use Rattle.bx_tree_files.specs.Files.{is_directory, is_link}
-use Rattle.bx_truth.specs.Chunks.{chunks_of}
-use Rattle.bx_truth.specs.PageTrees.{Chunks}
-use Rattle.bx_truth.specs.Stored.{HasBody, HasFields, IsRegular, Owner, Stored}
-use Rattle.bx_truth.proofs.Cases.{eq_true}
+use Rattle.bx_files.specs.bx_truth.specs.Chunks.{chunks_of}
+use Rattle.bx_files.specs.bx_truth.specs.PageTrees.{Chunks}
+use Rattle.bx_files.specs.bx_truth.specs.Stored.{HasBody, HasFields, IsRegular, Owner, Stored}
+use Rattle.bx_files.specs.bx_truth.proofs.Cases.{eq_true}
 use Rattle.bx_views.specs.Truths.{Held, Hints, IsTruth, Truth}
 use Rattle.bx_reads.specs.Answers.{IsOutcome}
 use Rattle.bx_reads.specs.Bytes.{read_error}

@@ -2,25 +2,25 @@
 use Rattle.std.proofs.Common.{◌≡◌, ℕ, arith, List, [], sym, ap, ◌∙◌, subst, Some, None}
 use Rattle.std.specs.Prelude.{Err}
 use Rattle.bx_base.specs.declared.names.Mode.TheVariants.{Shared}
-use Rattle.bx_blink.specs.Walks.{reads_with}
+use Rattle.bx_files.specs.bx_blink.specs.Walks.{reads_with}
 use Rattle.bx_places.specs.Handles.{named}
-use Rattle.bx_inodes.specs.declared.stop.Stop.{Stop}
-use Rattle.bx_inodes.specs.declared.stop.Stop.TheVariants.{Need, Inner, Status, OutOfMemory}
-use Rattle.bx_inodes.specs.Inodes.{FileAt, HoldsInode, IsInodeOf, LiveAt}
-use Rattle.bx_inodes.specs.Stands.{Stands}
+use Rattle.bx_files.specs.bx_inodes.specs.declared.stop.Stop.{Stop}
+use Rattle.bx_files.specs.bx_inodes.specs.declared.stop.Stop.TheVariants.{Need, Inner, Status, OutOfMemory}
+use Rattle.bx_files.specs.bx_inodes.specs.Inodes.{FileAt, HoldsInode, IsInodeOf, LiveAt}
+use Rattle.bx_files.specs.bx_inodes.specs.Stands.{Stands}
 use Rattle.bx_layout.specs.declared.inode.Inode.{Inode}
 use Rattle.bx_model.specs.declared.tree.Tree.{Tree}
 use Rattle.bx_model.specs.Reading.{named_file, path_of}
-use Rattle.bx_records.specs.Drafts.{Changed}
+use Rattle.bx_views.specs.bx_records.specs.Drafts.{Changed}
 use Rattle.bx_tree_files.specs.declared.file.Body.{Body}
 use Rattle.bx_tree_files.specs.declared.file.Body.TheVariants.{Bytes, Path, Names}
 use Rattle.bx_tree_files.specs.declared.file.File.{File}
 use Rattle.bx_tree_files.specs.Files.{file_at}
-use Rattle.bx_truth.specs.Chunks.{chunks_of}
-use Rattle.bx_truth.specs.PageTrees.{Chunks}
-use Rattle.bx_truth.specs.Stands.{StandsFor, IsAnInode, IsOwned}
-use Rattle.bx_truth.specs.Stored.{HasBody, IsFileOr, Owner, Stored}
-use Rattle.bx_truth.proofs.OneFiles.{one_inode}
+use Rattle.bx_files.specs.bx_truth.specs.Chunks.{chunks_of}
+use Rattle.bx_files.specs.bx_truth.specs.PageTrees.{Chunks}
+use Rattle.bx_files.specs.bx_truth.specs.Stands.{StandsFor, IsAnInode, IsOwned}
+use Rattle.bx_files.specs.bx_truth.specs.Stored.{HasBody, IsFileOr, Owner, Stored}
+use Rattle.bx_files.specs.bx_truth.proofs.OneFiles.{one_inode}
 use Rattle.bx_views.specs.Truths.{Held, Hints, Truth, with_draft}
 use Rattle.bx_reads.specs.Files.{IsNamed, IsSeen, NamesFile}
 use Rattle.bx_reads.proofs.Told.{named_as, over_none, size_fits}

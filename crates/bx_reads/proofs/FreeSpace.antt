@@ -2,10 +2,10 @@
 use Rattle.std.proofs.Common.{◌≡◌, ℕ, zero, suc, ◌*◌, ◌≤◌, arith, List, refl, sym, ap, ◌∙◌, inl, inr}
 use Rattle.std.specs.Prelude.{Result, Ok, Err}
 use Rattle.std.proofs.lemmas.List.Sums.{count_by-le-length}
-use Rattle.bx_chunks.specs.Counting.{HasFreeCount, HoldsFree, LacksArea, Sums}
-use Rattle.bx_inodes.specs.declared.stop.Stop.{Stop}
-use Rattle.bx_inodes.specs.declared.stop.Stop.TheVariants.{Need, Inner, Status, OutOfMemory}
-use Rattle.bx_inodes.specs.Stops.{NeedsOn, OnInode}
+use Rattle.bx_files.specs.bx_chunks.specs.Counting.{HasFreeCount, HoldsFree, LacksArea, Sums}
+use Rattle.bx_files.specs.bx_inodes.specs.declared.stop.Stop.{Stop}
+use Rattle.bx_files.specs.bx_inodes.specs.declared.stop.Stop.TheVariants.{Need, Inner, Status, OutOfMemory}
+use Rattle.bx_files.specs.bx_inodes.specs.Stops.{NeedsOn, OnInode}
 use Rattle.bx_base.specs.declared.names.Mode.TheVariants.{Shared}
 use Rattle.bx_layout.specs.Areas.{is_free}
 use Rattle.bx_layout.specs.declared.inode.Inode.{Inode}

@@ -4,13 +4,13 @@ use Rattle.std.specs.Prelude.{◌≢◌, ◌==◌, not, Result, Ok, Err}
 use Rattle.std.specs.Prelude.{◌<◌, ◌^◌, option_and_then, [], Some}
 use Rattle.bx_places.specs.Handles.{named}
 use Rattle.bx_model.specs.FileTrees.{IsFileTree}
-use Rattle.bx_records.specs.Drafts.{Changed}
+use Rattle.bx_views.specs.bx_records.specs.Drafts.{Changed}
 use Rattle.bx_tree_files.specs.Files.{file_at, size_of}
 use Rattle.bx_tree_laws.proofs.Rises.{contains_at}
-use Rattle.bx_truth.specs.Stands.{StandsFor}
+use Rattle.bx_files.specs.bx_truth.specs.Stands.{StandsFor}
 use Rattle.bx_views.specs.Truths.{Truth, with_draft}
-use Rattle.bx_inodes.specs.declared.stop.Stop.{Stop}
-use Rattle.bx_inodes.specs.declared.stop.Stop.TheVariants.{Need, Inner, Status, OutOfMemory}
+use Rattle.bx_files.specs.bx_inodes.specs.declared.stop.Stop.{Stop}
+use Rattle.bx_files.specs.bx_inodes.specs.declared.stop.Stop.TheVariants.{Need, Inner, Status, OutOfMemory}
 use Rattle.bx_layout.specs.declared.inode.Inode.{Inode}
 use Rattle.bx_model.specs.declared.reply.Reply.{Reply}
 use Rattle.bx_model.specs.declared.reply.Reply.TheVariants.{Attributes, Path}
@@ -20,7 +20,7 @@ use Rattle.bx_model.specs.Steps.{Outcome, must, refuse, ◌>>=◌, ◌>>◌}
 use Rattle.bx_tree_files.specs.declared.file.File.{File}
 use Rattle.bx_tree_files.specs.Attributes.{attributes_of}
 use Rattle.bx_tree_files.specs.Files.{is_link}
-use Rattle.bx_truth.proofs.Cases.{eq_false, eq_true}
+use Rattle.bx_files.specs.bx_truth.proofs.Cases.{eq_false, eq_true}
 use Rattle.bx_reads.specs.Answers.{IsOutcome}
 use Rattle.bx_reads.specs.Files.{IsNamed, NamesFile}
 

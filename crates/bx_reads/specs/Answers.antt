@@ -1,7 +1,7 @@
 -- What a procedure that changes nothing answers.
 use Rattle.std.specs.Prelude.{◌≡◌, Result, Ok, Err}
-use Rattle.bx_inodes.specs.declared.stop.Stop.{Stop}
-use Rattle.bx_inodes.specs.declared.stop.Stop.TheVariants.{Need, Inner, Status, OutOfMemory}
+use Rattle.bx_files.specs.bx_inodes.specs.declared.stop.Stop.{Stop}
+use Rattle.bx_files.specs.bx_inodes.specs.declared.stop.Stop.TheVariants.{Need, Inner, Status, OutOfMemory}
 use Rattle.bx_model.specs.declared.reply.Reply.{Reply}
 use Rattle.bx_model.specs.declared.tree.Tree.{Tree}
 use Rattle.bx_model.specs.Steps.{Outcome}

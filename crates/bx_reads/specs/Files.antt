@@ -1,17 +1,17 @@
 -- The file that a file handle names, by its inode.
 use Rattle.std.specs.Prelude.{◌≡◌, ℕ, ◌<◌, ◌^◌, List, [], Some, None, Result, Ok, Err}
 use Rattle.bx_base.specs.declared.names.Mode.TheVariants.{Shared}
-use Rattle.bx_blink.specs.Walks.{reads_with}
+use Rattle.bx_files.specs.bx_blink.specs.Walks.{reads_with}
 use Rattle.bx_places.specs.Handles.{named}
-use Rattle.bx_inodes.specs.declared.stop.Stop.{Stop}
-use Rattle.bx_inodes.specs.declared.stop.Stop.TheVariants.{Need, Inner, Status, OutOfMemory}
-use Rattle.bx_inodes.specs.Inodes.{HoldsInode, LiveAt, shown_size}
+use Rattle.bx_files.specs.bx_inodes.specs.declared.stop.Stop.{Stop}
+use Rattle.bx_files.specs.bx_inodes.specs.declared.stop.Stop.TheVariants.{Need, Inner, Status, OutOfMemory}
+use Rattle.bx_files.specs.bx_inodes.specs.Inodes.{HoldsInode, LiveAt, shown_size}
 use Rattle.bx_layout.specs.declared.inode.Inode.{Inode}
 use Rattle.bx_model.specs.declared.tree.Tree.{Tree}
 use Rattle.bx_model.specs.Reading.{named_file, path_of}
 use Rattle.bx_tree_files.specs.declared.file.File.{File}
 use Rattle.bx_tree_files.specs.Files.{file_at, size_of}
-use Rattle.bx_truth.specs.Stored.{HasFields}
+use Rattle.bx_files.specs.bx_truth.specs.Stored.{HasFields}
 use Rattle.bx_views.specs.Truths.{Held, Hints, Truth}
 
 -- The file handle names a file of the tree with this handle, of which the inode, which the truth has, says the fields, the size, and

@@ -2,3 +2,9 @@ pub mod Answers
 pub mod Bytes
 pub mod Files
 pub mod Space
+pub use Rattle.bx_files.specs.bx_blink
+pub use Rattle.bx_files.specs.bx_chunks
+pub use Rattle.bx_files
+pub use Rattle.bx_files.specs.bx_inodes
+pub use Rattle.bx_tree_laws
+pub use Rattle.bx_files.specs.bx_truth

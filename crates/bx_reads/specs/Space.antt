@@ -2,14 +2,14 @@
 use Rattle.std.specs.Prelude.{◌≡◌, ℕ, ◌*◌, ◌<◌, ◌⊎◌, List, [], ◌∷◌, Result, Ok, Err}
 use Rattle.bx_base.specs.declared.names.Mode.{Mode}
 use Rattle.bx_base.specs.declared.names.Mode.TheVariants.{Shared}
-use Rattle.bx_inodes.specs.declared.stop.Stop.{Stop}
-use Rattle.bx_inodes.specs.declared.stop.Stop.TheVariants.{Need, Inner, Status, OutOfMemory}
-use Rattle.bx_inodes.specs.Stops.{OnInode}
+use Rattle.bx_files.specs.bx_inodes.specs.declared.stop.Stop.{Stop}
+use Rattle.bx_files.specs.bx_inodes.specs.declared.stop.Stop.TheVariants.{Need, Inner, Status, OutOfMemory}
+use Rattle.bx_files.specs.bx_inodes.specs.Stops.{OnInode}
 use Rattle.bx_model.specs.declared.reply.Reply.{Reply}
 use Rattle.bx_model.specs.declared.reply.Reply.TheVariants.{Space}
 use Rattle.bx_model.specs.declared.tree.Tree.{Tree}
 use Rattle.bx_model.specs.Reading.{statfs}
-use Rattle.bx_truth.specs.Chunks.{own_block}
+use Rattle.bx_files.specs.bx_truth.specs.Chunks.{own_block}
 
 -- so many blocks are free; no status comes
 abbrev pub IsFreeCount : ℕ → Result ℕ Stop → Type 0

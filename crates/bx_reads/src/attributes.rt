@@ -4,13 +4,13 @@ ghost use Rattle.bx_base.specs.declared.names.Mode.TheVariants.{Shared};
 ghost use Rattle.bx_model.specs.declared.tree.Tree.{Tree};
 ghost use Rattle.bx_model.specs.Reading.{getattr};
 ghost use Rattle.bx_views.specs.Truths.{IsTruth, Truth};
-ghost use Rattle.bx_inodes.specs.Stands.{Stands};
-ghost use Rattle.bx_inodes.specs.Stops.{NeedsOn, NeverInner, OnInode};
+ghost use Rattle.bx_files.specs.bx_inodes.specs.Stands.{Stands};
+ghost use Rattle.bx_files.specs.bx_inodes.specs.Stops.{NeedsOn, NeverInner, OnInode};
 ghost use Rattle.bx_reads.specs.Answers.{IsOutcome};
 
 use crate::files::named_inode;
 use crate::shown::attributes_by;
-use bx_inodes::Stop;
+use bx_files::inodes::Stop;
 use bx_model::Reply;
 use bx_views::View;
 use std::alloc::Global;

@@ -1,10 +1,10 @@
 //! READ.
 
 ghost use Rattle.std.specs.Prelude.{◌≡◌, ◌≤◌, IfOk};
-ghost use Rattle.bx_inodes.specs.Fitting.{HintsFitAll};
-ghost use Rattle.bx_inodes.specs.Heads.{head_of as head_by};
-ghost use Rattle.bx_inodes.specs.Stands.{Stands};
-ghost use Rattle.bx_inodes.specs.Stops.{NeedsOn, NeverInner};
+ghost use Rattle.bx_files.specs.bx_inodes.specs.Fitting.{HintsFitAll};
+ghost use Rattle.bx_files.specs.bx_inodes.specs.Heads.{head_of as head_by};
+ghost use Rattle.bx_files.specs.bx_inodes.specs.Stands.{Stands};
+ghost use Rattle.bx_files.specs.bx_inodes.specs.Stops.{NeedsOn, NeverInner};
 ghost use Rattle.bx_model.specs.declared.tree.Tree.{Tree};
 ghost use Rattle.bx_model.specs.Reading.{read as read_of};
 ghost use Rattle.bx_views.specs.Truths.{IsTruth, Truth};
@@ -15,7 +15,7 @@ use crate::files::named_inode;
 use crate::shown::attributes_by;
 use bx_base::OutOfMemory;
 use bx_files::MOST_BYTES;
-use bx_inodes::{Stop, head_of};
+use bx_files::inodes::{Stop, head_of};
 use bx_layout::Inode;
 use bx_model::{ACCES, Call, ISDIR, NXIO, Reply, Want, may};
 use bx_tree_files::{DIRECTORY, LINK};

@@ -2,22 +2,22 @@
 
 ghost use Rattle.std.specs.Prelude.{◌≡◌, ℕ, IfOk, Some, []};
 ghost use Rattle.bx_base.specs.declared.names.Mode.TheVariants.{Shared};
-ghost use Rattle.bx_blink.specs.Walks.{reads_with};
+ghost use Rattle.bx_files.specs.bx_blink.specs.Walks.{reads_with};
 ghost use Rattle.bx_places.specs.Handles.{named};
 ghost use Rattle.bx_model.specs.declared.tree.Tree.{Tree};
-ghost use Rattle.bx_truth.specs.Chunks.{block_at};
+ghost use Rattle.bx_files.specs.bx_truth.specs.Chunks.{block_at};
 ghost use Rattle.bx_views.specs.Truths.{IsTruth, Truth};
-ghost use Rattle.bx_inodes.specs.Stands.{Stands};
-ghost use Rattle.bx_inodes.specs.Stops.{NeedsOn, NeverInner, OnInode};
+ghost use Rattle.bx_files.specs.bx_inodes.specs.Stands.{Stands};
+ghost use Rattle.bx_files.specs.bx_inodes.specs.Stops.{NeedsOn, NeverInner, OnInode};
 ghost use Rattle.bx_reads.specs.Files.{IsSeen, NamesFile};
 
 use bx_base::Mode;
-use bx_inodes::{Stop, inode_at};
+use bx_files::inodes::{Stop, inode_at};
 use bx_layout::Inode;
 use bx_model::STALE;
 use bx_places::named_handle;
-use bx_records::Draft;
 use bx_views::View;
+use bx_views::records::Draft;
 use std::alloc::Global;
 
 /// The number of the handle, and the inode, of the file that a file handle of the volume names.

@@ -2,17 +2,17 @@
 
 ghost use Rattle.std.specs.Prelude.{◌≡◌, ◌≢◌, OnErr, OnOk, Ok, Err};
 ghost use Rattle.bx_base.specs.declared.names.Mode.TheVariants.{Shared};
-ghost use Rattle.bx_inodes.specs.declared.stop.Stop.TheVariants.{Status};
+ghost use Rattle.bx_files.specs.bx_inodes.specs.declared.stop.Stop.TheVariants.{Status};
 ghost use Rattle.bx_model.specs.declared.reply.Reply.TheVariants.{Path};
 ghost use Rattle.bx_model.specs.declared.tree.Tree.{Tree};
 ghost use Rattle.bx_model.specs.Reading.{readlink};
 ghost use Rattle.bx_views.specs.Truths.{IsTruth, Truth};
-ghost use Rattle.bx_inodes.specs.Stands.{Stands};
-ghost use Rattle.bx_inodes.specs.Stops.{NeedsOn, NeverInner, OnInode};
+ghost use Rattle.bx_files.specs.bx_inodes.specs.Stands.{Stands};
+ghost use Rattle.bx_files.specs.bx_inodes.specs.Stops.{NeedsOn, NeverInner, OnInode};
 ghost use Rattle.bx_reads.specs.Answers.{IsOutcome};
 
 use crate::files::named_inode;
-use bx_inodes::Stop;
+use bx_files::inodes::Stop;
 use bx_layout::Inode;
 use bx_model::{NXIO, Reply};
 use bx_tree_files::LINK;

@@ -1,11 +1,11 @@
 //! A file's attributes, by its inode.
 
 ghost use Rattle.std.specs.Prelude.{◌≡◌, ◌<◌, ◌^◌, ◌%◌, IfOk, bit_or};
-ghost use Rattle.bx_inodes.specs.Inodes.{shown_size};
+ghost use Rattle.bx_files.specs.bx_inodes.specs.Inodes.{shown_size};
 ghost use Rattle.bx_tree_files.specs.Attributes.{attributes_of, type_bits as bits_of};
 ghost use Rattle.bx_tree_files.specs.declared.file.File.{File};
 ghost use Rattle.bx_tree_files.specs.Files.{size_of};
-ghost use Rattle.bx_truth.specs.Stored.{HasFields};
+ghost use Rattle.bx_files.specs.bx_truth.specs.Stored.{HasFields};
 
 use bx_base::{OutOfMemory, Words};
 use bx_layout::Inode;

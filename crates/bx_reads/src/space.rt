@@ -1,17 +1,17 @@
 //! STATFS.
 
 ghost use Rattle.std.specs.Prelude.{◌≡◌, ◌≤◌, ◌*◌, ℕ, IfOk};
-ghost use Rattle.bx_chunks.specs.Counting.{free_slots};
-ghost use Rattle.bx_inodes.specs.Stands.{Stands};
-ghost use Rattle.bx_inodes.specs.Stops.{NeedsOn, NeverInner};
+ghost use Rattle.bx_files.specs.bx_chunks.specs.Counting.{free_slots};
+ghost use Rattle.bx_files.specs.bx_inodes.specs.Stands.{Stands};
+ghost use Rattle.bx_files.specs.bx_inodes.specs.Stops.{NeedsOn, NeverInner};
 ghost use Rattle.bx_model.specs.declared.tree.Tree.{Tree};
-ghost use Rattle.bx_truth.specs.Chunks.{IsChunked};
+ghost use Rattle.bx_files.specs.bx_truth.specs.Chunks.{IsChunked};
 ghost use Rattle.bx_views.specs.Truths.{IsTruth, Truth};
 ghost use Rattle.bx_reads.specs.Space.{IsFreeCount, IsOwnOf, IsSpace, IsSpaceOf, OnSpace};
 
 use crate::files::named_inode;
-use bx_chunks::{ChunkError, count_free};
-use bx_inodes::Stop;
+use bx_files::chunks::{ChunkError, count_free};
+use bx_files::inodes::Stop;
 use bx_model::Reply;
 use bx_places::SLOTS;
 use bx_tree_files::{BLOCK_LEN, words_of};

@@ -8,8 +8,8 @@ use Rattle.bx_page.specs.Contents.{Contents, first_half, other_half}
 use Rattle.bx_posts.specs.Posts.{PostsAt}
 use Rattle.bx_posts.specs.Parents.{PutsInParent}
 use Rattle.bx_records.specs.Drafts.{Changed}
-use Rattle.bx_splits.specs.Cutting.{AllotTwoFails, CutFails, CutsPage, CutsRoot, PutsTwo, RaiseFails, RootCrowds, SplitsAt}
-use Rattle.bx_splits.specs.Halves.{HalvesAt}
+use Rattle.bx_posts.specs.bx_splits.specs.Cutting.{AllotTwoFails, CutFails, CutsPage, CutsRoot, PutsTwo, RaiseFails, RootCrowds, SplitsAt}
+use Rattle.bx_posts.specs.bx_splits.specs.Halves.{HalvesAt}
 use Rattle.bx_truth.specs.Chunks.{IsChunked}
 use Rattle.bx_views.specs.Truths.{Held, Hints, IsTruth, Truth}
 use Rattle.bx_ready.specs.Spare.{TellsFew}

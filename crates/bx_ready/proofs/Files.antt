@@ -10,7 +10,7 @@ use Rattle.bx_inodes.proofs.Pages.{has_pages}
 use Rattle.bx_model.specs.declared.tree.Tree.{Tree}
 use Rattle.bx_posts.specs.Posts.{PostsPage}
 use Rattle.bx_records.specs.Drafts.{Changed}
-use Rattle.bx_splits.specs.Splits.{SplitsPage}
+use Rattle.bx_posts.specs.bx_splits.specs.Splits.{SplitsPage}
 use Rattle.bx_truth.specs.PageTrees.{PageTree}
 use Rattle.bx_views.specs.Truths.{Truth, Held, Hints}
 use Rattle.bx_ready.specs.Ready.{IsFileUnder, ReadiesIn, SplitsReady}

@@ -24,7 +24,7 @@ use Rattle.bx_inodes.proofs.Trees.{fit_other}
 use Rattle.bx_inodes.specs.Inodes.{HoldsInode}
 use Rattle.bx_posts.specs.declared.posting.Posted.{Posted}
 use Rattle.bx_posts.specs.Posts.{PostsPage, rewritten, page, top}
-use Rattle.bx_splits.specs.Splits.{GrowsTree, SplitsPage, page as cut_page, top as cut_top}
+use Rattle.bx_posts.specs.bx_splits.specs.Splits.{GrowsTree, SplitsPage, page as cut_page, top as cut_top}
 use Rattle.bx_ready.specs.Growing.{GrowsPages}
 use Rattle.bx_ready.specs.Keeping.{KeepsFiles}
 use Rattle.bx_ready.proofs.Grown.{tree_grown}

@@ -15,7 +15,7 @@ use Rattle.bx_page.specs.declared.entry.Entry.{Entry}
 use Rattle.bx_page.specs.Contents.{Contents, last, up_to}
 use Rattle.bx_page.specs.Keys.{is_below, IsBelow}
 use Rattle.bx_page.proofs.Whole.{one_page}
-use Rattle.bx_splits.proofs.Height.{few_levels}
+use Rattle.bx_posts.specs.bx_splits.proofs.Height.{few_levels}
 use Rattle.bx_truth.specs.Chunks.{block_at, chunks_of}
 use Rattle.bx_truth.specs.PageTrees.{Chunks, HasPage, IsIn, IsLast, IsNode, NamesChild, Node, PageTree}
 use Rattle.bx_views.specs.Truths.{Truth, Held, Hints, with_draft}

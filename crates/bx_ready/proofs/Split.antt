@@ -24,8 +24,8 @@ use Rattle.bx_records.specs.Drafts.{Changed}
 use Rattle.bx_truth.specs.PageTrees.{HasPage, PageTree}
 use Rattle.bx_views.specs.Attempts.{IsHeldDraft}
 use Rattle.bx_views.specs.Truths.{Truth, Held, Hints, with_draft}
-use Rattle.bx_splits.specs.Cutting.{IsOwned, NeedsForSplit, SplitsAt}
-use Rattle.bx_splits.specs.Splits.{SplitsIn}
+use Rattle.bx_posts.specs.bx_splits.specs.Cutting.{IsOwned, NeedsForSplit, SplitsAt}
+use Rattle.bx_posts.specs.bx_splits.specs.Splits.{SplitsIn}
 use Rattle.bx_ready.specs.Rooms.{FindsFull, HasRoom, LandsFull, OnSplitPath, SplitsForIn}
 use Rattle.bx_ready.specs.Spare.{IfFull}
 use Rattle.bx_ready.proofs.Bounds.{split_crowds, split_full}

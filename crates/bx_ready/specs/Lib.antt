@@ -7,3 +7,4 @@ pub mod Separators
 pub mod Rooms
 pub mod Lacking
 pub mod Ready
+pub use Rattle.bx_posts

@@ -10,7 +10,7 @@ use Rattle.bx_chunks.specs.Taking.{OnSlots}
 use Rattle.bx_leaves.specs.Leaves.{IsLeafAt, LeafEnds, NeedsLeaf, OnLeafPath}
 use Rattle.bx_page.specs.Contents.{Contents, size}
 use Rattle.bx_records.specs.Drafts.{Changed}
-use Rattle.bx_splits.specs.Splits.{SplitsPage}
+use Rattle.bx_posts.specs.bx_splits.specs.Splits.{SplitsPage}
 use Rattle.bx_truth.specs.PageTrees.{PageTree}
 use Rattle.bx_views.specs.Truths.{Truth, Held, Hints}
 use Rattle.bx_ready.specs.Spare.{TellsFew}

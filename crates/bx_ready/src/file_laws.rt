@@ -9,7 +9,7 @@ ghost use Rattle.bx_model.specs.declared.tree.Tree.{Tree};
 ghost use Rattle.bx_posts.specs.declared.posting.Posted.{Posted};
 ghost use Rattle.bx_posts.specs.Posts.{PostsPage};
 ghost use Rattle.bx_records.specs.Drafts.{Changed};
-ghost use Rattle.bx_splits.specs.Splits.{SplitsPage};
+ghost use Rattle.bx_posts.specs.bx_splits.specs.Splits.{SplitsPage};
 ghost use Rattle.bx_tree_files.specs.declared.file.File.{File};
 ghost use Rattle.bx_tree_files.specs.Files.{file_at};
 ghost use Rattle.bx_truth.specs.Chunks.{chunks_of};

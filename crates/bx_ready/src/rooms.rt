@@ -9,8 +9,8 @@ ghost use Rattle.bx_ready.specs.Spare.{IfFull};
 use crate::target::Target;
 use bx_blink::BlinkError;
 use bx_leaves::leaf_of;
+use bx_posts::splits::split;
 use bx_records::Draft;
-use bx_splits::split;
 use bx_views::View;
 use std::alloc::Global;
 

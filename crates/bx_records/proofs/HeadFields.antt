@@ -3,9 +3,9 @@ use Rattle.std.proofs.Common.{◌≡◌, ◌+◌, ◌*◌, ◌^◌, ◌<◌, ◌
 use Rattle.std.specs.List.{flat_map, AllByRecursion}
 use Rattle.std.specs.Int.{w32, w64, to_be_bytes}
 use Rattle.std.proofs.lemmas.Bool.{and_parts, and_from, ltb-true, lt-ltb, leb-true, le-leb}
-use Rattle.bx_base.proofs.Fields.{IsField, as_field, then_field, tested_field, fits_field, sized_field, list_field, field32, field64}
+use Rattle.bx_layout.specs.bx_base.proofs.Fields.{IsField, as_field, then_field, tested_field, fits_field, sized_field, list_field, field32, field64}
 use Rattle.bx_records.specs.declared.record_head.RecordHead.{RecordHead}
-use Rattle.bx_places.specs.Places.{IsBlock, is_block}
+use Rattle.bx_layout.specs.bx_places.specs.Places.{IsBlock, is_block}
 use Rattle.bx_records.specs.Records.{IsHead, head_text}
 use Rattle.bx_records.proofs.Lengths.{length-numbers}
 use Rattle.bx_records.specs.RecordReading.{number_of_block_at, count_at, blocks_at, pair_at, head_with, head_fields, head_at}

@@ -1,9 +1,9 @@
 -- What is read of all the bytes of a sector.
 use Rattle.std.proofs.Common.{◌≡◌, ℕ, List, length, Some, None, ap, ◌∙◌, arith}
 use Rattle.std.specs.Prelude.{replicate}
-use Rattle.bx_base.specs.Bytes.{IsBytes}
-use Rattle.bx_base.specs.Writing.{padded}
-use Rattle.bx_base.proofs.Whole.{padded_read, padded_same, padded_none, length-padded}
+use Rattle.bx_layout.specs.bx_base.specs.Bytes.{IsBytes}
+use Rattle.bx_layout.specs.bx_base.specs.Writing.{padded}
+use Rattle.bx_layout.specs.bx_base.proofs.Whole.{padded_read, padded_same, padded_none, length-padded}
 use Rattle.bx_records.specs.declared.record_head.RecordHead.{RecordHead}
 use Rattle.bx_records.specs.Records.{SpellsHead, head_text}
 use Rattle.bx_records.specs.RecordReading.{head_at}

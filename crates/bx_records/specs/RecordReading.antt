@@ -1,8 +1,8 @@
 -- Reading the header of a record.
 use Rattle.std.specs.Prelude.{ℕ, nat_le, List}
 use Rattle.std.specs.Int.{w32, w64}
-use Rattle.bx_base.specs.Reading.{Reader, number_at, then_at, as_at, tested_at, sized_at, list_at}
-use Rattle.bx_places.specs.Places.{is_block}
+use Rattle.bx_layout.specs.bx_base.specs.Reading.{Reader, number_at, then_at, as_at, tested_at, sized_at, list_at}
+use Rattle.bx_layout.specs.bx_places.specs.Places.{is_block}
 use Rattle.bx_records.specs.declared.record_head.RecordHead.{RecordHead}
 
 -- the number of a block of some volume

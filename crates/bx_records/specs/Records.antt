@@ -2,8 +2,8 @@
 use Rattle.std.specs.Prelude.{◌≡◌, ℕ, ◌^◌, ◌<◌, ◌≤◌, List, ◌++◌, length}
 use Rattle.std.specs.List.{flat_map, AllByRecursion}
 use Rattle.std.specs.Int.{w32, w64, to_be_bytes}
-use Rattle.bx_base.specs.Writing.{padded}
-use Rattle.bx_places.specs.Places.{IsBlock}
+use Rattle.bx_layout.specs.bx_base.specs.Writing.{padded}
+use Rattle.bx_layout.specs.bx_places.specs.Places.{IsBlock}
 use Rattle.bx_records.specs.declared.record_head.RecordHead.{RecordHead}
 
 -- what every header has: at most 16 blocks, each a block of some volume

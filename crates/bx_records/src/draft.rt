@@ -5,9 +5,9 @@ ghost use Rattle.std.specs.Option.{option_copied};
 ghost use Rattle.bx_records.specs.Drafts.{IsDraft, block_in, with_block, place_in};
 ghost use Rattle.bx_records.specs.declared.draft.DraftError.TheVariants.{OutOfMemory as MemoryRanOut, Crowded};
 
-use bx_base::List;
 use bx_layout::Block;
-use bx_places::MOST_BLOCKS;
+use bx_layout::base::List;
+use bx_layout::places::MOST_BLOCKS;
 use std::alloc::Global;
 use std::marker::Model;
 use thiserror::Error;
@@ -23,10 +23,10 @@ pub enum DraftError {
     OutOfMemory,
 }
 
-impl From<bx_base::OutOfMemory> for DraftError {
+impl From<bx_layout::base::OutOfMemory> for DraftError {
     ghost from_gives = { λ _ error. error ≡ MemoryRanOut };
 
-    fn from(_error: bx_base::OutOfMemory) -> DraftError {
+    fn from(_error: bx_layout::base::OutOfMemory) -> DraftError {
         DraftError::OutOfMemory
     }
 }

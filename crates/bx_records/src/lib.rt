@@ -14,3 +14,8 @@ pub use readings::{one_reading, written_reads};
 pub use record_head::RecordHead;
 pub use runs::{Run, Runs};
 pub use wants::Wants;
+
+/// What the crates above use of `bx_base`.
+pub mod base {
+    pub use bx_layout::base::{Actor, Mode, OutOfMemory, Raw};
+}

@@ -3,9 +3,9 @@
 ghost use Rattle.std.specs.Prelude.{◌+◌, ◌*◌, ◌≤◌, length};
 ghost use Rattle.std.specs.List.{flat_map};
 ghost use Rattle.std.specs.Int.{w64, to_be_bytes};
-ghost use Rattle.bx_base.specs.Writing.{Writes};
+ghost use Rattle.bx_layout.specs.bx_base.specs.Writing.{Writes};
 
-use bx_base::put_u64;
+use bx_layout::base::put_u64;
 
 /// Writes numbers of eight bytes one after the other, and gives the place behind them.
 pub(crate) fn put_numbers(into: &mut [u8], at: usize, numbers: &[u64]) -> usize

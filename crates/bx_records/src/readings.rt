@@ -1,7 +1,7 @@
 //! Laws of headers: what is written is read again, and the same bytes are read as one header.
 
 ghost use Rattle.std.specs.Prelude.{◌≡◌, ℕ, List};
-ghost use Rattle.bx_base.specs.Writing.{padded};
+ghost use Rattle.bx_layout.specs.bx_base.specs.Writing.{padded};
 ghost use Rattle.bx_records.specs.declared.record_head.RecordHead.{RecordHead};
 ghost use Rattle.bx_records.specs.Records.{IsHead, SpellsHead, head_text};
 

@@ -1,17 +1,17 @@
 //! Headers of records.
 
 ghost use Rattle.std.specs.Prelude.{◌≡◌, IfOk, IfSome, IfNone, length};
-ghost use Rattle.bx_base.specs.Reading.{Gives, list_at};
-ghost use Rattle.bx_base.specs.Writing.{padded};
+ghost use Rattle.bx_layout.specs.bx_base.specs.Reading.{Gives, list_at};
+ghost use Rattle.bx_layout.specs.bx_base.specs.Writing.{padded};
 ghost use Rattle.bx_records.specs.Records.{IsHead, SpellsHead, head_text};
 ghost use Rattle.bx_records.specs.RecordReading.{blocks_at, head_at, number_of_block_at, pair_at};
 ghost use Rattle.bx_records.specs.declared.record_head.RecordHead.{RecordHead};
 
 use crate::numbers::put_numbers;
-use bx_base::{
+use bx_layout::base::{
     Numbers, OutOfMemory, ReadError, before_zeros, clear_from, put_u32, put_u64, u32_at, u64_at,
 };
-use bx_places::{MOST_AREAS, MOST_BLOCKS, SECTOR, is_block};
+use bx_layout::places::{MOST_AREAS, MOST_BLOCKS, SECTOR, is_block};
 use std::alloc::Global;
 
 /// The first sector of a record's body: the point of the call that it is of, and the blocks behind it.

@@ -3,7 +3,7 @@
 ghost use Rattle.std.specs.Prelude.{◌≡◌, ◌++◌, ◌∷◌, [], length, OnOk, OnErr, slice_get};
 ghost use Rattle.std.specs.Option.{option_copied};
 
-use bx_base::{List, OutOfMemory, Raw};
+use bx_layout::base::{List, OutOfMemory, Raw};
 use std::alloc::Global;
 use std::marker::Model;
 

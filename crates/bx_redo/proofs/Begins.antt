@@ -10,8 +10,8 @@ use Rattle.bx_layout.specs.declared.label.Label.{Label}
 use Rattle.bx_places.specs.Places.{IsVolume, log_start, log_device, gate_place}
 use Rattle.bx_rows.specs.declared.session.SessionRow.{SessionRow}
 use Rattle.bx_rows.specs.Words.{is_taken}
-use Rattle.bx_truth.proofs.Cases.{eq_false}
-use Rattle.bx_views.specs.Truths.{Truth}
+use Rattle.bx_volume.specs.bx_truth.proofs.Cases.{eq_false}
+use Rattle.bx_volume.specs.bx_views.specs.Truths.{Truth}
 use Rattle.bx_volume.specs.AtRest.{IsAtRest}
 use Rattle.bx_volume.specs.Images.{devices_of}
 use Rattle.bx_volume.specs.Overlay.{Logs, Matters, Gate, Body, Home, with_log}

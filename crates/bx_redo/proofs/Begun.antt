@@ -4,7 +4,7 @@ use Rattle.bx_base.specs.declared.names.Point.{Point}
 use Rattle.bx_disk.specs.Disks.{Image}
 use Rattle.bx_places.specs.Places.{log_start}
 use Rattle.bx_rows.specs.declared.session.SessionRow.{SessionRow}
-use Rattle.bx_views.specs.Truths.{Truth}
+use Rattle.bx_volume.specs.bx_views.specs.Truths.{Truth}
 use Rattle.bx_volume.specs.Overlay.{Logs, Matters, with_log}
 use Rattle.bx_volume.specs.Records.{Logged, IsLogged, logged_text}
 use Rattle.bx_redo.specs.View.{LogView}

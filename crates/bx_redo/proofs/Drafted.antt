@@ -5,7 +5,7 @@ use Rattle.bx_layout.specs.declared.block.Block.{Block}
 use Rattle.bx_layout.specs.Blocks.{HasParts}
 use Rattle.bx_places.specs.Places.{IsBlock}
 use Rattle.bx_records.specs.Drafts.{Changed, block_in, with_block}
-use Rattle.bx_truth.proofs.Cases.{eq_true, eq_false}
+use Rattle.bx_volume.specs.bx_truth.proofs.Cases.{eq_true, eq_false}
 use Rattle.bx_redo.specs.Steps.{AreBlocksOf}
 
 module _ (at : ℕ) (block : Block) where

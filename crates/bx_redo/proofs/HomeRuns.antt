@@ -9,8 +9,8 @@ use Rattle.bx_layout.specs.Blocks.{block_text}
 use Rattle.bx_places.specs.Places.{block_place}
 use Rattle.bx_records.specs.declared.runs.Run.{Run}
 use Rattle.bx_rows.specs.declared.session.SessionRow.{SessionRow}
-use Rattle.bx_truth.proofs.Cases.{same_or, found}
-use Rattle.bx_views.specs.Truths.{Truth}
+use Rattle.bx_volume.specs.bx_truth.proofs.Cases.{same_or, found}
+use Rattle.bx_volume.specs.bx_views.specs.Truths.{Truth}
 use Rattle.bx_volume.specs.Overlay.{Logs, IsOfLogged, Matters, Gate, Body, Home, filled_of, with_log}
 use Rattle.bx_volume.specs.Records.{Logged, newest_in}
 use Rattle.bx_volume.proofs.Overlay.{log_here, log_there}

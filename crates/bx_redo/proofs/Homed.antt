@@ -6,7 +6,7 @@ use Rattle.bx_facts.specs.Writes.{Writes, WritesIn}
 use Rattle.bx_layout.specs.Blocks.{HasParts, block_text}
 use Rattle.bx_places.specs.Places.{IsVolume, IsBlock, block_place}
 use Rattle.bx_records.specs.declared.runs.Run.{Run}
-use Rattle.bx_truth.proofs.Cases.{same_or}
+use Rattle.bx_volume.specs.bx_truth.proofs.Cases.{same_or}
 use Rattle.bx_volume.specs.Overlay.{Logs}
 use Rattle.bx_volume.specs.Records.{newest_in}
 use Rattle.bx_volume.proofs.Apart.{two_homes}

@@ -4,7 +4,7 @@ use Rattle.bx_disk.specs.Disks.{Image}
 use Rattle.bx_layout.specs.Labels.{IsOpenGate}
 use Rattle.bx_places.specs.Places.{log_start, log_device}
 use Rattle.bx_rows.specs.declared.session.SessionRow.{SessionRow}
-use Rattle.bx_views.specs.Truths.{Truth}
+use Rattle.bx_volume.specs.bx_views.specs.Truths.{Truth}
 use Rattle.bx_volume.specs.Overlay.{Logs, IsOfLogged}
 use Rattle.bx_volume.specs.Records.{Logged}
 use Rattle.bx_volume.proofs.Apart.{home_and_log}

@@ -5,7 +5,7 @@ use Rattle.bx_disk.specs.Disks.{Image}
 use Rattle.bx_layout.specs.Labels.{gate_text}
 use Rattle.bx_layout.specs.declared.gate.Gate.TheVariants.{Open, Closed as Shut}
 use Rattle.bx_rows.specs.declared.session.SessionRow.{SessionRow}
-use Rattle.bx_views.specs.Truths.{Truth, with_draft}
+use Rattle.bx_volume.specs.bx_views.specs.Truths.{Truth, with_draft}
 use Rattle.bx_volume.specs.Overlay.{Logs, Matters, with_log}
 use Rattle.bx_volume.specs.Records.{Logged, IsLogged, logged_text}
 use Rattle.bx_redo.specs.View.{LogView}

@@ -5,7 +5,7 @@ use Rattle.bx_facts.specs.Writes.{Sent, HasSettled, IsOnly, IsOver, IsSourceIn, 
 use Rattle.bx_global.specs.declared.state.GlobalState.{GlobalState}
 use Rattle.bx_rows.specs.declared.device.DeviceRow.{DeviceRow}
 use Rattle.bx_rows.specs.declared.session.SessionRow.{SessionRow}
-use Rattle.bx_views.specs.Truths.{Truth}
+use Rattle.bx_volume.specs.bx_views.specs.Truths.{Truth}
 use Rattle.bx_volume.specs.Images.{AreSources, devices_of}
 use Rattle.bx_volume.specs.Overlay.{Logs, IsOfLogged, IsTruth}
 use Rattle.bx_volume.specs.Records.{Logged}

@@ -7,7 +7,7 @@ use Rattle.bx_layout.specs.Labels.{IsOpenGate, gate_text}
 use Rattle.bx_layout.specs.declared.gate.Gate.TheVariants.{Open}
 use Rattle.bx_places.specs.Places.{log_start, log_device}
 use Rattle.bx_rows.specs.declared.session.SessionRow.{SessionRow}
-use Rattle.bx_views.specs.Truths.{Truth, with_draft}
+use Rattle.bx_volume.specs.bx_views.specs.Truths.{Truth, with_draft}
 use Rattle.bx_volume.specs.Overlay.{Logs, MattersMore, WritesOnly, with_log}
 use Rattle.bx_volume.specs.Records.{Logged, IsInBody, gate_of, logged_text}
 use Rattle.bx_volume.proofs.GateOut.{matters_more}

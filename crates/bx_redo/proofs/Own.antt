@@ -5,8 +5,8 @@ use Rattle.bx_disk.specs.Disks.{Image}
 use Rattle.bx_places.specs.Places.{log_start}
 use Rattle.bx_rows.specs.declared.session.SessionRow.{SessionRow}
 use Rattle.bx_rows.specs.Words.{is_taken}
-use Rattle.bx_truth.proofs.Cases.{same_or}
-use Rattle.bx_views.specs.Truths.{Truth}
+use Rattle.bx_volume.specs.bx_truth.proofs.Cases.{same_or}
+use Rattle.bx_volume.specs.bx_views.specs.Truths.{Truth}
 use Rattle.bx_volume.specs.Overlay.{Logs, IsTruth, Matters, Gate, Body, Home}
 use Rattle.bx_volume.specs.Records.{LogWhere}
 use Rattle.bx_volume.proofs.Apart.{home_and_log}

@@ -3,7 +3,7 @@ use Rattle.std.proofs.Common.{◌≡◌, ℕ, ◌+◌, ◌≤◌, ◌⊎◌, ⊎
 use Rattle.bx_disk.specs.Disks.{Image, is_within}
 use Rattle.bx_places.specs.Places.{log_start, log_device}
 use Rattle.bx_rows.specs.declared.session.SessionRow.{SessionRow}
-use Rattle.bx_views.specs.Truths.{Truth, with_draft}
+use Rattle.bx_volume.specs.bx_views.specs.Truths.{Truth, with_draft}
 use Rattle.bx_volume.specs.Overlay.{Logs, IsTruth, Matters, with_log}
 use Rattle.bx_volume.specs.Records.{Logged}
 use Rattle.bx_volume.proofs.GateOut.{matters_more}

@@ -4,8 +4,8 @@ use Rattle.std.specs.Prelude.{◌≢◌}
 use Rattle.bx_disk.specs.Disks.{Image, is_within}
 use Rattle.bx_places.specs.Places.{log_start, log_device, gate_place}
 use Rattle.bx_rows.specs.declared.session.SessionRow.{SessionRow}
-use Rattle.bx_truth.proofs.Cases.{same_or}
-use Rattle.bx_views.specs.Truths.{Truth}
+use Rattle.bx_volume.specs.bx_truth.proofs.Cases.{same_or}
+use Rattle.bx_volume.specs.bx_views.specs.Truths.{Truth}
 use Rattle.bx_volume.specs.Overlay.{Logs, Matters, MattersMore}
 use Rattle.bx_volume.specs.Records.{Logged, IsInBody}
 use Rattle.bx_volume.proofs.Doubt.{gate_in_doubt, closing_in_doubt}

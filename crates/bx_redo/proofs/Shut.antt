@@ -7,7 +7,7 @@ use Rattle.bx_layout.specs.declared.gate.Gate.TheVariants.{Closed}
 use Rattle.bx_places.specs.Places.{log_start, log_device}
 use Rattle.bx_rows.specs.declared.session.SessionRow.{SessionRow}
 use Rattle.bx_rows.specs.Words.{is_taken}
-use Rattle.bx_views.specs.Truths.{Truth}
+use Rattle.bx_volume.specs.bx_views.specs.Truths.{Truth}
 use Rattle.bx_volume.specs.Overlay.{Logs, with_log}
 use Rattle.bx_volume.specs.Records.{Logged, LogWhere, gate_of}
 use Rattle.bx_volume.proofs.Matters.{truth_same}

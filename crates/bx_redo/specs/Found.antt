@@ -5,7 +5,7 @@ use Rattle.bx_disk.specs.Disks.{Image, sector_of}
 use Rattle.bx_places.specs.Places.{log_start}
 use Rattle.bx_records.specs.declared.runs.Run.{Run}
 use Rattle.bx_rows.specs.declared.session.SessionRow.{SessionRow}
-use Rattle.bx_views.specs.Truths.{Truth, with_draft}
+use Rattle.bx_volume.specs.bx_views.specs.Truths.{Truth, with_draft}
 use Rattle.bx_volume.specs.Overlay.{Logs, with_log}
 use Rattle.bx_volume.specs.Records.{Logged}
 use Rattle.bx_redo.specs.Stands.{IsFound, is_gate, is_written}

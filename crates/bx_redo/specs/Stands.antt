@@ -11,7 +11,7 @@ use Rattle.bx_records.specs.Drafts.{block_in}
 use Rattle.bx_records.specs.declared.runs.Run.{Run}
 use Rattle.bx_rows.specs.declared.session.SessionRow.{SessionRow}
 use Rattle.bx_rows.specs.Words.{is_taken}
-use Rattle.bx_views.specs.Truths.{Truth, with_draft}
+use Rattle.bx_volume.specs.bx_views.specs.Truths.{Truth, with_draft}
 use Rattle.bx_volume.specs.Overlay.{Logs, IsHome, IsOfLogged, IsTruth, Matters, with_log}
 use Rattle.bx_volume.specs.Records.{Logged, IsInBody, IsLogged, gate_of, logged_text, newest_in}
 use Rattle.bx_redo.specs.Steps.{shut_text}

@@ -8,7 +8,7 @@ ghost use Rattle.bx_global.specs.declared.state.GlobalState.{GlobalState};
 ghost use Rattle.bx_layout.specs.Labels.{gate_text};
 ghost use Rattle.bx_layout.specs.declared.gate.Gate.TheVariants.{Open, Closed as Shut};
 ghost use Rattle.bx_rows.specs.declared.session.SessionRow.{SessionRow};
-ghost use Rattle.bx_views.specs.Truths.{Truth, with_draft};
+ghost use Rattle.bx_volume.specs.bx_views.specs.Truths.{Truth, with_draft};
 ghost use Rattle.bx_volume.specs.Images.{AreSources, devices_of};
 ghost use Rattle.bx_volume.specs.Overlay.{Logs, Matters, with_log};
 ghost use Rattle.bx_volume.specs.Records.{Logged, IsLogged, logged_text};

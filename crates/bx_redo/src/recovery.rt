@@ -10,7 +10,7 @@ ghost use Rattle.bx_layout.specs.declared.label.Label.{Label};
 ghost use Rattle.bx_places.specs.Places.{log_device, log_start};
 ghost use Rattle.bx_rows.specs.Words.{is_taken};
 ghost use Rattle.bx_rows.specs.declared.session.SessionRow.{SessionRow};
-ghost use Rattle.bx_views.specs.Truths.{Truth};
+ghost use Rattle.bx_volume.specs.bx_views.specs.Truths.{Truth};
 ghost use Rattle.bx_volume.specs.AtRest.{IsAtRest};
 ghost use Rattle.bx_volume.specs.Images.{devices_of};
 ghost use Rattle.bx_volume.specs.Overlay.{Logs, Matters, with_log};

@@ -9,7 +9,7 @@ ghost use Rattle.bx_redo.specs.declared.work.Work.TheVariants.{Idle};
 ghost use Rattle.bx_places.specs.Places.{IsVolume, log_start};
 ghost use Rattle.bx_records.specs.declared.runs.Run.{Run};
 ghost use Rattle.bx_rows.specs.declared.session.SessionRow.{SessionRow};
-ghost use Rattle.bx_views.specs.Truths.{Truth};
+ghost use Rattle.bx_volume.specs.bx_views.specs.Truths.{Truth};
 ghost use Rattle.bx_volume.specs.Images.{AreSources, devices_of};
 ghost use Rattle.bx_volume.specs.Overlay.{Logs, IsOfLogged, IsTruth, Matters, with_log};
 ghost use Rattle.bx_volume.specs.Records.{Logged};

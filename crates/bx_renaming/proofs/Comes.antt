@@ -8,7 +8,7 @@ use Rattle.bx_changes.specs.First.{ComesFirst}
 use Rattle.bx_changes.specs.Growing.{IsChangeBy}
 use Rattle.bx_changes.specs.declared.error.ChangeError.{ChangeError}
 use Rattle.bx_changes.specs.declared.error.ChangeError.TheVariants.{Stopped, Full}
-use Rattle.bx_entries.specs.declared.taking.Known.{Known}
+use Rattle.bx_linking.specs.bx_entries.specs.declared.taking.Known.{Known}
 use Rattle.bx_inodes.specs.Fitting.{HintsFitAll}
 use Rattle.bx_inodes.specs.Stands.{Stands}
 use Rattle.bx_inodes.specs.declared.stop.Stop.{Stop}
@@ -25,7 +25,7 @@ use Rattle.bx_model.specs.Reading.{named_file}
 use Rattle.bx_model.specs.Renaming.{changes_parent, file_of_entry, leads_by, rename, replace_errors}
 use Rattle.bx_model.specs.Steps.{Outcome, must, refuse, ◌>>=◌, ◌>>◌}
 use Rattle.bx_model.proofs.Renamed.{rename_in_two}
-use Rattle.bx_reads.proofs.Told.{over_none}
+use Rattle.bx_changes.specs.bx_reads.proofs.Told.{over_none}
 use Rattle.bx_records.specs.Drafts.{Changed}
 use Rattle.bx_tree_files.specs.declared.file.File.{File}
 use Rattle.bx_tree_files.specs.declared.file.Name.{Name}

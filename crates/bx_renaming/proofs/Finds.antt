@@ -1,10 +1,10 @@
 -- What RENAME finds in a directory, by the list of its entries.
 use Rattle.std.proofs.Common.{◌≡◌, ℕ, List, [], Option, Some, None, sym, ap, ◌∙◌, subst}
 use Rattle.std.specs.Prelude.{Ok, Err}
-use Rattle.bx_dirs.specs.Entries.{HasEntries}
-use Rattle.bx_entries.specs.declared.finding.Removable.TheVariants as of
-use Rattle.bx_entries.specs.Finding.{EntryFor, IsDirectoryOf}
-use Rattle.bx_entries.proofs.RemovedFrom.{IsListed, listed}
+use Rattle.bx_linking.specs.bx_dirs.specs.Entries.{HasEntries}
+use Rattle.bx_linking.specs.bx_entries.specs.declared.finding.Removable.TheVariants as of
+use Rattle.bx_linking.specs.bx_entries.specs.Finding.{EntryFor, IsDirectoryOf}
+use Rattle.bx_linking.specs.bx_entries.proofs.RemovedFrom.{IsListed, listed}
 use Rattle.bx_inodes.specs.Inodes.{FileAt}
 use Rattle.bx_inodes.specs.declared.stop.Stop.{Stop}
 use Rattle.bx_inodes.specs.declared.stop.Stop.TheVariants.{Need, Inner, Status, OutOfMemory}

@@ -2,11 +2,11 @@
 use Rattle.std.proofs.Common.{◌≡◌, ℕ, List, Some, None, sym, ap, ◌∙◌}
 use Rattle.std.specs.Prelude.{◌≢◌}
 use Rattle.bx_linking.proofs.Lacks.{enters}
-use Rattle.bx_entries.specs.declared.taking.Known.{Known}
+use Rattle.bx_linking.specs.bx_entries.specs.declared.taking.Known.{Known}
 use Rattle.bx_inodes.specs.Inodes.{IsInodeOf}
 use Rattle.bx_model.specs.declared.tree.Tree.{Tree}
 use Rattle.bx_model.specs.Reading.{named_file}
-use Rattle.bx_reads.proofs.Told.{named_as}
+use Rattle.bx_changes.specs.bx_reads.proofs.Told.{named_as}
 use Rattle.bx_records.specs.Drafts.{Changed}
 use Rattle.bx_tree_files.specs.declared.file.File.{File}
 use Rattle.bx_tree_files.specs.declared.file.Name.{Name}

@@ -3,7 +3,7 @@ use Rattle.std.proofs.Common.{◌≡◌, ℕ, Bool, true, false, List, [], ◌�
 use Rattle.std.specs.Prelude.{◌≢◌, ◌⊎◌, ◌==◌, ◌&&◌, not, nat_lt, length, Contains, Result, Ok}
 use Rattle.std.proofs.lemmas.Bool.Decides.{nat_tests}
 use Rattle.bx_changes.specs.declared.error.ChangeError.{ChangeError}
-use Rattle.bx_entries.specs.declared.taking.Known.{Known}
+use Rattle.bx_linking.specs.bx_entries.specs.declared.taking.Known.{Known}
 use Rattle.bx_linking.specs.Drafting.{ComesBy}
 use Rattle.bx_model.specs.declared.tree.Tree.{Tree}
 use Rattle.bx_model.specs.FileTrees.{links_to}

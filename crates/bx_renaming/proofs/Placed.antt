@@ -14,7 +14,7 @@ use Rattle.bx_model.specs.Moves.{move_places}
 use Rattle.bx_model.specs.Permissions.{may}
 use Rattle.bx_model.specs.Reading.{named_file}
 use Rattle.bx_model.specs.Steps.{must, refuse, ◌>>=◌, ◌>>◌}
-use Rattle.bx_reads.proofs.Told.{named_as}
+use Rattle.bx_changes.specs.bx_reads.proofs.Told.{named_as}
 use Rattle.bx_tree_files.specs.declared.file.File.{File}
 use Rattle.bx_tree_files.specs.Entries.{is_bad}
 use Rattle.bx_tree_files.specs.Files.{file_at, is_directory}

@@ -6,7 +6,7 @@ use Rattle.std.proofs.lemmas.Bool.Decides.{nat_tests}
 use Rattle.bx_linking.specs.RoomFinding.{IsReadyFor, RoomIn}
 use Rattle.bx_changes.specs.declared.error.ChangeError.{ChangeError}
 use Rattle.bx_changes.specs.declared.error.ChangeError.TheVariants.{Stopped, Full}
-use Rattle.bx_entries.specs.Finding.{IsDirectoryOf}
+use Rattle.bx_linking.specs.bx_entries.specs.Finding.{IsDirectoryOf}
 use Rattle.bx_inodes.specs.declared.stop.Stop.TheVariants.{Need, Inner, Status, OutOfMemory}
 use Rattle.bx_linking.specs.Drafting.{ComesBy}
 use Rattle.bx_linking.proofs.Tested.{IsPlaceOf, place}

@@ -1,14 +1,14 @@
 -- The errors of a move, by what is found of the files.
 use Rattle.std.proofs.Common.{◌≡◌, ℕ, Bool, true, false, List, [], Option, Some, None, refl, sym, ap, ◌∙◌, subst}
 use Rattle.std.specs.Prelude.{◌≢◌, ◌==◌, ◌&&◌, not, if◌then◌else◌, nat_lt, length, Result, Ok, Err}
-use Rattle.bx_directory_reads.specs.Listings.{FollowsSo}
-use Rattle.bx_dirs.specs.Entries.{HasEntries}
-use Rattle.bx_entries.proofs.Emptied.{has_none, has_some, has_stopped}
-use Rattle.bx_entries.specs.Finding.{IsKnownFile}
+use Rattle.bx_linking.specs.bx_directory_reads.specs.Listings.{FollowsSo}
+use Rattle.bx_linking.specs.bx_dirs.specs.Entries.{HasEntries}
+use Rattle.bx_linking.specs.bx_entries.proofs.Emptied.{has_none, has_some, has_stopped}
+use Rattle.bx_linking.specs.bx_entries.specs.Finding.{IsKnownFile}
 use Rattle.bx_inodes.specs.Inodes.{IsInodeOf}
 use Rattle.bx_inodes.specs.declared.stop.Stop.{Stop}
 use Rattle.bx_inodes.specs.declared.stop.Stop.TheVariants.{Need, Inner, Status, OutOfMemory}
-use Rattle.bx_files.specs.Reads.{Tells}
+use Rattle.bx_changes.specs.bx_files.specs.Reads.{Tells}
 use Rattle.bx_layout.specs.declared.inode.Inode.{Inode}
 use Rattle.bx_model.specs.declared.tree.Tree.{Tree}
 use Rattle.bx_model.specs.FileTrees.{is_directory_at, is_directory_in}

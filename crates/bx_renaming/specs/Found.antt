@@ -1,9 +1,9 @@
 -- What RENAME finds in the two directories, and the errors of the move.
 use Rattle.std.specs.Prelude.{◌≡◌, ℕ, ◌⊎◌, List, Option, None, Some, Result, Ok, Err}
 use Rattle.bx_base.specs.declared.names.Mode.{Mode}
-use Rattle.bx_entries.specs.Finding.{IsOwnBlock}
-use Rattle.bx_entries.specs.declared.taking.Known.{Known}
-use Rattle.bx_files.specs.Paths.{Finds, OnSearch}
+use Rattle.bx_linking.specs.bx_entries.specs.Finding.{IsOwnBlock}
+use Rattle.bx_linking.specs.bx_entries.specs.declared.taking.Known.{Known}
+use Rattle.bx_changes.specs.bx_files.specs.Paths.{Finds, OnSearch}
 use Rattle.bx_inodes.specs.Inodes.{IsInodeOf}
 use Rattle.bx_inodes.specs.declared.stop.Stop.{Stop}
 use Rattle.bx_inodes.specs.declared.stop.Stop.TheVariants.{Need, Inner, Status, OutOfMemory}

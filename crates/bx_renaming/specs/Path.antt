@@ -4,9 +4,9 @@ use Rattle.bx_linking.specs.RoomFinding.{OnRoomPath}
 use Rattle.bx_base.specs.declared.names.Mode.{Mode}
 use Rattle.bx_base.specs.declared.names.Mode.TheVariants.{Exclusive}
 use Rattle.bx_blink.specs.Walks.{reads_with}
-use Rattle.bx_directory_reads.specs.Listings.{OnBehind}
-use Rattle.bx_entries.specs.declared.taking.Known.{Known}
-use Rattle.bx_files.specs.Paths.{Finds}
+use Rattle.bx_linking.specs.bx_directory_reads.specs.Listings.{OnBehind}
+use Rattle.bx_linking.specs.bx_entries.specs.declared.taking.Known.{Known}
+use Rattle.bx_changes.specs.bx_files.specs.Paths.{Finds}
 use Rattle.bx_places.specs.Handles.{named, parts_of}
 use Rattle.bx_inodes.specs.Inodes.{LiveAt}
 use Rattle.bx_inodes.specs.Stops.{OnInode}

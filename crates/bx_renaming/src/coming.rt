@@ -9,9 +9,8 @@ ghost use Rattle.bx_renaming.specs.Renaming.{AreDirectories, IsPassed, coming_in
 
 use crate::places::{Between, Places};
 use bx_changes::ChangeError;
-use bx_entries::Known;
 use bx_inodes::Stop;
-use bx_linking::room_for;
+use bx_linking::entries::{Known, room_for};
 use bx_model::DQUOT;
 use bx_moving::{Moving, Replaced, move_file};
 use bx_records::Draft;

@@ -2,14 +2,14 @@
 
 ghost use Rattle.std.specs.Prelude.{ℕ, [], IfOk, IfSome, Some};
 ghost use Rattle.bx_changes.specs.Procedures.{Exclusive, LiveAt, NeedsOn, NeverInner, Tree, Truth, names_of, reads_with};
-ghost use Rattle.bx_entries.specs.Finding.{IsDirectoryOf};
-ghost use Rattle.bx_files.specs.Paths.{Finds};
+ghost use Rattle.bx_linking.specs.bx_entries.specs.Finding.{IsDirectoryOf};
+ghost use Rattle.bx_changes.specs.bx_files.specs.Paths.{Finds};
 ghost use Rattle.bx_truth.specs.Keys.{name_key, name_value};
 ghost use Rattle.bx_renaming.specs.Found.{MovedFor, OnEntry, OtherFor};
 
 use bx_base::Mode;
-use bx_entries::{Known, entry_for};
 use bx_inodes::{Stop, inode_at};
+use bx_linking::entries::{Known, entry_for};
 use bx_linking::find_entry;
 use bx_records::Draft;
 use bx_views::View;

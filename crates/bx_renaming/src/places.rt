@@ -9,8 +9,8 @@ ghost use Rattle.bx_renaming.specs.Path.{AreHeld, OnTarget};
 ghost use Rattle.bx_renaming.specs.Places.{PlacesFor, place_error as error_of, places_from};
 
 use bx_base::{Mode, OutOfMemory};
-use bx_entries::Known;
 use bx_inodes::{Stop, head_of, inode_at};
+use bx_linking::entries::Known;
 use bx_model::{ACCES, Call, NOTDIR, STALE, Want, may};
 use bx_places::named_handle;
 use bx_records::Draft;

@@ -2,16 +2,16 @@
 
 ghost use Rattle.std.specs.Prelude.{◌⊎◌, ℕ, Some};
 ghost use Rattle.bx_changes.specs.Procedures.{IsInodeOf, NeedsOn, NeverInner, Tree, Truth};
-ghost use Rattle.bx_entries.specs.Finding.{IsKnownFile};
+ghost use Rattle.bx_linking.specs.bx_entries.specs.Finding.{IsKnownFile};
 ghost use Rattle.bx_model.specs.Renaming.{replace_errors};
 ghost use Rattle.bx_moving.specs.Ways.{TellsError};
 ghost use Rattle.bx_renaming.specs.Path.{OnEmptiness, OnUp};
 ghost use Rattle.bx_renaming.specs.Renaming.{AreDirectories, depth_errors, onto_errors};
 
 use crate::places::Places;
-use bx_directory_reads::entry_behind;
-use bx_entries::Known;
 use bx_inodes::Stop;
+use bx_linking::directory_reads::entry_behind;
+use bx_linking::entries::Known;
 use bx_model::{ISDIR, NOTDIR, NOTEMPTY};
 use bx_moving::way_error;
 use bx_tree_files::DIRECTORY;

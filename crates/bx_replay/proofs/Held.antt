@@ -4,7 +4,7 @@ use Rattle.std.specs.Prelude.{not, ◌&&◌, ◌==◌}
 use mathlib.Core.Path.{fun_ext}
 use native.Mathlib.Numerals.{unary_clauses}
 use Rattle.std.proofs.lemmas.Bool.{eq-eqb}
-use Rattle.bx_audit.specs.Audited.{StandFor}
+use Rattle.bx_service.specs.bx_audit.specs.Audited.{StandFor}
 use Rattle.bx_base.specs.Faults.{Rose}
 use Rattle.bx_disk.specs.Crash.{crashed}
 use Rattle.bx_disk.specs.Disks.{Image, Disks, IsImage, IsSector}

@@ -3,7 +3,7 @@ use Rattle.std.specs.Prelude.{◌≡◌, ℕ, Bool, List, filter, map}
 use Rattle.bx_disk.specs.Disks.{Image, Disks, IsImage}
 use Rattle.bx_global.specs.Opening.{opening_state}
 use Rattle.bx_model.specs.declared.tree.Tree.{Tree}
-use Rattle.bx_audit.specs.Audited.{AreOpen, StandFor}
+use Rattle.bx_service.specs.bx_audit.specs.Audited.{AreOpen, StandFor}
 use Rattle.bx_base.specs.declared.names.Point.{Point}
 use Rattle.bx_script.specs.declared.trace_line.TraceLine.{TraceLine}
 use Rattle.bx_script.specs.declared.trace_line.TraceLine.TheVariants.{Acted}

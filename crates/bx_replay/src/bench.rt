@@ -1,7 +1,7 @@
 //! The disks under a replay.
 
 ghost use Rattle.std.specs.Prelude.{◌≡◌, ◌≤◌, IfErr, IfOk, OnOk};
-ghost use Rattle.bx_audit.specs.Audited.{IsListed, StandFor};
+ghost use Rattle.bx_service.specs.bx_audit.specs.Audited.{IsListed, StandFor};
 ghost use Rattle.bx_global.specs.Opening.{opening_state};
 ghost use Rattle.bx_model.specs.declared.tree.Tree.{Tree};
 ghost use Rattle.bx_model.specs.Listing.{listing};
@@ -11,9 +11,9 @@ ghost use Rattle.bx_replay.specs.Course.{all_crashed};
 ghost use Rattle.bx_service.specs.Rounds.{IsCrashed};
 ghost use Rattle.bx_replay.specs.Replay.{HasBenchCause, UnlessDisk};
 
-use bx_audit::{Listing, audit};
 use bx_base::OutOfMemory;
 use bx_disk::{CrashRack, Noise, Rack};
+use bx_service::audit::{Listing, audit};
 use bx_stops::Stop;
 use std::alloc::Global;
 

@@ -1,7 +1,7 @@
 //! How a replay begins, and how it ends.
 
 ghost use Rattle.std.specs.Prelude.{◌≡◌, ◌≤◌, ℕ, Option, Some, true, false, ◌++◌, IfOk, IfErr, filter, length, map, slice_get, OnOk};
-ghost use Rattle.bx_audit.specs.Audited.{AreOpen};
+ghost use Rattle.bx_service.specs.bx_audit.specs.Audited.{AreOpen};
 ghost use Rattle.bx_base.specs.declared.names.Point.{Point};
 ghost use Rattle.bx_desk.specs.Desks.{AtDesk, empty_desk};
 ghost use Rattle.bx_disk.specs.Disks.{Disks};
@@ -21,13 +21,13 @@ use crate::desks::new_desks;
 use crate::print::print_end;
 use crate::schedule::next_line;
 use crate::state::Replay;
-use bx_audit::Listing;
 use bx_base::{OutOfMemory, Point};
 use bx_disk::{CrashRack, Rack};
 use bx_lease::ClockRule;
 use bx_outside::{LineReader, Sink, Source, write_all};
 use bx_script::{Line, TraceLine};
 use bx_service::Service;
+use bx_service::audit::Listing;
 use bx_stops::{Reason, Stop};
 use std::alloc::Global;
 

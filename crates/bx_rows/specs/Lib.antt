@@ -5,3 +5,4 @@ pub mod Reading
 pub mod Rows
 pub mod Spelling
 pub mod Words
+pub use Rattle.bx_base

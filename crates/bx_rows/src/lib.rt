@@ -22,3 +22,8 @@ pub use rows::{
 };
 pub use session::SessionRow;
 pub use writing::{push_ballot, push_devices, push_pair, push_sessions};
+
+/// What the crates above use of `bx_base`.
+pub mod base {
+    pub use bx_base::{List, OutOfMemory, Raw, ReadError, push_u32, push_u64, u32_at, u64_at};
+}

@@ -1,6 +1,6 @@
 -- The part of a reply before its result (RFC 5531, section 9).
 use Rattle.std.specs.Prelude.{ℕ, ◌==◌, if◌then◌else◌, List, [], ◌∷◌}
-use Rattle.bx_base.specs.Bytes.{words}
+use Rattle.bx_xdr.specs.bx_base.specs.Bytes.{words}
 use Rattle.bx_rpc.specs.Checks.{version_of}
 
 -- An accepted call's reply: the call's number, REPLY (1), MSG_ACCEPTED (0), an empty AUTH_NONE verifier, and SUCCESS (0).

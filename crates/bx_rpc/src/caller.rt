@@ -5,8 +5,8 @@ ghost use Rattle.bx_rpc.specs.declared.caller.Caller.{Caller};
 ghost use Rattle.bx_rpc.specs.Callers.{nobody, SpellsParts, SpellsAuthSys};
 
 use crate::numbers::NOBODY;
-use bx_base::{OutOfMemory, Words};
 use bx_xdr::Reader;
+use bx_xdr::base::{OutOfMemory, Words};
 use std::alloc::Global;
 
 /// The greatest length of the name of a caller's machine, in bytes (RFC 5531, appendix A).

@@ -1,7 +1,7 @@
 //! Laws of calls up to their arguments.
 
 ghost use Rattle.std.specs.Prelude.{◌≡◌, ◌≤◌, List, ℕ, true};
-ghost use Rattle.bx_base.specs.Bytes.{IsBytes};
+ghost use Rattle.bx_xdr.specs.bx_base.specs.Bytes.{IsBytes};
 ghost use Rattle.bx_rpc.specs.declared.caller.Caller.{Caller};
 ghost use Rattle.bx_rpc.specs.declared.opened.Opened.{Opened};
 ghost use Rattle.bx_rpc.specs.Checks.{Verdict, Checks, IsProgram, last_procedure};

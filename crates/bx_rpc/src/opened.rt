@@ -6,8 +6,8 @@ ghost use Rattle.bx_rpc.specs.Message.{IsCall, Opens, is_message as is_call};
 use crate::caller::Caller;
 use crate::checks::{Header, read_header};
 use crate::stop::Stop;
-use bx_base::{OutOfMemory, Words};
 use bx_xdr::Reader;
+use bx_xdr::base::{OutOfMemory, Words};
 use std::alloc::Global;
 
 /// The greatest length of a datagram that is a call's, in bytes.

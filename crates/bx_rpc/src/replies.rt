@@ -1,12 +1,12 @@
 //! Replies up to their results.
 
 ghost use Rattle.std.specs.Prelude.{◌≡◌, ◌++◌, IfOk, OnOk};
-ghost use Rattle.bx_base.specs.Bytes.{words};
+ghost use Rattle.bx_xdr.specs.bx_base.specs.Bytes.{words};
 ghost use Rattle.bx_rpc.specs.Replies.{accepted_text, refusal_words, refused_text};
 
 use crate::numbers::{MOUNT_VERSION, NFS_PROGRAM, NFS_VERSION};
-use bx_base::{OutOfMemory, Raw};
 use bx_xdr::Writer;
+use bx_xdr::base::{OutOfMemory, Raw};
 use std::alloc::Global;
 
 /// The word that makes a message a reply (RFC 5531, section 9).

@@ -1,6 +1,6 @@
 //! Why the checks of a call stop short.
 
-use bx_base::OutOfMemory;
+use bx_xdr::base::OutOfMemory;
 
 /// Why the checks of a call stop short.
 #[derive(Drop)]

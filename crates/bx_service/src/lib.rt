@@ -6,3 +6,8 @@ mod service;
 
 pub use event::{Acted, Call, Event};
 pub use service::{MOST_NODES, Service};
+
+/// What the crates above use of `bx_audit`.
+pub mod audit {
+    pub use bx_audit::{Listing, audit};
+}

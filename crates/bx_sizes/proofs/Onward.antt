@@ -12,7 +12,7 @@ use Rattle.bx_page.specs.Keys.{is_below, IsBelow}
 use Rattle.bx_page.proofs.Order.{not_below_back, not_below_itself, not_same_above}
 use Rattle.bx_blink.specs.Leaves.{IsLeafFor, behind_leaf}
 use Rattle.bx_blink.proofs.Keys.{Order, lower, same, higher, lt_le, order}
-use Rattle.bx_files.specs.Paths.{IsNeed}
+use Rattle.bx_changes.specs.bx_files.specs.Paths.{IsNeed}
 use Rattle.bx_inodes.specs.declared.stop.Stop.{Stop}
 use Rattle.bx_places.specs.Places.{is_block}
 use Rattle.bx_truth.specs.Keys.{content_key}

@@ -24,7 +24,7 @@ use Rattle.bx_model.specs.Permissions.{is_in_group}
 use Rattle.bx_model.specs.Reading.{attributes_reply}
 use Rattle.bx_model.specs.Steps.{Outcome, must, refuse, ◌>>=◌, ◌>>◌}
 use Rattle.bx_model.specs.Writing.{is_forbidden, resize_errors, setattr}
-use Rattle.bx_reads.proofs.Told.{named_as}
+use Rattle.bx_changes.specs.bx_reads.proofs.Told.{named_as}
 use Rattle.bx_records.specs.Drafts.{Changed}
 use Rattle.bx_tree_files.specs.declared.file.File.{File}
 use Rattle.bx_tree_files.specs.declared.sattr.Sattr.{Sattr}

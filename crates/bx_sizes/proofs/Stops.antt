@@ -1,7 +1,7 @@
 -- What stops clearing a piece of a file is never that it is lost.
 use Rattle.std.proofs.Common.{◌≡◌, ℕ, true, false, List, Some, sym, ap, ◌∙◌, inl, inr, Err}
 use Rattle.bx_base.specs.declared.names.Mode.TheVariants.{Exclusive}
-use Rattle.bx_files.proofs.Slots.{slot_is_block}
+use Rattle.bx_changes.specs.bx_files.proofs.Slots.{slot_is_block}
 use Rattle.bx_inodes.specs.declared.stop.Stop.{Stop}
 use Rattle.bx_inodes.specs.declared.stop.Stop.TheVariants.{Need, Inner, Status, OutOfMemory}
 use Rattle.bx_layout.specs.declared.block.Block.{Block}

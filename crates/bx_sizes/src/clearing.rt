@@ -13,7 +13,7 @@ ghost use Rattle.bx_sizes.specs.Steps.{ClearsAt, IsCleared, PieceAt};
 use crate::cuts::last_piece;
 use bx_base::{Mode, OutOfMemory, Raw};
 use bx_blink::block_at;
-use bx_files::PIECE;
+use bx_changes::files::PIECE;
 use bx_inodes::{Stop, put_inode};
 use bx_layout::{Block, Inode};
 use bx_model::STALE;

@@ -8,7 +8,7 @@ ghost use Rattle.bx_sizes.specs.Clearing.{FindsLast, FoundBy, OnIndexes};
 
 use crate::first_pieces::first_piece;
 use bx_blink::handle_in;
-use bx_files::{content_key, value_at};
+use bx_changes::files::{content_key, value_at};
 use bx_inodes::Stop;
 use bx_model::STALE;
 use bx_views::View;

@@ -4,7 +4,7 @@ ghost use Rattle.std.specs.Prelude.{◌≡◌, ◌≤◌, ◌<◌, ◌^◌, ◌�
 ghost use Rattle.std.specs.Int.{w32, to_be_bytes};
 ghost use Rattle.bx_blink.specs.Hints.{Under};
 ghost use Rattle.bx_changes.specs.Procedures.{NeedsOn, NeverInner, Truth};
-ghost use Rattle.bx_files.specs.Paths.{OnSearch};
+ghost use Rattle.bx_changes.specs.bx_files.specs.Paths.{OnSearch};
 ghost use Rattle.bx_page.specs.Keys.{IsBelow};
 ghost use Rattle.bx_truth.specs.Keys.{content_key as key_of_content};
 ghost use Rattle.bx_truth.specs.PageTrees.{PageTree, map_of};
@@ -12,7 +12,7 @@ ghost use Rattle.bx_sizes.specs.Clearing.{OnIndexes};
 ghost use Rattle.bx_sizes.specs.FirstPieces.{FindsFirst, GoesOn, IsLeastIndex, IsWithin};
 
 use bx_blink::{BlinkError, leaf_at};
-use bx_files::{content_key, needed};
+use bx_changes::files::{content_key, needed};
 use bx_inodes::Stop;
 use bx_model::STALE;
 use bx_records::Draft;

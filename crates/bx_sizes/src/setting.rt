@@ -12,12 +12,12 @@ ghost use Rattle.bx_sizes.specs.Setting.{OnSetting};
 
 use crate::sizes::{set_size, size_error};
 use bx_base::Mode;
+use bx_changes::reads::attributes_by;
 use bx_changes::{is_forbidden, set_attributes};
 use bx_inodes::{Stop, inode_at};
 use bx_layout::Inode;
 use bx_model::{Call, PERM, Reply, STALE, Sattr};
 use bx_places::named_handle;
-use bx_reads::attributes_by;
 use bx_records::Draft;
 use bx_tree_files::is_given;
 use bx_views::View;

@@ -1,11 +1,11 @@
 -- How a check ends, by why it stopped short.
 use Rattle.std.proofs.Common.{◌≡◌, ◌≢◌, ℕ, ◌⊎◌, inl, inr, List, [], ◌∷◌, refl, arith}
-use Rattle.bx_audit.specs.declared.listing.Listing.{Listing}
+use Rattle.bx_rack_commands.specs.bx_audit.specs.declared.listing.Listing.{Listing}
 use Rattle.bx_base.specs.Faults.{Rose}
 use Rattle.bx_disk.specs.Disks.{Disks}
 use Rattle.bx_model.specs.declared.tree.Tree.{Tree}
-use Rattle.bx_rack_audit.proofs.Telling.{alone_of}
-use Rattle.bx_rack_audit.specs.Alone.{IsListedAlone, StandAlone}
+use Rattle.bx_rack_commands.specs.bx_rack_audit.proofs.Telling.{alone_of}
+use Rattle.bx_rack_commands.specs.bx_rack_audit.specs.Alone.{IsListedAlone, StandAlone}
 use Rattle.bx_rack_commands.specs.Checks.{AreRefused, BreaksOff, HasCause, IsPart, IsRightly, LeavesOutput}
 use Rattle.bx_rack_commands.specs.declared.failure.Failure.{Failure}
 use Rattle.bx_rack_commands.specs.declared.failure.Failure.TheVariants.{WriteFault, DiskFault, Refused, OutOfMemory}

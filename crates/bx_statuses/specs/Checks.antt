@@ -1,12 +1,12 @@
 -- How a `check` ends, by its exit status.
 use Rattle.std.specs.Prelude.{◌≡◌, ◌≢◌, ◌⊎◌, ℕ, [], ◌∷◌, ◌++◌}
-use Rattle.bx_audit.specs.declared.listing.Listing.{Listing}
+use Rattle.bx_rack_commands.specs.bx_audit.specs.declared.listing.Listing.{Listing}
 use Rattle.bx_base.specs.Faults.{Rose}
 use Rattle.bx_disk.specs.declared.rack.Rack as racks
 use Rattle.bx_model.specs.declared.tree.Tree.{Tree}
 use Rattle.bx_model.specs.Listing.{listing}
 use Rattle.bx_outside.specs.declared.sink.Sink as sinks
-use Rattle.bx_rack_audit.specs.Alone.{IsListedAlone, StandAlone}
+use Rattle.bx_rack_commands.specs.bx_rack_audit.specs.Alone.{IsListedAlone, StandAlone}
 use Rattle.bx_rack_commands.specs.Checks.{AreRefused, IsPart}
 use Rattle.bx_rack_commands.specs.declared.failure.Refusal.{Refusal}
 use Rattle.bx_statuses.specs.Report.{IsAmong, IsTold, refusal_line}

@@ -1,11 +1,11 @@
 //! `check`, by its exit status.
 
 ghost use Rattle.std.specs.Prelude.{◌≡◌, ◌≢◌, ◌⊎◌, ℕ, [], ◌∷◌, ◌++◌};
-ghost use Rattle.bx_audit.specs.declared.listing.Listing.{Listing};
+ghost use Rattle.bx_rack_commands.specs.bx_audit.specs.declared.listing.Listing.{Listing};
 ghost use Rattle.bx_base.specs.Faults.{Rose};
 ghost use Rattle.bx_model.specs.declared.tree.Tree.{Tree};
 ghost use Rattle.bx_model.specs.Listing.{listing};
-ghost use Rattle.bx_rack_audit.specs.Alone.{IsListedAlone, StandAlone};
+ghost use Rattle.bx_rack_commands.specs.bx_rack_audit.specs.Alone.{IsListedAlone, StandAlone};
 ghost use Rattle.bx_rack_commands.specs.Checks.{AreRefused, IsPart};
 ghost use Rattle.bx_rack_commands.specs.declared.failure.Refusal.{Refusal};
 ghost use Rattle.bx_statuses.specs.Report.{IsAmong, IsTold, line_of, refusal_line};

@@ -7,3 +7,5 @@ pub mod Names
 pub mod Given
 pub mod Changes
 pub mod FileEdits
+pub use Rattle.bx_tree_parts.specs.bx_base
+pub use Rattle.bx_places

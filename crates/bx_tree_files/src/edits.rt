@@ -8,7 +8,7 @@ ghost use Rattle.bx_tree_parts.specs.Times.{is_given as is_given_word};
 
 use crate::file::{Body, File};
 use crate::sattr::Sattr;
-use bx_base::OutOfMemory;
+use bx_tree_parts::base::OutOfMemory;
 use bx_tree_parts::{given_or, is_given, time_or};
 
 /// An edit of a file, which changes its times besides.

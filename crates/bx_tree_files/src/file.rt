@@ -1,8 +1,8 @@
 //! Files of the tree.
 
 use crate::names::NameList;
-use bx_base::Raw;
 use bx_tree_parts::Content;
+use bx_tree_parts::base::Raw;
 
 /// An entry of a directory.
 #[derive(Drop)]

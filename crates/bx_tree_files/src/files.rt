@@ -11,8 +11,8 @@ ghost use Rattle.bx_tree_files.specs.FileEdits.{CanEdit, CanEnter, CanLink, edit
 use crate::edits::Edit;
 use crate::file::File;
 use crate::metadata::fileid;
-use bx_base::OutOfMemory;
 use bx_tree_parts::Fileids;
+use bx_tree_parts::base::OutOfMemory;
 use std::alloc::Global;
 use std::collections::BTreeMap;
 use std::collections::btree_map::Values;

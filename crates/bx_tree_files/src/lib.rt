@@ -17,3 +17,8 @@ pub use metadata::{
 };
 pub use names::{NameList, is_bad};
 pub use sattr::Sattr;
+
+/// What the crates above use of `bx_base`.
+pub mod base {
+    pub use bx_tree_parts::base::{CallNo, List, OutOfMemory, Raw, Words};
+}

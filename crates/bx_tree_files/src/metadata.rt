@@ -5,8 +5,8 @@ ghost use Rattle.bx_tree_files.specs.Attributes.{attributes_of, mode_word as mod
 ghost use Rattle.bx_tree_files.specs.Files.{IsFile, size_of as body_size};
 
 use crate::file::{Body, DIRECTORY, File, LINK};
-use bx_base::{OutOfMemory, Words};
 use bx_places::ChunkHandle;
+use bx_tree_parts::base::{OutOfMemory, Words};
 use std::alloc::Global;
 
 /// How many bytes a block has.

@@ -7,8 +7,8 @@ ghost use Rattle.std.specs.Map.{values_of};
 ghost use Rattle.bx_tree_files.specs.Entries.{AreBelow, above, entry_named, is_bad as is_bad_name, with_name, without_name};
 
 use crate::file::Name;
-use bx_base::{OutOfMemory, Raw};
 use bx_tree_parts::NameIndex;
+use bx_tree_parts::base::{OutOfMemory, Raw};
 use std::alloc::Global;
 use std::collections::BTreeMap;
 use std::collections::btree_map::{Range, Values};

@@ -4,7 +4,7 @@ use Rattle.std.specs.Prelude.{◌==◌, if◌then◌else◌, Ok, Err}
 use Rattle.bx_model.specs.declared.call.Args.{Args}
 use Rattle.bx_model.specs.declared.call.Args.TheVariants as args
 use Rattle.bx_model.specs.declared.call.Call.{Call}
-use Rattle.bx_tree_files.specs.declared.sattr.Sattr.{Sattr}
+use Rattle.bx_model.specs.bx_tree_files.specs.declared.sattr.Sattr.{Sattr}
 use Rattle.bx_model.specs.declared.entry.Entry.{Entry}
 use Rattle.bx_model.specs.declared.reply.Reply.{Reply}
 use Rattle.bx_model.specs.declared.reply.Reply.TheVariants.{Status}
@@ -17,7 +17,7 @@ use Rattle.bx_model.specs.Reading.{getattr, lookup, readlink, statfs}
 use Rattle.bx_model.specs.Removing.{remove, rmdir}
 use Rattle.bx_model.specs.Steps.{Making, Outcome, Step, done, plainly, taken}
 use Rattle.bx_model.specs.Steps.Step.{Gives, Makes}
-use Rattle.bx_tree_files.specs.Times.{Time, time_of}
+use Rattle.bx_model.specs.bx_tree_files.specs.Times.{Time, time_of}
 use Rattle.bx_tree_laws.specs.Acting.{AreSteps, PathFits}
 use Rattle.bx_tree_laws.proofs.Grows.{Follows, follows_same, follows_weaker}
 use Rattle.bx_tree_laws.proofs.Makings.{StepKeeps, create_keeps, link_keeps, mkdir_keeps, symlink_keeps}

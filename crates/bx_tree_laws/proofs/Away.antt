@@ -2,19 +2,19 @@
 use Rattle.std.proofs.Common.{◌≡◌, ℕ, ◌+◌, ◌<◌, ◌≤◌, arith, Bool, true, false, List, [], ◌∷◌, Some, refl, sym, ap, ◌∙◌, subst, inl, inr}
 use Rattle.std.specs.Prelude.{◌≢◌, ◌==◌, nat_le, if◌then◌else◌, length, Contains}
 use Rattle.std.proofs.lemmas.Bool.{leb-true, leb-false, ltb-false}
-use Rattle.bx_tree_files.specs.declared.file.Body.{Body}
-use Rattle.bx_tree_files.specs.declared.file.Body.TheVariants.{Bytes, Path, Names}
-use Rattle.bx_tree_files.specs.declared.file.File.{File}
-use Rattle.bx_tree_files.specs.declared.file.Name.{Name}
+use Rattle.bx_model.specs.bx_tree_files.specs.declared.file.Body.{Body}
+use Rattle.bx_model.specs.bx_tree_files.specs.declared.file.Body.TheVariants.{Bytes, Path, Names}
+use Rattle.bx_model.specs.bx_tree_files.specs.declared.file.File.{File}
+use Rattle.bx_model.specs.bx_tree_files.specs.declared.file.Name.{Name}
 use Rattle.bx_model.specs.declared.tree.Tree.{Tree}
-use Rattle.bx_tree_files.specs.Files.{with_changed, without_file, file_at, is_directory}
+use Rattle.bx_model.specs.bx_tree_files.specs.Files.{with_changed, without_file, file_at, is_directory}
 use Rattle.bx_model.specs.Edits.{changed, without}
 use Rattle.bx_model.specs.FileTrees.{IsFileTree, is_directory_at, links_to}
-use Rattle.bx_tree_files.specs.Names.{names_of, next_of, without_entry}
+use Rattle.bx_model.specs.bx_tree_files.specs.Names.{names_of, next_of, without_entry}
 use Rattle.bx_model.specs.Removing.{has_entries, without_link}
-use Rattle.bx_tree_files.specs.Changes.{taken_out as taking_out}
+use Rattle.bx_model.specs.bx_tree_files.specs.Changes.{taken_out as taking_out}
 use Rattle.bx_model.specs.Renaming.{without_replaced}
-use Rattle.bx_tree_files.specs.Times.{Time}
+use Rattle.bx_model.specs.bx_tree_files.specs.Times.{Time}
 use Rattle.bx_tree_laws.proofs.Counts.{none_contained}
 use Rattle.bx_tree_laws.proofs.Dropped.{dropped_keeps}
 use Rattle.bx_tree_laws.proofs.Everys.{every_kept}
@@ -27,7 +27,7 @@ use Rattle.bx_tree_laws.proofs.Stays.{parent_same, stays_changed, stays_then}
 use Rattle.bx_tree_laws.proofs.Taken.{entry_contained, taken_away, taken_inside, taken_links, taken_named, taken_once, taken_stage, taken_stays, to_not_root}
 use Rattle.bx_tree_laws.proofs.Unlinked.{unlinked_keeps}
 use Rattle.bx_tree_laws.proofs.Whole.{plan_of}
-use Rattle.bx_tree_files.specs.Entries.{entry_named}
+use Rattle.bx_model.specs.bx_tree_files.specs.Entries.{entry_named}
 use Rattle.bx_tree_laws.proofs.Halves.{changed_twice, taken_out, without_subdirectory}
 
 -- the tree without the entry of a name, and without the file where it was its last one; a directory counts no more

@@ -2,12 +2,12 @@
 use Rattle.std.proofs.Common.{◌≡◌, ℕ, zero, suc, ◌<◌, arith, true, List, [], ◌∷◌, ◌++◌, Some, ap, ◌∙◌, subst, inl, inr}
 use Rattle.std.specs.Prelude.{◌≢◌, ◌⊎◌, Contains}
 use Rattle.std.proofs.lemmas.Bool.{eq-eqb}
-use Rattle.bx_tree_files.specs.declared.file.File.{File}
-use Rattle.bx_tree_files.specs.declared.file.Name.{Name}
+use Rattle.bx_model.specs.bx_tree_files.specs.declared.file.File.{File}
+use Rattle.bx_model.specs.bx_tree_files.specs.declared.file.Name.{Name}
 use Rattle.bx_model.specs.declared.tree.Tree.{Tree}
-use Rattle.bx_tree_files.specs.Files.{file_at, is_directory, kind_of}
+use Rattle.bx_model.specs.bx_tree_files.specs.Files.{file_at, is_directory, kind_of}
 use Rattle.bx_model.specs.FileTrees.{IsFileTree}
-use Rattle.bx_tree_files.specs.Names.{names_of}
+use Rattle.bx_model.specs.bx_tree_files.specs.Names.{names_of}
 use Rattle.bx_tree_laws.specs.Ways.{IsIn, LeadsDown}
 use Rattle.bx_tree_laws.proofs.Links.{NamesIt, named_by}
 use Rattle.bx_tree_laws.proofs.Lookups.{SameOr, same_or}

@@ -3,10 +3,10 @@ use Rattle.std.proofs.Common.{◌≡◌, ℕ, suc, ◌+◌, arith, Bool, true, f
 use Rattle.std.specs.Prelude.{◌≢◌, ◌⊎◌, not, bytes_eq, AllPairs, Contains, All, filter, count_by}
 use Rattle.std.proofs.lemmas.List.Sums.{sum_by-cons}
 use Rattle.std.proofs.lemmas.Slice.Eq.{bytes_eq-Decides}
-use Rattle.bx_tree_files.specs.declared.file.Name.{Name}
+use Rattle.bx_model.specs.bx_tree_files.specs.declared.file.Name.{Name}
 use Rattle.bx_tree_laws.proofs.Lookups.{some_same}
 use Rattle.bx_tree_laws.proofs.Counts.{contains_first, contains_later, contained_cases, none_contained}
-use Rattle.bx_tree_files.specs.Entries.{entry_named}
+use Rattle.bx_model.specs.bx_tree_files.specs.Entries.{entry_named}
 
 abbrev pub has_name : List ℕ → Name → Bool
 has_name name entry = bytes_eq entry.name name

@@ -1,15 +1,15 @@
 -- What every step leaves: the root, and the handles that were given out, of which none comes back.
 use Rattle.std.proofs.Common.{[], ◌∷◌, subst, ◌≡◌, ℕ, Bool, true, false, List, Some, None, Option, refl, inl, inr}
 use Rattle.std.specs.Prelude.{◌⊎◌, nat_le, if◌then◌else◌, Contains}
-use Rattle.bx_tree_files.specs.declared.file.File.{File}
+use Rattle.bx_model.specs.bx_tree_files.specs.declared.file.File.{File}
 use Rattle.bx_model.specs.declared.tree.Tree.{Tree}
 use Rattle.bx_model.specs.Edits.{changed, with_new, without}
-use Rattle.bx_tree_files.specs.Files.{file_at, is_directory}
+use Rattle.bx_model.specs.bx_tree_files.specs.Files.{file_at, is_directory}
 use Rattle.bx_model.specs.FileTrees.{IsFileTree}
-use Rattle.bx_tree_files.specs.Changes.{entered, taken_out, unlinked, moved_to}
+use Rattle.bx_model.specs.bx_tree_files.specs.Changes.{entered, taken_out, unlinked, moved_to}
 use Rattle.bx_model.specs.Removing.{without_link}
 use Rattle.bx_model.specs.Renaming.{changes_parent, renamed, without_replaced}
-use Rattle.bx_tree_files.specs.Times.{Time}
+use Rattle.bx_model.specs.bx_tree_files.specs.Times.{Time}
 use Rattle.bx_tree_laws.specs.Every.{Every}
 use Rattle.bx_tree_laws.proofs.Everys.{every_kept, every_with, every_without}
 use Rattle.bx_tree_laws.proofs.Counts.{contains_first, none_contained}

@@ -2,12 +2,12 @@
 use Rattle.std.proofs.Common.{◌≡◌, ℕ, ◌+◌, ◌-◌, ◌<◌, List, [], ◌∷◌, refl, sym, ap, ◌∙◌, inl, inr}
 use Rattle.std.specs.Prelude.{◌≢◌}
 use Rattle.std.proofs.lemmas.Bool.{eq-eqb, ne_eqb}
-use Rattle.bx_tree_files.specs.declared.file.Body.{Body}
-use Rattle.bx_tree_files.specs.declared.file.Body.TheVariants.{Bytes, Path, Names}
-use Rattle.bx_tree_files.specs.declared.file.File.{File}
-use Rattle.bx_tree_files.specs.Files.{with_changed}
-use Rattle.bx_tree_files.specs.Names.{with_entry, without_entry}
-use Rattle.bx_tree_files.specs.Times.{Time}
+use Rattle.bx_model.specs.bx_tree_files.specs.declared.file.Body.{Body}
+use Rattle.bx_model.specs.bx_tree_files.specs.declared.file.Body.TheVariants.{Bytes, Path, Names}
+use Rattle.bx_model.specs.bx_tree_files.specs.declared.file.File.{File}
+use Rattle.bx_model.specs.bx_tree_files.specs.Files.{with_changed}
+use Rattle.bx_model.specs.bx_tree_files.specs.Names.{with_entry, without_entry}
+use Rattle.bx_model.specs.bx_tree_files.specs.Times.{Time}
 use Rattle.bx_tree_laws.proofs.Lookups.{SameOr, same_or}
 
 abbrev pub entered : Time → List ℕ → ℕ → File → File

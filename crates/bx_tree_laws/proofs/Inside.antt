@@ -2,18 +2,18 @@
 use Rattle.std.proofs.Common.{◌≡◌, ℕ, ◌+◌, arith, Bool, true, false, List, [], ◌∷◌, Some, None, Option, refl, ap, ◌∙◌}
 use Rattle.std.specs.Prelude.{◌≢◌, ◌==◌, if◌then◌else◌, Contains, count_by, option_map}
 use Rattle.std.proofs.lemmas.List.Sums.{sum_by-append}
-use Rattle.bx_tree_files.specs.declared.file.Body.{Body}
-use Rattle.bx_tree_files.specs.declared.file.File.{File}
-use Rattle.bx_tree_files.specs.declared.file.Name.{Name}
-use Rattle.bx_tree_files.specs.Files.{with_changed, file_at}
+use Rattle.bx_model.specs.bx_tree_files.specs.declared.file.Body.{Body}
+use Rattle.bx_model.specs.bx_tree_files.specs.declared.file.File.{File}
+use Rattle.bx_model.specs.bx_tree_files.specs.declared.file.Name.{Name}
+use Rattle.bx_model.specs.bx_tree_files.specs.Files.{with_changed, file_at}
 use Rattle.bx_model.specs.FileTrees.{is_directory_at, is_directory_in}
-use Rattle.bx_tree_files.specs.Names.{names_of, with_entry}
-use Rattle.bx_tree_files.specs.Times.{Time}
+use Rattle.bx_model.specs.bx_tree_files.specs.Names.{names_of, with_entry}
+use Rattle.bx_model.specs.bx_tree_files.specs.Times.{Time}
 use Rattle.bx_tree_laws.proofs.Counts.{count_same}
 use Rattle.bx_tree_laws.proofs.Entries.{Apart, count_others}
 use Rattle.bx_tree_laws.proofs.Links.{one_if, IsNames, names_without}
 use Rattle.bx_tree_laws.proofs.Lookups.{file_at-changed, changed_here, changed_other}
-use Rattle.bx_tree_files.specs.Entries.{entry_named}
+use Rattle.bx_model.specs.bx_tree_files.specs.Entries.{entry_named}
 use Rattle.bx_tree_laws.proofs.Halves.{entered, taken_out}
 
 abbrev pub names_in : Option File → List Name

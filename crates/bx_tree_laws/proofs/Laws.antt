@@ -2,16 +2,16 @@
 use Rattle.std.proofs.Common.{◌≡◌, ℕ, ◌+◌, ◌<◌, arith, true, List, Some, None, Option, refl, sym, ap, ◌∙◌, subst, inl, inr, [], ◌^◌}
 use Rattle.std.specs.Prelude.{◌⊎◌, ◌≢◌, Contains, AllPairs, count_by}
 use Rattle.bx_model.specs.declared.call.Call.{Call}
-use Rattle.bx_tree_files.specs.declared.file.Body.{Body}
-use Rattle.bx_tree_files.specs.declared.file.Body.TheVariants.{Bytes, Path, Names}
-use Rattle.bx_tree_files.specs.declared.file.File.{File}
-use Rattle.bx_tree_files.specs.declared.file.Name.{Name}
+use Rattle.bx_model.specs.bx_tree_files.specs.declared.file.Body.{Body}
+use Rattle.bx_model.specs.bx_tree_files.specs.declared.file.Body.TheVariants.{Bytes, Path, Names}
+use Rattle.bx_model.specs.bx_tree_files.specs.declared.file.File.{File}
+use Rattle.bx_model.specs.bx_tree_files.specs.declared.file.Name.{Name}
 use Rattle.bx_model.specs.declared.reply.Reply.{Reply}
 use Rattle.bx_model.specs.declared.tree.Tree.{Tree}
 use Rattle.bx_model.specs.Act.{act}
-use Rattle.bx_tree_files.specs.Files.{file_at, is_directory}
+use Rattle.bx_model.specs.bx_tree_files.specs.Files.{file_at, is_directory}
 use Rattle.bx_model.specs.FileTrees.{HasEntries, HasLinks, IsFileTree, is_directory_at, links_to}
-use Rattle.bx_tree_files.specs.Names.{names_of}
+use Rattle.bx_model.specs.bx_tree_files.specs.Names.{names_of}
 use Rattle.bx_tree_laws.specs.Acting.{PathFits}
 use Rattle.bx_tree_laws.specs.Ways.{IsIn}
 use Rattle.bx_tree_laws.specs.Telling.{HandlesFit}

@@ -2,14 +2,14 @@
 use Rattle.std.proofs.Common.{◌≡◌, ℕ, ◌≤◌, arith, true, false, List, Some, None, refl, sym, ap, ◌∙◌, subst, inl, inr, []}
 use Rattle.std.specs.Prelude.{◌≢◌, ◌==◌}
 use Rattle.std.proofs.lemmas.Bool.{ne_eqb}
-use Rattle.bx_tree_files.specs.declared.file.File.{File}
+use Rattle.bx_model.specs.bx_tree_files.specs.declared.file.File.{File}
 use Rattle.bx_model.specs.declared.tree.Tree.{Tree}
-use Rattle.bx_tree_files.specs.Files.{with_changed, file_at, is_directory}
+use Rattle.bx_model.specs.bx_tree_files.specs.Files.{with_changed, file_at, is_directory}
 use Rattle.bx_model.specs.Edits.{changed}
 use Rattle.bx_model.specs.FileTrees.{IsFileTree, is_directory_at, links_to}
-use Rattle.bx_tree_files.specs.Changes.{linked, entered as entering}
-use Rattle.bx_tree_files.specs.Names.{names_of}
-use Rattle.bx_tree_files.specs.Times.{Time}
+use Rattle.bx_model.specs.bx_tree_files.specs.Changes.{linked, entered as entering}
+use Rattle.bx_model.specs.bx_tree_files.specs.Names.{names_of}
+use Rattle.bx_model.specs.bx_tree_files.specs.Times.{Time}
 use Rattle.bx_tree_laws.specs.Every.{Every}
 use Rattle.bx_tree_laws.proofs.Everys.{every_kept}
 use Rattle.bx_tree_laws.proofs.Grows.{Follows, grows_changed, grows_same}
@@ -23,7 +23,7 @@ use Rattle.bx_tree_laws.proofs.Rises.{rise_changed}
 use Rattle.bx_tree_laws.proofs.Stages.{plus, stage_entered, stage_linked, stage_refers}
 use Rattle.bx_tree_laws.proofs.Stays.{parent_same, parent_with, stays_changed, stays_then}
 use Rattle.bx_tree_laws.proofs.Whole.{plan_of, stage_of, tree_of}
-use Rattle.bx_tree_files.specs.Entries.{entry_named, is_bad}
+use Rattle.bx_model.specs.bx_tree_files.specs.Entries.{entry_named, is_bad}
 use Rattle.bx_tree_laws.proofs.Halves.{changed_apart, entered}
 
 module _ (tree : Tree) (was : IsFileTree tree) (file directory : File) (at to : ℕ) (now : Time) (name : List ℕ)

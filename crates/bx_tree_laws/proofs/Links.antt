@@ -4,18 +4,18 @@ use Rattle.std.specs.Prelude.{◌==◌, Contains, count_by}
 use Rattle.std.proofs.lemmas.Bool.{eq-eqb}
 use Rattle.std.proofs.lemmas.Bool.Decides.{nat_tests}
 use Rattle.std.proofs.lemmas.List.Sums.{sum_by-append}
-use Rattle.bx_tree_files.specs.declared.file.Body.{Body}
-use Rattle.bx_tree_files.specs.declared.file.Body.TheVariants.{Bytes, Path, Names}
-use Rattle.bx_tree_files.specs.declared.file.File.{File}
-use Rattle.bx_tree_files.specs.declared.file.Name.{Name}
-use Rattle.bx_tree_files.specs.Files.{with_changed, without_file, file_at, with_file}
+use Rattle.bx_model.specs.bx_tree_files.specs.declared.file.Body.{Body}
+use Rattle.bx_model.specs.bx_tree_files.specs.declared.file.Body.TheVariants.{Bytes, Path, Names}
+use Rattle.bx_model.specs.bx_tree_files.specs.declared.file.File.{File}
+use Rattle.bx_model.specs.bx_tree_files.specs.declared.file.Name.{Name}
+use Rattle.bx_model.specs.bx_tree_files.specs.Files.{with_changed, without_file, file_at, with_file}
 use Rattle.bx_model.specs.FileTrees.{links_to}
-use Rattle.bx_tree_files.specs.Names.{names_of, with_entry, without_entry}
-use Rattle.bx_tree_files.specs.Times.{Time}
+use Rattle.bx_model.specs.bx_tree_files.specs.Names.{names_of, with_entry, without_entry}
+use Rattle.bx_model.specs.bx_tree_files.specs.Times.{Time}
 use Rattle.bx_tree_laws.proofs.Counts.{some_counted, counted, sum_changed, sum_without, sum_with, sum_kept}
 use Rattle.bx_tree_laws.proofs.Entries.{Apart, others, count_others}
 use Rattle.bx_tree_laws.proofs.Rises.{Rise, at_contained, contains_at}
-use Rattle.bx_tree_files.specs.Entries.{entry_named}
+use Rattle.bx_model.specs.bx_tree_files.specs.Entries.{entry_named}
 use Rattle.bx_tree_laws.proofs.Halves.{entered, taken_out}
 
 -- 1 where a test holds

@@ -4,8 +4,8 @@ use Rattle.std.specs.Prelude.{◌≢◌, ◌==◌, ◌⊎◌, if◌then◌else�
 use Rattle.std.proofs.Common.{inl, inr}
 use Rattle.std.proofs.lemmas.Bool.{eq-eqb, ne_eqb}
 use Rattle.std.proofs.lemmas.Bool.Decides.{eqb_tells}
-use Rattle.bx_tree_files.specs.declared.file.File.{File}
-use Rattle.bx_tree_files.specs.Files.{with_changed, without_file, file_at, with_file}
+use Rattle.bx_model.specs.bx_tree_files.specs.declared.file.File.{File}
+use Rattle.bx_model.specs.bx_tree_files.specs.Files.{with_changed, without_file, file_at, with_file}
 
 -- whether two numbers are the same, with what the test says
 abbrev pub SameOr : ℕ → ℕ → Type 0

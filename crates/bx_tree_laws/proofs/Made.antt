@@ -2,15 +2,15 @@
 use Rattle.std.proofs.Common.{◌≡◌, ℕ, suc, ◌+◌, ◌≤◌, arith, true, false, List, [], Some, None, Option, refl, sym, ap, ◌∙◌, subst}
 use Rattle.std.specs.Prelude.{◌≢◌, ◌==◌, if◌then◌else◌, Contains, count_by, length}
 use Rattle.std.proofs.lemmas.Bool.{eq-eqb, ne_eqb}
-use Rattle.bx_tree_files.specs.declared.file.Body.{Body}
-use Rattle.bx_tree_files.specs.declared.file.Body.TheVariants.{Bytes, Path, Names}
-use Rattle.bx_tree_files.specs.declared.file.File.{File}
-use Rattle.bx_tree_files.specs.declared.file.Name.{Name}
+use Rattle.bx_model.specs.bx_tree_files.specs.declared.file.Body.{Body}
+use Rattle.bx_model.specs.bx_tree_files.specs.declared.file.Body.TheVariants.{Bytes, Path, Names}
+use Rattle.bx_model.specs.bx_tree_files.specs.declared.file.File.{File}
+use Rattle.bx_model.specs.bx_tree_files.specs.declared.file.Name.{Name}
 use Rattle.bx_model.specs.declared.tree.Tree.{Tree}
-use Rattle.bx_tree_files.specs.Files.{with_changed, IsFile, file_at, is_directory, with_file}
+use Rattle.bx_model.specs.bx_tree_files.specs.Files.{with_changed, IsFile, file_at, is_directory, with_file}
 use Rattle.bx_model.specs.FileTrees.{HasEntries, IsFileTree, is_directory_at, is_directory_in, links_to}
-use Rattle.bx_tree_files.specs.Names.{names_of}
-use Rattle.bx_tree_files.specs.Times.{Time}
+use Rattle.bx_model.specs.bx_tree_files.specs.Names.{names_of}
+use Rattle.bx_model.specs.bx_tree_files.specs.Times.{Time}
 use Rattle.bx_tree_laws.specs.Every.{Every}
 use Rattle.bx_tree_laws.proofs.Counts.{none_contained}
 use Rattle.bx_tree_laws.proofs.Everys.{every_kept, every_with}
@@ -26,8 +26,8 @@ use Rattle.bx_tree_laws.proofs.Rises.{rise_with}
 use Rattle.bx_tree_laws.proofs.Stages.{one_elsewhere, one_here, part_links, plus, stage_entered, stage_refers}
 use Rattle.bx_tree_laws.proofs.Stays.{stays_with}
 use Rattle.bx_tree_laws.proofs.Whole.{below_next, plan_of, stage_of}
-use Rattle.bx_tree_files.specs.Entries.{entry_named, is_bad}
-use Rattle.bx_tree_files.specs.Given.{with_handle}
+use Rattle.bx_model.specs.bx_tree_files.specs.Entries.{entry_named, is_bad}
+use Rattle.bx_model.specs.bx_tree_files.specs.Given.{with_handle}
 use Rattle.bx_tree_laws.proofs.Halves.{entered}
 
 -- a new file: it has one link, or it is a directory without entries

@@ -1,15 +1,15 @@
 -- A new file, which a new entry of a directory names, leaves a file tree.
 use Rattle.std.proofs.Common.{Bool, ◌≡◌, ℕ, suc, ◌+◌, ◌<◌, ◌≤◌, arith, true, false, List, [], Some, None, refl, sym, ap, ◌∙◌, subst, inl, inr, ◌∷◌}
 use Rattle.std.specs.Prelude.{◌≢◌, ◌==◌, if◌then◌else◌, Contains}
-use Rattle.bx_tree_files.specs.declared.file.Body.{Body}
-use Rattle.bx_tree_files.specs.declared.file.Body.TheVariants.{Bytes, Path, Names}
-use Rattle.bx_tree_files.specs.declared.file.File.{File}
+use Rattle.bx_model.specs.bx_tree_files.specs.declared.file.Body.{Body}
+use Rattle.bx_model.specs.bx_tree_files.specs.declared.file.Body.TheVariants.{Bytes, Path, Names}
+use Rattle.bx_model.specs.bx_tree_files.specs.declared.file.File.{File}
 use Rattle.bx_model.specs.declared.tree.Tree.{Tree}
-use Rattle.bx_tree_files.specs.Files.{with_changed, file_at, is_directory, with_file}
+use Rattle.bx_model.specs.bx_tree_files.specs.Files.{with_changed, file_at, is_directory, with_file}
 use Rattle.bx_model.specs.Edits.{changed, with_new}
 use Rattle.bx_model.specs.FileTrees.{IsFileTree, links_to}
-use Rattle.bx_tree_files.specs.Names.{names_of, next_of, with_entry}
-use Rattle.bx_tree_files.specs.Times.{Time}
+use Rattle.bx_model.specs.bx_tree_files.specs.Names.{names_of, next_of, with_entry}
+use Rattle.bx_model.specs.bx_tree_files.specs.Times.{Time}
 use Rattle.bx_tree_laws.specs.Every.{Every}
 use Rattle.bx_tree_laws.proofs.Everys.{every_kept}
 use Rattle.bx_tree_laws.proofs.Grows.{Follows, Grows, grows_changed, grows_new, grows_same}
@@ -21,9 +21,9 @@ use Rattle.bx_tree_laws.proofs.Plans.{IsStage, Plan}
 use Rattle.bx_tree_laws.proofs.Stages.{one_elsewhere, one_here, plus, stage_grown, stage_refers}
 use Rattle.bx_tree_laws.proofs.Stays.{parent_same, parent_with, stays_changed, stays_then}
 use Rattle.bx_tree_laws.proofs.Whole.{tree_of}
-use Rattle.bx_tree_files.specs.Entries.{entry_named, is_bad}
-use Rattle.bx_tree_files.specs.Given.{with_handle}
-use Rattle.bx_tree_files.specs.Changes.{entered as entering}
+use Rattle.bx_model.specs.bx_tree_files.specs.Entries.{entry_named, is_bad}
+use Rattle.bx_model.specs.bx_tree_files.specs.Given.{with_handle}
+use Rattle.bx_model.specs.bx_tree_files.specs.Changes.{entered as entering}
 use Rattle.bx_tree_laws.proofs.Halves.{changed_twice, entered, with_subdirectory}
 use Rattle.bx_tree_laws.proofs.Made.{IsNew, stage as made_stage, links_are as made_links_are, inside_at as made_inside_at, inside_away as made_inside_away, named as made_named, once as made_once, unnamed as made_unnamed, still as made_still, body as made_body}
 

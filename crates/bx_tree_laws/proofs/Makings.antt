@@ -3,25 +3,25 @@ use Rattle.std.proofs.Common.{◌≡◌, ℕ, ◌<◌, ◌^◌, arith, Bool, tru
 use Rattle.std.specs.Prelude.{◌&&◌, not, if◌then◌else◌, nat_lt, nat_le, length, Result, Ok}
 use Rattle.std.proofs.lemmas.List.{length-replicate}
 use Rattle.bx_model.specs.declared.call.Call.{Call}
-use Rattle.bx_tree_files.specs.declared.sattr.Sattr.{Sattr}
-use Rattle.bx_tree_files.specs.declared.file.Body.TheVariants as body
-use Rattle.bx_tree_files.specs.declared.file.File.{File}
-use Rattle.bx_tree_files.specs.declared.file.Name.{Name}
+use Rattle.bx_model.specs.bx_tree_files.specs.declared.sattr.Sattr.{Sattr}
+use Rattle.bx_model.specs.bx_tree_files.specs.declared.file.Body.TheVariants as body
+use Rattle.bx_model.specs.bx_tree_files.specs.declared.file.File.{File}
+use Rattle.bx_model.specs.bx_tree_files.specs.declared.file.Name.{Name}
 use Rattle.bx_model.specs.declared.permissions.Want.TheVariants as want
 use Rattle.bx_model.specs.declared.reply.Reply.{Reply}
 use Rattle.bx_model.specs.declared.status.TheConstants.{ACCES, DQUOT, EXIST, FBIG, PERM, STALE}
 use Rattle.bx_model.specs.declared.tree.Tree.{Tree}
 use Rattle.bx_model.specs.Edits.{changed, is_unused}
-use Rattle.bx_tree_files.specs.Files.{file_at, is_directory, is_regular}
+use Rattle.bx_model.specs.bx_tree_files.specs.Files.{file_at, is_directory, is_regular}
 use Rattle.bx_model.specs.FileTrees.{IsFileTree}
 use Rattle.bx_model.specs.Making.{create, create_at, create_errors, create_new, create_over, directory_to_change, entry_errors, has_entry, link, mkdir, new_file, new_place, searched_directory, symlink}
-use Rattle.bx_tree_files.specs.Names.{names_of}
+use Rattle.bx_model.specs.bx_tree_files.specs.Names.{names_of}
 use Rattle.bx_model.specs.Permissions.{may}
 use Rattle.bx_model.specs.Reading.{handle_reply, named_file}
 use Rattle.bx_model.specs.Steps.{Step}
 use Rattle.bx_model.specs.Steps.Step.{Gives, Makes}
-use Rattle.bx_tree_files.specs.Times.{Time, is_given}
-use Rattle.bx_tree_files.specs.Changes.{most_bytes, with_size}
+use Rattle.bx_model.specs.bx_tree_files.specs.Times.{Time, is_given}
+use Rattle.bx_model.specs.bx_tree_files.specs.Changes.{most_bytes, with_size}
 use Rattle.bx_model.specs.Writing.{resize_errors}
 use Rattle.bx_tree_laws.proofs.Grows.{Follows, follows_same}
 use Rattle.bx_tree_laws.proofs.Linked.{linked_follows}
@@ -30,7 +30,7 @@ use Rattle.bx_tree_laws.proofs.Members.{found_at}
 use Rattle.bx_tree_laws.proofs.Steps.{after, after_bind, after_must, after_refuse, next_is}
 use Rattle.bx_tree_laws.proofs.Touched.{touched_follows}
 use Rattle.bx_tree_laws.proofs.Writings.{resize_fits, size_touch, within}
-use Rattle.bx_tree_files.specs.Entries.{entry_named}
+use Rattle.bx_model.specs.bx_tree_files.specs.Entries.{entry_named}
 use Rattle.bx_tree_laws.proofs.Places.{IsDirectory, directory_is, none_is, place_is, searched_is, unused_fresh, unused_gone}
 use Rattle.bx_tree_laws.proofs.NewFiles.{new_bytes, new_directory, new_path}
 

@@ -4,14 +4,14 @@ use Rattle.std.specs.Prelude.{◌≢◌, ◌==◌, Contains}
 use Rattle.std.proofs.lemmas.Bool.{eqb-true, eq-eqb}
 use Rattle.std.proofs.lemmas.Option.{option_and_then_some}
 use Rattle.bx_places.specs.Handles.{named}
-use Rattle.bx_tree_files.specs.declared.file.Body.{Body}
-use Rattle.bx_tree_files.specs.declared.file.Body.TheVariants.{Bytes, Path, Names}
-use Rattle.bx_tree_files.specs.declared.file.File.{File}
-use Rattle.bx_tree_files.specs.declared.file.Name.{Name}
+use Rattle.bx_model.specs.bx_tree_files.specs.declared.file.Body.{Body}
+use Rattle.bx_model.specs.bx_tree_files.specs.declared.file.Body.TheVariants.{Bytes, Path, Names}
+use Rattle.bx_model.specs.bx_tree_files.specs.declared.file.File.{File}
+use Rattle.bx_model.specs.bx_tree_files.specs.declared.file.Name.{Name}
 use Rattle.bx_model.specs.declared.tree.Tree.{Tree}
-use Rattle.bx_tree_files.specs.Files.{IsFile, IsNumbered, file_at, is_directory, kind_of}
+use Rattle.bx_model.specs.bx_tree_files.specs.Files.{IsFile, IsNumbered, file_at, is_directory, kind_of}
 use Rattle.bx_model.specs.FileTrees.{HasEntries, HasLinks, IsEntryOf, IsFileTree, is_directory_in, is_directory_at, links_to}
-use Rattle.bx_tree_files.specs.Names.{names_of, next_of}
+use Rattle.bx_model.specs.bx_tree_files.specs.Names.{names_of, next_of}
 use Rattle.bx_model.specs.Reading.{named_file}
 use Rattle.bx_tree_laws.proofs.Counts.{none_contained}
 use Rattle.bx_tree_laws.proofs.Entries.{Apart}

@@ -2,16 +2,16 @@
 use Rattle.std.proofs.Common.{◌≡◌, ℕ, ◌+◌, ◌<◌, arith, Bool, true, false, List, Some, None, refl, sym, ap, ◌∙◌, subst, inl, inr}
 use Rattle.std.specs.Prelude.{◌≢◌, ◌==◌, Contains}
 use Rattle.std.proofs.lemmas.Bool.{eq-eqb}
-use Rattle.bx_tree_files.specs.declared.file.Body.{Body}
-use Rattle.bx_tree_files.specs.declared.file.Body.TheVariants.{Bytes, Path, Names}
-use Rattle.bx_tree_files.specs.declared.file.File.{File}
-use Rattle.bx_tree_files.specs.declared.file.Name.{Name}
+use Rattle.bx_model.specs.bx_tree_files.specs.declared.file.Body.{Body}
+use Rattle.bx_model.specs.bx_tree_files.specs.declared.file.Body.TheVariants.{Bytes, Path, Names}
+use Rattle.bx_model.specs.bx_tree_files.specs.declared.file.File.{File}
+use Rattle.bx_model.specs.bx_tree_files.specs.declared.file.Name.{Name}
 use Rattle.bx_model.specs.declared.tree.Tree.{Tree}
-use Rattle.bx_tree_files.specs.Files.{with_changed, file_at, is_directory, kind_of}
+use Rattle.bx_model.specs.bx_tree_files.specs.Files.{with_changed, file_at, is_directory, kind_of}
 use Rattle.bx_model.specs.FileTrees.{IsFileTree, is_directory_in, is_directory_at, links_to}
-use Rattle.bx_tree_files.specs.Names.{names_of, with_parent}
-use Rattle.bx_tree_files.specs.Changes.{moved_to}
-use Rattle.bx_tree_files.specs.Times.{Time}
+use Rattle.bx_model.specs.bx_tree_files.specs.Names.{names_of, with_parent}
+use Rattle.bx_model.specs.bx_tree_files.specs.Changes.{moved_to}
+use Rattle.bx_model.specs.bx_tree_files.specs.Times.{Time}
 use Rattle.bx_tree_laws.proofs.Entries.{other_absent}
 use Rattle.bx_tree_laws.proofs.Inside.{directory_changed, inside}
 use Rattle.bx_tree_laws.proofs.Links.{IsNames, one_if, names_count, names_without}
@@ -24,7 +24,7 @@ use Rattle.bx_tree_laws.proofs.Stages.{one_here, stage_entered, stage_moved, sta
 use Rattle.bx_tree_laws.proofs.Stays.{moved_parent, parent_moved, parent_with, parent_without, stays_changed, stays_moved, stays_then}
 use Rattle.bx_tree_laws.proofs.Taken.{taken_links, to_not_root}
 use Rattle.bx_tree_laws.proofs.Whole.{plan_of, stage_of}
-use Rattle.bx_tree_files.specs.Entries.{entry_named, is_bad}
+use Rattle.bx_model.specs.bx_tree_files.specs.Entries.{entry_named, is_bad}
 use Rattle.bx_tree_laws.proofs.Halves.{entered, taken_out}
 
 -- a depth that still tells directories from those above them, once one is below another

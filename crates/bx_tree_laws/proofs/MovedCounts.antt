@@ -1,14 +1,14 @@
 -- What is counted once a file has moved.
 use Rattle.std.proofs.Common.{◌≡◌, ℕ, ◌+◌, ◌≤◌, arith, true, false, List, Some, None, refl, sym, ap, ◌∙◌, inl, inr}
 use Rattle.std.specs.Prelude.{◌≢◌, ◌==◌, ◌⊎◌}
-use Rattle.bx_tree_files.specs.declared.file.File.{File}
-use Rattle.bx_tree_files.specs.declared.file.Name.{Name}
+use Rattle.bx_model.specs.bx_tree_files.specs.declared.file.File.{File}
+use Rattle.bx_model.specs.bx_tree_files.specs.declared.file.Name.{Name}
 use Rattle.bx_model.specs.declared.tree.Tree.{Tree}
-use Rattle.bx_tree_files.specs.Files.{with_changed, file_at, is_directory}
+use Rattle.bx_model.specs.bx_tree_files.specs.Files.{with_changed, file_at, is_directory}
 use Rattle.bx_model.specs.FileTrees.{IsFileTree, is_directory_at, links_to}
-use Rattle.bx_tree_files.specs.Names.{names_of, without_entry}
-use Rattle.bx_tree_files.specs.Changes.{moved_to}
-use Rattle.bx_tree_files.specs.Times.{Time}
+use Rattle.bx_model.specs.bx_tree_files.specs.Names.{names_of, without_entry}
+use Rattle.bx_model.specs.bx_tree_files.specs.Changes.{moved_to}
+use Rattle.bx_model.specs.bx_tree_files.specs.Times.{Time}
 use Rattle.bx_tree_laws.specs.Every.{Every}
 use Rattle.bx_tree_laws.proofs.Entries.{others}
 use Rattle.bx_tree_laws.proofs.Everys.{every_kept}
@@ -19,7 +19,7 @@ use Rattle.bx_tree_laws.proofs.Members.{directory_at}
 use Rattle.bx_tree_laws.proofs.Rises.{rise_changed}
 use Rattle.bx_tree_laws.proofs.Stays.{names_moved}
 use Rattle.bx_tree_laws.proofs.Taken.{taken_away, taken_inside, taken_links}
-use Rattle.bx_tree_files.specs.Entries.{entry_named, is_bad}
+use Rattle.bx_model.specs.bx_tree_files.specs.Entries.{entry_named, is_bad}
 use Rattle.bx_tree_laws.proofs.Halves.{entered, taken_out}
 use Rattle.bx_tree_laws.proofs.Moved.{StillDeeper}
 

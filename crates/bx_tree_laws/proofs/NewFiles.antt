@@ -2,11 +2,11 @@
 use Rattle.std.proofs.Common.{◌≡◌, ℕ, ◌<◌, ◌^◌, arith, Bool, true, false, List, [], refl}
 use Rattle.std.specs.Prelude.{◌%◌, if◌then◌else◌, length}
 use Rattle.bx_model.specs.declared.call.Call.{Call}
-use Rattle.bx_tree_files.specs.declared.sattr.Sattr.{Sattr}
-use Rattle.bx_tree_files.specs.declared.file.Body.TheVariants as body
-use Rattle.bx_tree_files.specs.declared.file.Name.{Name}
+use Rattle.bx_model.specs.bx_tree_files.specs.declared.sattr.Sattr.{Sattr}
+use Rattle.bx_model.specs.bx_tree_files.specs.declared.file.Body.TheVariants as body
+use Rattle.bx_model.specs.bx_tree_files.specs.declared.file.Name.{Name}
 use Rattle.bx_model.specs.Making.{new_file}
-use Rattle.bx_tree_files.specs.Times.{Time, is_given}
+use Rattle.bx_model.specs.bx_tree_files.specs.Times.{Time, is_given}
 use Rattle.bx_tree_laws.proofs.Made.{IsNew}
 
 mode_fits : (given : Bool) (bits mode : ℕ) → mode < 2 ^ 12 → (if given then bits % 4096 else mode) < 2 ^ 12

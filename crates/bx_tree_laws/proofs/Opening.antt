@@ -2,8 +2,8 @@
 use Rattle.std.proofs.Common.{◌≡◌, ℕ, arith, [], ◌∷◌, sym, subst, refl, Some, None, inl, inr}
 use Rattle.std.specs.Prelude.{◌^◌, Contains, zero, suc, ◌<◌, ◌≤◌, slice_index_or, ◌≢◌, ◌==◌, ◌⊎◌, true, false}
 use Rattle.std.proofs.lemmas.Bool.Decides.{eqb_tells}
-use Rattle.bx_tree_files.specs.declared.file.File.{File}
-use Rattle.bx_tree_files.specs.Files.{file_at, IsFile}
+use Rattle.bx_model.specs.bx_tree_files.specs.declared.file.File.{File}
+use Rattle.bx_model.specs.bx_tree_files.specs.Files.{file_at, IsFile}
 use Rattle.bx_model.specs.FileTrees.{IsFileTree, HasEntries, HasLinks, links_to}
 use Rattle.bx_model.specs.Opening.{opening, opening_root}
 

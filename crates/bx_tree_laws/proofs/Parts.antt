@@ -2,12 +2,12 @@
 use Rattle.std.proofs.Common.{◌≡◌, ℕ, ◌+◌, ◌-◌, ◌<◌, ◌^◌, length, arith, List, ◌++◌, take, drop, replicate, refl}
 use Rattle.std.specs.Prelude.{◌≢◌, Contains}
 use Rattle.std.proofs.lemmas.List.{length-append, length-take, length-replicate, length-drop}
-use Rattle.bx_tree_files.specs.declared.file.Body.{Body}
-use Rattle.bx_tree_files.specs.declared.file.Body.TheVariants.{Bytes, Path, Names}
-use Rattle.bx_tree_files.specs.declared.file.File.{File}
-use Rattle.bx_tree_files.specs.declared.file.Name.{Name}
-use Rattle.bx_tree_files.specs.Names.{names_of, with_entry, without_entry, with_parent}
-use Rattle.bx_tree_files.specs.Changes.{overwritten, resized}
+use Rattle.bx_model.specs.bx_tree_files.specs.declared.file.Body.{Body}
+use Rattle.bx_model.specs.bx_tree_files.specs.declared.file.Body.TheVariants.{Bytes, Path, Names}
+use Rattle.bx_model.specs.bx_tree_files.specs.declared.file.File.{File}
+use Rattle.bx_model.specs.bx_tree_files.specs.declared.file.Name.{Name}
+use Rattle.bx_model.specs.bx_tree_files.specs.Names.{names_of, with_entry, without_entry, with_parent}
+use Rattle.bx_model.specs.bx_tree_files.specs.Changes.{overwritten, resized}
 use Rattle.bx_tree_laws.proofs.Plans.{Plan, IsPart, IsNearer, HasCount}
 use Rattle.bx_tree_laws.proofs.Halves.{LinksBelowNext}
 use Rattle.bx_tree_laws.proofs.DirectoryParts.{MayEnter, Stays, entries_referred, entries_with, entries_without}

@@ -5,21 +5,21 @@ use Rattle.std.specs.List.{list_any}
 use Rattle.std.proofs.lemmas.Bool.{and_parts, eq-eqb, not-false, not-true}
 use Rattle.std.proofs.lemmas.List.Recursion.{or_at}
 use Rattle.bx_model.specs.declared.call.Call.{Call}
-use Rattle.bx_tree_files.specs.declared.file.File.{File}
+use Rattle.bx_model.specs.bx_tree_files.specs.declared.file.File.{File}
 use Rattle.bx_model.specs.declared.permissions.Want.TheVariants as want
 use Rattle.bx_model.specs.declared.status.TheConstants.{ACCES, EXIST, NOTDIR, STALE}
 use Rattle.bx_model.specs.declared.tree.Tree.{Tree}
-use Rattle.bx_tree_files.specs.Attributes.{fileid}
+use Rattle.bx_model.specs.bx_tree_files.specs.Attributes.{fileid}
 use Rattle.bx_model.specs.Edits.{is_unused}
-use Rattle.bx_tree_files.specs.Files.{file_at, is_directory}
+use Rattle.bx_model.specs.bx_tree_files.specs.Files.{file_at, is_directory}
 use Rattle.bx_model.specs.FileTrees.{IsFileTree}
 use Rattle.bx_model.specs.Making.{directory_to_change, entry_errors, has_entry, new_place, searched_directory}
-use Rattle.bx_tree_files.specs.Names.{names_of}
+use Rattle.bx_model.specs.bx_tree_files.specs.Names.{names_of}
 use Rattle.bx_model.specs.Permissions.{may}
 use Rattle.bx_model.specs.Reading.{named_file}
 use Rattle.bx_tree_laws.proofs.Members.{found_at}
 use Rattle.bx_tree_laws.proofs.Steps.{after, after_bind, after_must, after_refuse}
-use Rattle.bx_tree_files.specs.Entries.{entry_named, is_bad}
+use Rattle.bx_model.specs.bx_tree_files.specs.Entries.{entry_named, is_bad}
 
 -- an unused handle was never given out, and is no file's
 pub unused_fresh : (tree : Tree) (made : ℕ) → is_unused tree made ≡ true → Contains tree.given made → ⊥

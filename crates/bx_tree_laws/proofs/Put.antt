@@ -1,15 +1,15 @@
 -- A file put in: the handles given out, and what is counted.
 use Rattle.std.proofs.Common.{◌≡◌, ℕ, Bool, true, false, List, [], ◌∷◌, Some, None, refl, sym, ap, ◌∙◌, subst, inl, inr}
 use Rattle.std.specs.Prelude.{◌≢◌, ◌==◌, ◌⊎◌, if◌then◌else◌, nat_lt, Contains}
-use Rattle.bx_tree_files.specs.declared.file.File.{File}
-use Rattle.bx_tree_files.specs.declared.file.Name.{Name}
-use Rattle.bx_tree_files.specs.Files.{file_at, with_file}
+use Rattle.bx_model.specs.bx_tree_files.specs.declared.file.File.{File}
+use Rattle.bx_model.specs.bx_tree_files.specs.declared.file.Name.{Name}
+use Rattle.bx_model.specs.bx_tree_files.specs.Files.{file_at, with_file}
 use Rattle.bx_model.specs.FileTrees.{is_directory_in}
-use Rattle.bx_tree_files.specs.Names.{names_of}
+use Rattle.bx_model.specs.bx_tree_files.specs.Names.{names_of}
 use Rattle.bx_tree_laws.proofs.Counts.{contains_first, contains_later, contained_cases, none_contained}
 use Rattle.bx_tree_laws.proofs.Inside.{inside, inside_same, names_at, names_in}
 use Rattle.bx_tree_laws.proofs.Lookups.{SameOr, same_or, file_at-with, with_other}
-use Rattle.bx_tree_files.specs.Given.{with_handle}
+use Rattle.bx_model.specs.bx_tree_files.specs.Given.{with_handle}
 
 -- a handle that was given out stays so, and the new one is
 pub handle_stays : (handles : List ℕ) (new handle : ℕ) → Contains handles handle → Contains (with_handle handles new) handle

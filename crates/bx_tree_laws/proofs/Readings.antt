@@ -7,7 +7,7 @@ use Rattle.bx_model.specs.declared.reply.Reply.{Reply}
 use Rattle.bx_model.specs.declared.status.TheConstants.{ACCES, ISDIR, NOENT, NOTDIR, NXIO, STALE}
 use Rattle.bx_model.specs.declared.tree.Tree.{Tree}
 use Rattle.bx_model.specs.Directories.{readdir}
-use Rattle.bx_tree_files.specs.Files.{is_directory, is_link}
+use Rattle.bx_model.specs.bx_tree_files.specs.Files.{is_directory, is_link}
 use Rattle.bx_model.specs.Permissions.{may}
 use Rattle.bx_model.specs.Reading.{named_file, meant, getattr, lookup, readlink, read, statfs}
 use Rattle.bx_tree_laws.proofs.Steps.{after_must, after_refuse, next_is}

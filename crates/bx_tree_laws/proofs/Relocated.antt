@@ -1,17 +1,17 @@
 -- A directory that moves to another one leaves a file tree.
 use Rattle.std.proofs.Common.{◌≡◌, ℕ, suc, ◌+◌, ◌<◌, ◌≤◌, arith, Bool, true, false, List, Some, None, refl, sym, ap, ◌∙◌, subst, inl, inr}
 use Rattle.std.specs.Prelude.{◌≢◌, ◌==◌, if◌then◌else◌}
-use Rattle.bx_tree_files.specs.declared.file.Body.{Body}
-use Rattle.bx_tree_files.specs.declared.file.Body.TheVariants.{Bytes, Path, Names}
-use Rattle.bx_tree_files.specs.declared.file.File.{File}
-use Rattle.bx_tree_files.specs.declared.file.Name.{Name}
+use Rattle.bx_model.specs.bx_tree_files.specs.declared.file.Body.{Body}
+use Rattle.bx_model.specs.bx_tree_files.specs.declared.file.Body.TheVariants.{Bytes, Path, Names}
+use Rattle.bx_model.specs.bx_tree_files.specs.declared.file.File.{File}
+use Rattle.bx_model.specs.bx_tree_files.specs.declared.file.Name.{Name}
 use Rattle.bx_model.specs.declared.tree.Tree.{Tree}
-use Rattle.bx_tree_files.specs.Files.{with_changed, file_at, is_directory}
+use Rattle.bx_model.specs.bx_tree_files.specs.Files.{with_changed, file_at, is_directory}
 use Rattle.bx_model.specs.Edits.{changed}
 use Rattle.bx_model.specs.FileTrees.{IsFileTree, links_to}
-use Rattle.bx_tree_files.specs.Names.{names_of, next_of, with_entry}
-use Rattle.bx_tree_files.specs.Changes.{moved_to, entered as entering, taken_out as taking_out}
-use Rattle.bx_tree_files.specs.Times.{Time}
+use Rattle.bx_model.specs.bx_tree_files.specs.Names.{names_of, next_of, with_entry}
+use Rattle.bx_model.specs.bx_tree_files.specs.Changes.{moved_to, entered as entering, taken_out as taking_out}
+use Rattle.bx_model.specs.bx_tree_files.specs.Times.{Time}
 use Rattle.bx_tree_laws.proofs.Away.{next_without}
 use Rattle.bx_tree_laws.proofs.Everys.{every_kept}
 use Rattle.bx_tree_laws.proofs.Inside.{inside, inside_kept}
@@ -25,7 +25,7 @@ use Rattle.bx_tree_laws.proofs.Stages.{minus, one_elsewhere, one_here, plus, sta
 use Rattle.bx_tree_laws.proofs.Stays.{parent_same, stays_changed, stays_then}
 use Rattle.bx_tree_laws.proofs.Walks.{Cut}
 use Rattle.bx_tree_laws.proofs.Whole.{plan_of, tree_of}
-use Rattle.bx_tree_files.specs.Entries.{entry_named, is_bad}
+use Rattle.bx_model.specs.bx_tree_files.specs.Entries.{entry_named, is_bad}
 use Rattle.bx_tree_laws.proofs.Halves.{changed_apart, changed_twice, entered, taken_out, with_subdirectory, without_subdirectory}
 use Rattle.bx_tree_laws.proofs.Renamed.{from_nearer}
 

@@ -3,19 +3,19 @@ use Rattle.std.proofs.Common.{◌≡◌, ℕ, Bool, true, false, List, Some, sym
 use Rattle.std.specs.Prelude.{not, Result, Ok}
 use Rattle.std.proofs.lemmas.Bool.{not-false}
 use Rattle.bx_model.specs.declared.call.Call.{Call}
-use Rattle.bx_tree_files.specs.declared.file.File.{File}
-use Rattle.bx_tree_files.specs.declared.file.Name.{Name}
+use Rattle.bx_model.specs.bx_tree_files.specs.declared.file.File.{File}
+use Rattle.bx_model.specs.bx_tree_files.specs.declared.file.Name.{Name}
 use Rattle.bx_model.specs.declared.reply.Reply.{Reply}
 use Rattle.bx_model.specs.declared.status.TheConstants.{ISDIR, NOENT, NOTDIR, NOTEMPTY, STALE}
 use Rattle.bx_model.specs.declared.tree.Tree.{Tree}
-use Rattle.bx_tree_files.specs.Entries.{entry_named}
-use Rattle.bx_tree_files.specs.Files.{file_at, is_directory}
+use Rattle.bx_model.specs.bx_tree_files.specs.Entries.{entry_named}
+use Rattle.bx_model.specs.bx_tree_files.specs.Files.{file_at, is_directory}
 use Rattle.bx_model.specs.FileTrees.{IsFileTree}
 use Rattle.bx_model.specs.Making.{directory_to_change}
-use Rattle.bx_tree_files.specs.Names.{names_of}
+use Rattle.bx_model.specs.bx_tree_files.specs.Names.{names_of}
 use Rattle.bx_model.specs.Removing.{file_to_remove, has_entries, remove, rmdir}
 use Rattle.bx_model.specs.Renaming.{without_replaced}
-use Rattle.bx_tree_files.specs.Times.{Time}
+use Rattle.bx_model.specs.bx_tree_files.specs.Times.{Time}
 use Rattle.bx_tree_laws.proofs.Away.{away_keeps, lost}
 use Rattle.bx_tree_laws.proofs.Grows.{Follows, grows_away}
 use Rattle.bx_tree_laws.proofs.Lookups.{handle_at}

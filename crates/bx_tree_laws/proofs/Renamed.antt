@@ -1,16 +1,16 @@
 -- A move that changes no directory's parent leaves a file tree.
 use Rattle.std.proofs.Common.{◌≡◌, ℕ, ◌<◌, true, false, List, Some, None, sym, ap, ◌∙◌, subst, inl, inr}
 use Rattle.std.specs.Prelude.{◌≢◌, ◌⊎◌}
-use Rattle.bx_tree_files.specs.declared.file.Body.TheVariants.{Names}
-use Rattle.bx_tree_files.specs.declared.file.File.{File}
-use Rattle.bx_tree_files.specs.declared.file.Name.{Name}
+use Rattle.bx_model.specs.bx_tree_files.specs.declared.file.Body.TheVariants.{Names}
+use Rattle.bx_model.specs.bx_tree_files.specs.declared.file.File.{File}
+use Rattle.bx_model.specs.bx_tree_files.specs.declared.file.Name.{Name}
 use Rattle.bx_model.specs.declared.tree.Tree.{Tree}
-use Rattle.bx_tree_files.specs.Files.{with_changed, file_at, is_directory}
+use Rattle.bx_model.specs.bx_tree_files.specs.Files.{with_changed, file_at, is_directory}
 use Rattle.bx_model.specs.Edits.{changed}
 use Rattle.bx_model.specs.FileTrees.{IsFileTree, links_to}
-use Rattle.bx_tree_files.specs.Names.{names_of}
-use Rattle.bx_tree_files.specs.Changes.{moved_to}
-use Rattle.bx_tree_files.specs.Times.{Time}
+use Rattle.bx_model.specs.bx_tree_files.specs.Names.{names_of}
+use Rattle.bx_model.specs.bx_tree_files.specs.Changes.{moved_to}
+use Rattle.bx_model.specs.bx_tree_files.specs.Times.{Time}
 use Rattle.bx_tree_laws.proofs.Entries.{entry_found}
 use Rattle.bx_tree_laws.proofs.Inside.{inside}
 use Rattle.bx_tree_laws.proofs.Links.{IsNames}
@@ -21,7 +21,7 @@ use Rattle.bx_tree_laws.proofs.MovedCounts.{inside_still, moved_links, moved_nam
 use Rattle.bx_tree_laws.proofs.Stages.{stage_refers}
 use Rattle.bx_tree_laws.proofs.Taken.{to_not_root}
 use Rattle.bx_tree_laws.proofs.Whole.{plan_of, tree_of}
-use Rattle.bx_tree_files.specs.Entries.{entry_named, is_bad}
+use Rattle.bx_model.specs.bx_tree_files.specs.Entries.{entry_named, is_bad}
 use Rattle.bx_tree_laws.proofs.Halves.{entered, taken_out}
 
 module _ (tree : Tree) (was : IsFileTree tree) (source target moved : File) (from to top : ℕ) (now : Time) (name new_name : List ℕ) (entry : Name)

@@ -3,27 +3,27 @@ use Rattle.std.proofs.Common.{◌≡◌, ℕ, Bool, true, false, List, Some, Non
 use Rattle.std.specs.Prelude.{◌⊎◌, ◌&&◌, not, if◌then◌else◌, Result, Ok}
 use Rattle.std.proofs.lemmas.Bool.{not-false}
 use Rattle.bx_model.specs.declared.call.Call.{Call}
-use Rattle.bx_tree_files.specs.declared.file.File.{File}
-use Rattle.bx_tree_files.specs.declared.file.Name.{Name}
+use Rattle.bx_model.specs.bx_tree_files.specs.declared.file.File.{File}
+use Rattle.bx_model.specs.bx_tree_files.specs.declared.file.Name.{Name}
 use Rattle.bx_model.specs.declared.permissions.Want.TheVariants as want
 use Rattle.bx_model.specs.declared.reply.Reply.{Reply}
 use Rattle.bx_model.specs.declared.reply.Reply.TheVariants as reply
 use Rattle.bx_model.specs.declared.status.TheConstants.{ACCES, ISDIR, NAMETOOLONG, NFS_OK, NOENT, NOTDIR, NOTEMPTY, PERM, STALE}
 use Rattle.bx_model.specs.declared.tree.Tree.{Tree}
-use Rattle.bx_tree_files.specs.Files.{file_at, is_directory}
+use Rattle.bx_model.specs.bx_tree_files.specs.Files.{file_at, is_directory}
 use Rattle.bx_model.specs.FileTrees.{IsFileTree}
-use Rattle.bx_tree_files.specs.Names.{names_of}
+use Rattle.bx_model.specs.bx_tree_files.specs.Names.{names_of}
 use Rattle.bx_model.specs.Permissions.{may}
 use Rattle.bx_model.specs.Reading.{named_file}
 use Rattle.bx_model.specs.Removing.{has_entries}
 use Rattle.bx_model.specs.Renaming.{changes_parent, file_of_entry, is_same, leads_by, move_errors, rename, renamed, replace_errors}
 use Rattle.bx_model.specs.Steps.{◌>>◌}
-use Rattle.bx_tree_files.specs.Times.{Time}
+use Rattle.bx_model.specs.bx_tree_files.specs.Times.{Time}
 use Rattle.bx_tree_laws.proofs.Grows.{Follows, follows_same, grows_renamed}
 use Rattle.bx_tree_laws.proofs.Members.{found_at}
 use Rattle.bx_tree_laws.proofs.Steps.{after, after_bind, after_must, after_refuse, next_is, refused_not}
 use Rattle.bx_tree_laws.proofs.Walks.{cut_of}
-use Rattle.bx_tree_files.specs.Entries.{entry_named, is_bad}
+use Rattle.bx_model.specs.bx_tree_files.specs.Entries.{entry_named, is_bad}
 use Rattle.bx_tree_laws.proofs.Replacing.{IsFound, free_keeps, over_keeps}
 
 -- the file that is replaced, if there is one

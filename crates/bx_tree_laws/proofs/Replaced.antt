@@ -1,17 +1,17 @@
 -- What is left in its place where a file has lost a name: the other files, and the parents of directories.
 use Rattle.std.proofs.Common.{◌≡◌, ℕ, Bool, true, false, List, Some, refl, sym, ◌∙◌}
 use Rattle.std.specs.Prelude.{◌≢◌, nat_le, if◌then◌else◌}
-use Rattle.bx_tree_files.specs.declared.file.Body.TheVariants.{Names}
-use Rattle.bx_tree_files.specs.declared.file.File.{File}
-use Rattle.bx_tree_files.specs.declared.file.Name.{Name}
+use Rattle.bx_model.specs.bx_tree_files.specs.declared.file.Body.TheVariants.{Names}
+use Rattle.bx_model.specs.bx_tree_files.specs.declared.file.File.{File}
+use Rattle.bx_model.specs.bx_tree_files.specs.declared.file.Name.{Name}
 use Rattle.bx_model.specs.declared.tree.Tree.{Tree}
-use Rattle.bx_tree_files.specs.Files.{with_changed, without_file, file_at, is_directory}
+use Rattle.bx_model.specs.bx_tree_files.specs.Files.{with_changed, without_file, file_at, is_directory}
 use Rattle.bx_model.specs.Edits.{without, changed}
-use Rattle.bx_tree_files.specs.Names.{names_of}
-use Rattle.bx_tree_files.specs.Changes.{taken_out, unlinked}
+use Rattle.bx_model.specs.bx_tree_files.specs.Names.{names_of}
+use Rattle.bx_model.specs.bx_tree_files.specs.Changes.{taken_out, unlinked}
 use Rattle.bx_model.specs.Removing.{without_link}
 use Rattle.bx_model.specs.Renaming.{without_replaced}
-use Rattle.bx_tree_files.specs.Times.{Time}
+use Rattle.bx_model.specs.bx_tree_files.specs.Times.{Time}
 use Rattle.bx_tree_laws.specs.Every.{Every}
 use Rattle.bx_tree_laws.proofs.Entries.{others}
 use Rattle.bx_tree_laws.proofs.Everys.{every_kept, every_without}

@@ -6,25 +6,25 @@ use Rattle.std.proofs.lemmas.Bool.{eq-eqb, eqb-true}
 use Rattle.std.proofs.lemmas.List.{append_assoc, length-append, length-replicate, length-take, take-append-le}
 use Rattle.bx_model.specs.declared.call.Args.TheVariants as args
 use Rattle.bx_model.specs.declared.call.Call.{Call}
-use Rattle.bx_tree_files.specs.declared.file.Body.{Body}
-use Rattle.bx_tree_files.specs.declared.file.Body.TheVariants.{Bytes, Path, Names}
-use Rattle.bx_tree_files.specs.declared.file.File.{File}
+use Rattle.bx_model.specs.bx_tree_files.specs.declared.file.Body.{Body}
+use Rattle.bx_model.specs.bx_tree_files.specs.declared.file.Body.TheVariants.{Bytes, Path, Names}
+use Rattle.bx_model.specs.bx_tree_files.specs.declared.file.File.{File}
 use Rattle.bx_model.specs.declared.permissions.Want.TheVariants as want
 use Rattle.bx_model.specs.declared.reply.Reply.{Reply}
 use Rattle.bx_model.specs.declared.reply.Reply.TheVariants as reply
 use Rattle.bx_model.specs.declared.status.TheConstants.{ACCES, ISDIR, NXIO, STALE}
 use Rattle.bx_model.specs.declared.tree.Tree.{Tree}
 use Rattle.bx_model.specs.Act.{act, given}
-use Rattle.bx_tree_files.specs.Attributes.{attributes_of}
-use Rattle.bx_tree_files.specs.Contents.{sized, written_over}
+use Rattle.bx_model.specs.bx_tree_files.specs.Attributes.{attributes_of}
+use Rattle.bx_model.specs.bx_tree_files.specs.Contents.{sized, written_over}
 use Rattle.bx_model.specs.Edits.{changed}
-use Rattle.bx_tree_files.specs.Files.{is_directory, is_link, kind_of}
+use Rattle.bx_model.specs.bx_tree_files.specs.Files.{is_directory, is_link, kind_of}
 use Rattle.bx_model.specs.FileTrees.{IsFileTree}
 use Rattle.bx_model.specs.Permissions.{may}
 use Rattle.bx_model.specs.Reading.{attributes_reply, bytes_of, named_file, read}
 use Rattle.bx_model.specs.Steps.{Outcome, done, plainly}
-use Rattle.bx_tree_files.specs.Times.{Time, time_of}
-use Rattle.bx_tree_files.specs.Changes.{overwritten, with_data}
+use Rattle.bx_model.specs.bx_tree_files.specs.Times.{Time, time_of}
+use Rattle.bx_model.specs.bx_tree_files.specs.Changes.{overwritten, with_data}
 use Rattle.bx_model.specs.Writing.{write, write_errors}
 use Rattle.bx_tree_laws.proofs.Lookups.{some_same}
 use Rattle.bx_tree_laws.proofs.Members.{found_at, is_file}

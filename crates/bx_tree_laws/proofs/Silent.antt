@@ -3,8 +3,8 @@ use Rattle.std.proofs.Common.{◌≡◌, ℕ, Bool, true, false, List, Option, s
 use Rattle.std.specs.Prelude.{◌==◌, ◌&&◌, not, if◌then◌else◌, codes, bytes_eq, nat_le, Result, Ok}
 use Rattle.bx_model.specs.declared.call.Args.{Args}
 use Rattle.bx_model.specs.declared.call.Call.{Call}
-use Rattle.bx_tree_files.specs.declared.sattr.Sattr.{Sattr}
-use Rattle.bx_tree_files.specs.declared.file.File.{File}
+use Rattle.bx_model.specs.bx_tree_files.specs.declared.sattr.Sattr.{Sattr}
+use Rattle.bx_model.specs.bx_tree_files.specs.declared.file.File.{File}
 use Rattle.bx_model.specs.declared.permissions.Want.TheVariants as want
 use Rattle.bx_model.specs.declared.reply.Reply.{Reply}
 use Rattle.bx_model.specs.declared.reply.Reply.TheVariants as reply
@@ -12,17 +12,17 @@ use Rattle.bx_model.specs.declared.status.TheConstants.{ACCES, DQUOT, EXIST, ISD
 use Rattle.bx_model.specs.declared.tree.Tree.{Tree}
 use Rattle.bx_places.specs.Handles.{file_text}
 use Rattle.bx_model.specs.Directories.{readdir}
-use Rattle.bx_tree_files.specs.Entries.{entry_named, is_bad}
-use Rattle.bx_tree_files.specs.Files.{file_at, is_directory, is_link}
+use Rattle.bx_model.specs.bx_tree_files.specs.Entries.{entry_named, is_bad}
+use Rattle.bx_model.specs.bx_tree_files.specs.Files.{file_at, is_directory, is_link}
 use Rattle.bx_model.specs.Making.{directory_to_change, entry_errors, has_entry, link, new_place, symlink}
 use Rattle.bx_model.specs.Mounting.{mount, plain}
-use Rattle.bx_tree_files.specs.Names.{names_of}
+use Rattle.bx_model.specs.bx_tree_files.specs.Names.{names_of}
 use Rattle.bx_model.specs.Permissions.{may}
 use Rattle.bx_model.specs.Reading.{named_file, readlink, statfs}
 use Rattle.bx_model.specs.Removing.{file_to_remove, has_entries, remove, rmdir}
 use Rattle.bx_model.specs.Renaming.{file_of_entry, is_same, move_errors, rename, renamed}
 use Rattle.bx_model.specs.Steps.{Step, ◌>>◌}
-use Rattle.bx_tree_files.specs.Times.{Time}
+use Rattle.bx_model.specs.bx_tree_files.specs.Times.{Time}
 use Rattle.bx_tree_laws.proofs.Steps.{after, after_bind, after_must, after_refuse, reply_is}
 use Rattle.bx_tree_laws.proofs.Telling.{IsTrue, StepIsTrue, step_true}
 

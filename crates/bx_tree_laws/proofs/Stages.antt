@@ -2,14 +2,14 @@
 use Rattle.std.proofs.Common.{◌≡◌, ℕ, ◌+◌, ◌-◌, ◌<◌, ◌≤◌, arith, true, false, List, Some, refl, sym, ap, ◌∙◌, subst}
 use Rattle.std.specs.Prelude.{◌≢◌, ◌==◌, Contains}
 use Rattle.std.proofs.lemmas.Bool.{eq-eqb, ne_eqb}
-use Rattle.bx_tree_files.specs.declared.file.Body.{Body}
-use Rattle.bx_tree_files.specs.declared.file.Body.TheVariants.{Bytes, Path, Names}
-use Rattle.bx_tree_files.specs.declared.file.File.{File}
-use Rattle.bx_tree_files.specs.declared.file.Name.{Name}
-use Rattle.bx_tree_files.specs.Files.{with_changed, file_at, is_directory}
-use Rattle.bx_tree_files.specs.Changes.{linked, unlinked, moved_to}
-use Rattle.bx_tree_files.specs.Names.{names_of, next_of}
-use Rattle.bx_tree_files.specs.Times.{Time}
+use Rattle.bx_model.specs.bx_tree_files.specs.declared.file.Body.{Body}
+use Rattle.bx_model.specs.bx_tree_files.specs.declared.file.Body.TheVariants.{Bytes, Path, Names}
+use Rattle.bx_model.specs.bx_tree_files.specs.declared.file.File.{File}
+use Rattle.bx_model.specs.bx_tree_files.specs.declared.file.Name.{Name}
+use Rattle.bx_model.specs.bx_tree_files.specs.Files.{with_changed, file_at, is_directory}
+use Rattle.bx_model.specs.bx_tree_files.specs.Changes.{linked, unlinked, moved_to}
+use Rattle.bx_model.specs.bx_tree_files.specs.Names.{names_of, next_of}
+use Rattle.bx_model.specs.bx_tree_files.specs.Times.{Time}
 use Rattle.bx_tree_laws.proofs.Links.{one_if}
 use Rattle.bx_tree_laws.proofs.DirectoryParts.{MayEnter, Stays}
 use Rattle.bx_tree_laws.proofs.Parts.{part_counted, part_moved, part_referred, part_with, part_without}

@@ -1,14 +1,14 @@
 -- Files stay, with their parents, through an edit.
 use Rattle.std.proofs.Common.{◌≡◌, ℕ, List, Some, None, refl, sym, ap, ◌∙◌, subst, inl, inr}
 use Rattle.std.specs.Prelude.{◌≢◌}
-use Rattle.bx_tree_files.specs.declared.file.Body.{Body}
-use Rattle.bx_tree_files.specs.declared.file.Body.TheVariants.{Bytes, Path, Names}
-use Rattle.bx_tree_files.specs.declared.file.File.{File}
-use Rattle.bx_tree_files.specs.declared.file.Name.{Name}
-use Rattle.bx_tree_files.specs.Files.{with_changed, without_file, file_at, with_file}
-use Rattle.bx_tree_files.specs.Names.{names_of, with_entry, without_entry, with_parent}
-use Rattle.bx_tree_files.specs.Changes.{moved_to, overwritten, resized}
-use Rattle.bx_tree_files.specs.Times.{Time}
+use Rattle.bx_model.specs.bx_tree_files.specs.declared.file.Body.{Body}
+use Rattle.bx_model.specs.bx_tree_files.specs.declared.file.Body.TheVariants.{Bytes, Path, Names}
+use Rattle.bx_model.specs.bx_tree_files.specs.declared.file.File.{File}
+use Rattle.bx_model.specs.bx_tree_files.specs.declared.file.Name.{Name}
+use Rattle.bx_model.specs.bx_tree_files.specs.Files.{with_changed, without_file, file_at, with_file}
+use Rattle.bx_model.specs.bx_tree_files.specs.Names.{names_of, with_entry, without_entry, with_parent}
+use Rattle.bx_model.specs.bx_tree_files.specs.Changes.{moved_to, overwritten, resized}
+use Rattle.bx_model.specs.bx_tree_files.specs.Times.{Time}
 use Rattle.bx_tree_laws.proofs.Lookups.{SameOr, same_or, some_same, changed_here, changed_other, without_other, with_other}
 use Rattle.bx_tree_laws.proofs.DirectoryParts.{SameParent, Stays}
 

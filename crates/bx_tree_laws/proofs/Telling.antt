@@ -5,28 +5,28 @@ use Rattle.std.proofs.lemmas.Option.{option_and_then_some}
 use Rattle.bx_places.specs.Handles.{file_text}
 use Rattle.bx_model.specs.declared.call.Args.{Args}
 use Rattle.bx_model.specs.declared.call.Call.{Call}
-use Rattle.bx_tree_files.specs.declared.sattr.Sattr.{Sattr}
-use Rattle.bx_tree_files.specs.declared.file.Body.TheVariants as body
-use Rattle.bx_tree_files.specs.declared.file.File.{File}
-use Rattle.bx_tree_files.specs.declared.file.Name.{Name}
+use Rattle.bx_model.specs.bx_tree_files.specs.declared.sattr.Sattr.{Sattr}
+use Rattle.bx_model.specs.bx_tree_files.specs.declared.file.Body.TheVariants as body
+use Rattle.bx_model.specs.bx_tree_files.specs.declared.file.File.{File}
+use Rattle.bx_model.specs.bx_tree_files.specs.declared.file.Name.{Name}
 use Rattle.bx_model.specs.declared.permissions.Want.TheVariants as want
 use Rattle.bx_model.specs.declared.reply.Reply.{Reply}
 use Rattle.bx_model.specs.declared.reply.Reply.TheVariants as reply
 use Rattle.bx_model.specs.declared.status.TheConstants.{ACCES, EXIST, ISDIR, NOENT, NOTDIR, NXIO, PERM, STALE}
 use Rattle.bx_model.specs.declared.tree.Tree.{Tree}
-use Rattle.bx_tree_files.specs.Attributes.{attributes_of}
+use Rattle.bx_model.specs.bx_tree_files.specs.Attributes.{attributes_of}
 use Rattle.bx_model.specs.Edits.{changed, is_unused}
-use Rattle.bx_tree_files.specs.Entries.{entry_named}
-use Rattle.bx_tree_files.specs.Files.{file_at, is_directory, is_link, is_regular, with_file}
+use Rattle.bx_model.specs.bx_tree_files.specs.Entries.{entry_named}
+use Rattle.bx_model.specs.bx_tree_files.specs.Files.{file_at, is_directory, is_link, is_regular, with_file}
 use Rattle.bx_model.specs.FileTrees.{IsFileTree}
-use Rattle.bx_tree_files.specs.Changes.{entered, with_data, with_fields, with_size}
+use Rattle.bx_model.specs.bx_tree_files.specs.Changes.{entered, with_data, with_fields, with_size}
 use Rattle.bx_model.specs.Making.{create, create_at, create_errors, create_over, mkdir, new_file, new_place, searched_directory, with_made}
-use Rattle.bx_tree_files.specs.Names.{names_of, parent_of}
+use Rattle.bx_model.specs.bx_tree_files.specs.Names.{names_of, parent_of}
 use Rattle.bx_model.specs.Permissions.{may}
 use Rattle.bx_model.specs.Reading.{attributes_reply, getattr, handle_reply, lookup, meant, named_file, read}
 use Rattle.bx_model.specs.Steps.{Step}
 use Rattle.bx_model.specs.Steps.Step.{Gives, Makes}
-use Rattle.bx_tree_files.specs.Times.{Time, is_given}
+use Rattle.bx_model.specs.bx_tree_files.specs.Times.{Time, is_given}
 use Rattle.bx_model.specs.Writing.{is_forbidden, resize_errors, setattr, write, write_errors}
 use Rattle.bx_tree_laws.specs.Telling.{HandlesFit, Tells, handle_in}
 use Rattle.bx_tree_laws.proofs.Lookups.{changed_here, changed_other, handle_at, some_same, with_here}

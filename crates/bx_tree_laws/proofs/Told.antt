@@ -4,11 +4,11 @@ use Rattle.std.specs.Prelude.{option_and_then, Ok}
 use Rattle.std.proofs.lemmas.Option.{option_and_then_some}
 use Rattle.bx_places.specs.Handles.{file_text, named}
 use Rattle.bx_places.proofs.FileTexts.{text_names}
-use Rattle.bx_tree_files.specs.declared.file.File.{File}
+use Rattle.bx_model.specs.bx_tree_files.specs.declared.file.File.{File}
 use Rattle.bx_model.specs.declared.reply.Reply.TheVariants as reply
 use Rattle.bx_model.specs.declared.tree.Tree.{Tree}
-use Rattle.bx_tree_files.specs.Attributes.{attributes_of}
-use Rattle.bx_tree_files.specs.Files.{with_changed, file_at}
+use Rattle.bx_model.specs.bx_tree_files.specs.Attributes.{attributes_of}
+use Rattle.bx_model.specs.bx_tree_files.specs.Files.{with_changed, file_at}
 use Rattle.bx_model.specs.Edits.{changed}
 use Rattle.bx_model.specs.Reading.{getattr, named_file}
 use Rattle.bx_tree_laws.proofs.Lookups.{changed_here, handle_at}

@@ -1,12 +1,12 @@
 -- A file whose content or attributes are changed leaves a file tree.
 use Rattle.std.proofs.Common.{◌≡◌, ℕ, ◌≤◌, true, List, refl, sym, ap, ◌∙◌, []}
 use Rattle.std.specs.Prelude.{◌≢◌, ◌==◌}
-use Rattle.bx_tree_files.specs.declared.file.File.{File}
+use Rattle.bx_model.specs.bx_tree_files.specs.declared.file.File.{File}
 use Rattle.bx_model.specs.declared.tree.Tree.{Tree}
-use Rattle.bx_tree_files.specs.Files.{with_changed, is_directory}
+use Rattle.bx_model.specs.bx_tree_files.specs.Files.{with_changed, is_directory}
 use Rattle.bx_model.specs.Edits.{changed}
 use Rattle.bx_model.specs.FileTrees.{IsFileTree, links_to}
-use Rattle.bx_tree_files.specs.Names.{names_of}
+use Rattle.bx_model.specs.bx_tree_files.specs.Names.{names_of}
 use Rattle.bx_tree_laws.proofs.Everys.{every_changed}
 use Rattle.bx_tree_laws.proofs.Grows.{Follows, grows_changed, grows_same}
 use Rattle.bx_tree_laws.proofs.Inside.{inside, inside_kept}

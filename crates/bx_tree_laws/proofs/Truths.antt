@@ -4,7 +4,7 @@ use Rattle.std.specs.Prelude.{◌==◌, if◌then◌else◌, Ok, Err}
 use Rattle.bx_model.specs.declared.call.Args.{Args}
 use Rattle.bx_model.specs.declared.call.Args.TheVariants as args
 use Rattle.bx_model.specs.declared.call.Call.{Call}
-use Rattle.bx_tree_files.specs.declared.sattr.Sattr.{Sattr}
+use Rattle.bx_model.specs.bx_tree_files.specs.declared.sattr.Sattr.{Sattr}
 use Rattle.bx_model.specs.declared.reply.Reply.{Reply}
 use Rattle.bx_model.specs.declared.reply.Reply.TheVariants as reply
 use Rattle.bx_model.specs.declared.tree.Tree.{Tree}
@@ -16,7 +16,7 @@ use Rattle.bx_model.specs.Reading.{getattr, lookup, readlink, statfs}
 use Rattle.bx_model.specs.Removing.{remove, rmdir}
 use Rattle.bx_model.specs.Steps.{Making, Outcome, Step, done, plainly, taken}
 use Rattle.bx_model.specs.Steps.Step.{Gives, Makes}
-use Rattle.bx_tree_files.specs.Times.{Time, time_of}
+use Rattle.bx_model.specs.bx_tree_files.specs.Times.{Time, time_of}
 use Rattle.bx_tree_laws.specs.Telling.{HandlesFit, Tells, handle_in}
 use Rattle.bx_tree_laws.proofs.Silent.{IsSilent, link_silent, mount_silent, plain_silent, readdir_silent, readlink_silent, remove_silent, rename_silent, rmdir_silent, silent_true, statfs_silent, symlink_true}
 use Rattle.bx_tree_laws.proofs.Steps.{reply_is}

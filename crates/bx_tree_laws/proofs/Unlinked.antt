@@ -1,15 +1,15 @@
 -- A name less of a file that has more leaves a file tree.
 use Rattle.std.proofs.Common.{◌≡◌, ℕ, ◌+◌, ◌-◌, ◌≤◌, arith, true, false, List, Some, refl, sym, ap, ◌∙◌, inl, inr}
 use Rattle.std.specs.Prelude.{◌≢◌, ◌==◌}
-use Rattle.bx_tree_files.specs.declared.file.File.{File}
-use Rattle.bx_tree_files.specs.declared.file.Name.{Name}
+use Rattle.bx_model.specs.bx_tree_files.specs.declared.file.File.{File}
+use Rattle.bx_model.specs.bx_tree_files.specs.declared.file.Name.{Name}
 use Rattle.bx_model.specs.declared.tree.Tree.{Tree}
-use Rattle.bx_tree_files.specs.Files.{with_changed, file_at, is_directory}
+use Rattle.bx_model.specs.bx_tree_files.specs.Files.{with_changed, file_at, is_directory}
 use Rattle.bx_model.specs.Edits.{changed}
 use Rattle.bx_model.specs.FileTrees.{IsFileTree, is_directory_at, links_to}
-use Rattle.bx_tree_files.specs.Names.{names_of}
-use Rattle.bx_tree_files.specs.Changes.{unlinked}
-use Rattle.bx_tree_files.specs.Times.{Time}
+use Rattle.bx_model.specs.bx_tree_files.specs.Names.{names_of}
+use Rattle.bx_model.specs.bx_tree_files.specs.Changes.{unlinked}
+use Rattle.bx_model.specs.bx_tree_files.specs.Times.{Time}
 use Rattle.bx_tree_laws.specs.Every.{Every}
 use Rattle.bx_tree_laws.proofs.Everys.{every_kept}
 use Rattle.bx_tree_laws.proofs.Inside.{inside, inside_kept}
@@ -21,7 +21,7 @@ use Rattle.bx_tree_laws.proofs.Stages.{minus, one_elsewhere, one_here, stage_ref
 use Rattle.bx_tree_laws.proofs.Stays.{parent_same, stays_changed, stays_then}
 use Rattle.bx_tree_laws.proofs.Taken.{taken_away, taken_inside, taken_links, taken_named, taken_once, taken_stage, taken_stays}
 use Rattle.bx_tree_laws.proofs.Whole.{plan_of, tree_of}
-use Rattle.bx_tree_files.specs.Entries.{entry_named}
+use Rattle.bx_model.specs.bx_tree_files.specs.Entries.{entry_named}
 use Rattle.bx_tree_laws.proofs.Halves.{taken_out}
 
 module _ (tree : Tree) (was : IsFileTree tree) (directory file : File) (at to : ℕ) (now : Time) (name : List ℕ) (entry : Name)

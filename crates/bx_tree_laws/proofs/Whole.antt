@@ -1,15 +1,15 @@
 -- A file tree is a stage of itself, and a stage that counts what is there is a file tree.
 use Rattle.std.proofs.Common.{◌≡◌, ℕ, ◌+◌, ◌<◌, ◌≤◌, true, List, [], ◌∷◌, Some, Option, refl, sym, ap, ◌∙◌, subst}
 use Rattle.std.specs.Prelude.{◌≢◌, Contains, count_by}
-use Rattle.bx_tree_files.specs.declared.file.Body.{Body}
-use Rattle.bx_tree_files.specs.declared.file.Body.TheVariants.{Bytes, Path, Names}
-use Rattle.bx_tree_files.specs.declared.file.File.{File}
-use Rattle.bx_tree_files.specs.declared.file.Name.{Name}
+use Rattle.bx_model.specs.bx_tree_files.specs.declared.file.Body.{Body}
+use Rattle.bx_model.specs.bx_tree_files.specs.declared.file.Body.TheVariants.{Bytes, Path, Names}
+use Rattle.bx_model.specs.bx_tree_files.specs.declared.file.File.{File}
+use Rattle.bx_model.specs.bx_tree_files.specs.declared.file.Name.{Name}
 use Rattle.bx_model.specs.declared.tree.Tree.{Tree}
-use Rattle.bx_tree_files.specs.Files.{IsFile, IsNumbered, file_at, is_directory}
-use Rattle.bx_tree_files.specs.Entries.{AreBelow}
+use Rattle.bx_model.specs.bx_tree_files.specs.Files.{IsFile, IsNumbered, file_at, is_directory}
+use Rattle.bx_model.specs.bx_tree_files.specs.Entries.{AreBelow}
 use Rattle.bx_model.specs.FileTrees.{HasEntries, IsFileTree, HasLinks, is_directory_at, links_to}
-use Rattle.bx_tree_files.specs.Names.{names_of}
+use Rattle.bx_model.specs.bx_tree_files.specs.Names.{names_of}
 use Rattle.bx_tree_laws.specs.Every.{Every}
 use Rattle.bx_tree_laws.proofs.Counts.{contains_first, contains_later}
 use Rattle.bx_tree_laws.proofs.Halves.{LinksBelowNext}

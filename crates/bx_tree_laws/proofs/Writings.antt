@@ -3,22 +3,22 @@ use Rattle.std.proofs.Common.{◌≡◌, ℕ, ◌+◌, ◌<◌, ◌^◌, arith, 
 use Rattle.std.specs.Prelude.{◌==◌, ◌%◌, ◌&&◌, not, if◌then◌else◌, nat_lt, length, Result, Ok}
 use Rattle.std.proofs.lemmas.Bool.Decides.{nat_tests}
 use Rattle.bx_model.specs.declared.call.Call.{Call}
-use Rattle.bx_tree_files.specs.declared.sattr.Sattr.{Sattr}
-use Rattle.bx_tree_files.specs.declared.file.Body.{Body}
-use Rattle.bx_tree_files.specs.declared.file.Body.TheVariants.{Bytes, Path, Names}
-use Rattle.bx_tree_files.specs.declared.file.File.{File}
+use Rattle.bx_model.specs.bx_tree_files.specs.declared.sattr.Sattr.{Sattr}
+use Rattle.bx_model.specs.bx_tree_files.specs.declared.file.Body.{Body}
+use Rattle.bx_model.specs.bx_tree_files.specs.declared.file.Body.TheVariants.{Bytes, Path, Names}
+use Rattle.bx_model.specs.bx_tree_files.specs.declared.file.File.{File}
 use Rattle.bx_model.specs.declared.permissions.Want.TheVariants as want
 use Rattle.bx_model.specs.declared.reply.Reply.{Reply}
 use Rattle.bx_model.specs.declared.status.TheConstants.{ACCES, FBIG, ISDIR, NXIO, PERM, STALE}
 use Rattle.bx_model.specs.declared.tree.Tree.{Tree}
 use Rattle.bx_model.specs.Edits.{changed}
-use Rattle.bx_tree_files.specs.Files.{is_directory, is_link}
+use Rattle.bx_model.specs.bx_tree_files.specs.Files.{is_directory, is_link}
 use Rattle.bx_model.specs.FileTrees.{IsFileTree}
-use Rattle.bx_tree_files.specs.Names.{names_of}
+use Rattle.bx_model.specs.bx_tree_files.specs.Names.{names_of}
 use Rattle.bx_model.specs.Permissions.{may}
 use Rattle.bx_model.specs.Reading.{named_file, attributes_reply}
-use Rattle.bx_tree_files.specs.Times.{Time, is_given}
-use Rattle.bx_tree_files.specs.Changes.{most_bytes, overwritten, resized, with_data, with_fields, with_size}
+use Rattle.bx_model.specs.bx_tree_files.specs.Times.{Time, is_given}
+use Rattle.bx_model.specs.bx_tree_files.specs.Changes.{most_bytes, overwritten, resized, with_data, with_fields, with_size}
 use Rattle.bx_model.specs.Writing.{is_forbidden, resize_errors, setattr, write, write_errors}
 use Rattle.bx_tree_laws.proofs.Grows.{Follows, follows_same}
 use Rattle.bx_tree_laws.proofs.DirectoryParts.{SameParent}

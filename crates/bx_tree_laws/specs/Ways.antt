@@ -1,9 +1,9 @@
 -- Ways down a tree, from entry to entry.
 use Rattle.std.specs.Prelude.{◌≡◌, ℕ, List, [], ◌∷◌, Contains, Some}
-use Rattle.bx_tree_files.specs.declared.file.File.{File}
-use Rattle.bx_tree_files.specs.declared.file.Name.{Name}
-use Rattle.bx_tree_files.specs.Files.{file_at}
-use Rattle.bx_tree_files.specs.Names.{names_of}
+use Rattle.bx_model.specs.bx_tree_files.specs.declared.file.File.{File}
+use Rattle.bx_model.specs.bx_tree_files.specs.declared.file.Name.{Name}
+use Rattle.bx_model.specs.bx_tree_files.specs.Files.{file_at}
+use Rattle.bx_model.specs.bx_tree_files.specs.Names.{names_of}
 
 -- a file is in a directory: an entry of the directory names it
 pub record IsIn (files : List File) (directory handle : ℕ) : Type 0 where

@@ -2,16 +2,16 @@
 
 ghost use Rattle.std.specs.Prelude.{◌≡◌, ◌≢◌, ◌==◌, ◌+◌, ◌^◌, ◌<◌, ◌≤◌, ℕ, true, false, List, AllPairs, Contains, None, Some, count_by};
 ghost use Rattle.bx_model.specs.declared.call.Call.{Call};
-ghost use Rattle.bx_tree_files.specs.declared.file.Body.TheVariants.{Names};
-ghost use Rattle.bx_tree_files.specs.declared.file.File.{File};
-ghost use Rattle.bx_tree_files.specs.declared.file.Name.{Name};
+ghost use Rattle.bx_model.specs.bx_tree_files.specs.declared.file.Body.TheVariants.{Names};
+ghost use Rattle.bx_model.specs.bx_tree_files.specs.declared.file.File.{File};
+ghost use Rattle.bx_model.specs.bx_tree_files.specs.declared.file.Name.{Name};
 ghost use Rattle.bx_model.specs.declared.reply.Reply.{Reply};
 ghost use Rattle.bx_model.specs.declared.tree.Tree.{Tree};
 ghost use Rattle.bx_model.specs.Act.{act};
-ghost use Rattle.bx_tree_files.specs.Files.{file_at, is_directory};
+ghost use Rattle.bx_model.specs.bx_tree_files.specs.Files.{file_at, is_directory};
 ghost use Rattle.bx_model.specs.FileTrees.{IsFileTree, is_directory_at, links_to};
-ghost use Rattle.bx_tree_files.specs.Entries.{is_bad};
-ghost use Rattle.bx_tree_files.specs.Names.{names_of, next_of};
+ghost use Rattle.bx_model.specs.bx_tree_files.specs.Entries.{is_bad};
+ghost use Rattle.bx_model.specs.bx_tree_files.specs.Names.{names_of, next_of};
 ghost use Rattle.bx_tree_laws.specs.Acting.{PathFits};
 ghost use Rattle.bx_model.specs.Opening.{opening};
 ghost use Rattle.bx_tree_laws.specs.Telling.{HandlesFit};

@@ -6,3 +6,4 @@ pub mod Given
 pub mod Bytes
 pub mod Pieces
 pub mod Sparse
+pub use Rattle.bx_base

@@ -14,3 +14,8 @@ pub use fileids::Fileids;
 pub use handles::Handles;
 pub use name_index::NameIndex;
 pub use times::{given_or, is_given, stored, time_or};
+
+/// What the crates above use of `bx_base`.
+pub mod base {
+    pub use bx_base::{CallNo, List, OutOfMemory, Raw, Words};
+}

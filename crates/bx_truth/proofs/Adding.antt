@@ -1,11 +1,11 @@
 -- An entry is added to a directory by two entries of its tree, or taken; and is looked up by its name.
 use Rattle.std.proofs.Common.{◌≡◌, ℕ, ◌^◌, ◌<◌, inl, inr, arith, List, [], ◌∷◌, ◌++◌, drop, get_or, sym, ap, ◌∙◌, Option, Some, None}
 use Rattle.std.specs.Prelude.{◌≢◌, AllPairs, Contains, bytes_eq, if◌then◌else◌}
-use Rattle.bx_tree_files.specs.declared.file.Body.TheVariants.{Names}
-use Rattle.bx_tree_files.specs.declared.file.File.{File}
-use Rattle.bx_tree_files.specs.declared.file.Name.{Name}
+use Rattle.bx_model.specs.bx_tree_files.specs.declared.file.Body.TheVariants.{Names}
+use Rattle.bx_model.specs.bx_tree_files.specs.declared.file.File.{File}
+use Rattle.bx_model.specs.bx_tree_files.specs.declared.file.Name.{Name}
 use Rattle.bx_model.specs.declared.tree.Tree.{Tree}
-use Rattle.bx_tree_files.specs.Files.{file_at, with_file}
+use Rattle.bx_model.specs.bx_tree_files.specs.Files.{file_at, with_file}
 use Rattle.bx_page.specs.declared.entry.Entry.{Entry}
 use Rattle.bx_page.specs.Contents.{with_entry, value_of}
 use Rattle.bx_truth.specs.Chunks.{chunks_of}

@@ -1,11 +1,11 @@
 -- A dead file is cleaned: its inode stays dead with less, or is gone.
 use Rattle.std.proofs.Common.{◌≡◌, ℕ, ◌⊎◌, inl, inr, arith, Bool, true, false, List, [], ◌∷◌, sym, ap, ◌∙◌, subst, refl, Option, Some, None}
 use Rattle.std.specs.Prelude.{◌≢◌, ◌==◌, if◌then◌else◌}
-use Rattle.bx_layout.specs.declared.block.Block.{Block}
-use Rattle.bx_layout.specs.Areas.{generation_in}
-use Rattle.bx_tree_files.specs.declared.file.File.{File}
+use Rattle.bx_views.specs.bx_layout.specs.declared.block.Block.{Block}
+use Rattle.bx_views.specs.bx_layout.specs.Areas.{generation_in}
+use Rattle.bx_model.specs.bx_tree_files.specs.declared.file.File.{File}
 use Rattle.bx_model.specs.declared.tree.Tree.{Tree}
-use Rattle.bx_tree_files.specs.Files.{file_at}
+use Rattle.bx_model.specs.bx_tree_files.specs.Files.{file_at}
 use Rattle.bx_model.specs.Opening.{root_handle}
 use Rattle.bx_truth.specs.Chunks.{IsSlot, chunks_of, block_at, handle_of, word_at, dead_at}
 use Rattle.bx_truth.specs.Dying.{IsShownDead, MarksSlot, IsDeadFile, without_file}

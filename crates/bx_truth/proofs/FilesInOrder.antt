@@ -4,8 +4,8 @@ use Rattle.std.specs.Prelude.{◌≢◌, ◌==◌, nat_lt, if◌then◌else◌, 
 use Rattle.std.proofs.lemmas.Bool.Decides.{nat_tests}
 use Rattle.std.proofs.lemmas.List.Kept.{AllPairs-cons}
 use Rattle.std.proofs.lemmas.List.Elements.{All-cons, All-head, All-tail}
-use Rattle.bx_tree_files.specs.declared.file.File.{File}
-use Rattle.bx_tree_files.specs.Files.{file_at, with_file}
+use Rattle.bx_model.specs.bx_tree_files.specs.declared.file.File.{File}
+use Rattle.bx_model.specs.bx_tree_files.specs.Files.{file_at, with_file}
 use Rattle.bx_truth.proofs.Cases.{same_or, eq_true, eq_false}
 
 pub file_with : (files : List File) (new : File) (h : ℕ) → file_at (with_file files new) h ≡ (if new.handle == h then Some new else file_at files h)

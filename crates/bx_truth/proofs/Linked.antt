@@ -1,12 +1,12 @@
 -- A link is made.
 use Rattle.std.proofs.Common.{◌≡◌, ℕ, ◌⊎◌, inl, inr, Bool, false, List, sym, ap, ◌∙◌, subst, refl, Option, Some, None}
 use Rattle.std.specs.Prelude.{◌≢◌, ◌==◌, if◌then◌else◌, Contains}
-use Rattle.bx_layout.specs.declared.block.Block.{Block}
-use Rattle.bx_layout.specs.declared.inode.Inode.{Inode}
-use Rattle.bx_tree_files.specs.declared.file.Body.TheVariants.{Path}
-use Rattle.bx_tree_files.specs.declared.file.File.{File}
+use Rattle.bx_views.specs.bx_layout.specs.declared.block.Block.{Block}
+use Rattle.bx_views.specs.bx_layout.specs.declared.inode.Inode.{Inode}
+use Rattle.bx_model.specs.bx_tree_files.specs.declared.file.Body.TheVariants.{Path}
+use Rattle.bx_model.specs.bx_tree_files.specs.declared.file.File.{File}
 use Rattle.bx_model.specs.declared.tree.Tree.{Tree}
-use Rattle.bx_tree_files.specs.Files.{with_file}
+use Rattle.bx_model.specs.bx_tree_files.specs.Files.{with_file}
 use Rattle.bx_truth.specs.Chunks.{chunks_of}
 use Rattle.bx_truth.specs.Stands.{StandsFor, IsOwned, inode_of}
 use Rattle.bx_truth.specs.Stored.{Owner, Inodes, PageOf, DataOf, Stored, HasInode, HasFields, HasBody}

@@ -2,15 +2,15 @@
 use Rattle.std.proofs.Common.{◌≡◌, ℕ, ◌+◌, ◌*◌, ◌%◌, ◌^◌, ◌≤◌, ◌⊎◌, ⊎_elim, inl, inr, arith, Bool, false, List, [], ◌∷◌, ◌++◌, length, sym, ap, ◌∙◌, subst, refl, Option, Some, None}
 use Rattle.std.specs.Prelude.{◌≢◌, ◌==◌, if◌then◌else◌, Contains}
 use Rattle.std.proofs.lemmas.List.{length-append}
-use Rattle.bx_layout.specs.declared.block.Block.{Block}
-use Rattle.bx_layout.specs.declared.inode.Inode.{Inode}
-use Rattle.bx_layout.specs.Areas.{generation_in}
+use Rattle.bx_views.specs.bx_layout.specs.declared.block.Block.{Block}
+use Rattle.bx_views.specs.bx_layout.specs.declared.inode.Inode.{Inode}
+use Rattle.bx_views.specs.bx_layout.specs.Areas.{generation_in}
 use Rattle.bx_places.specs.Places.{block_area, block_slot}
-use Rattle.bx_tree_files.specs.declared.file.Body.{Body}
-use Rattle.bx_tree_files.specs.declared.file.Body.TheVariants.{Bytes, Path, Names}
-use Rattle.bx_tree_files.specs.declared.file.File.{File}
+use Rattle.bx_model.specs.bx_tree_files.specs.declared.file.Body.{Body}
+use Rattle.bx_model.specs.bx_tree_files.specs.declared.file.Body.TheVariants.{Bytes, Path, Names}
+use Rattle.bx_model.specs.bx_tree_files.specs.declared.file.File.{File}
 use Rattle.bx_model.specs.declared.tree.Tree.{Tree}
-use Rattle.bx_tree_files.specs.Files.{with_file}
+use Rattle.bx_model.specs.bx_tree_files.specs.Files.{with_file}
 use Rattle.bx_truth.specs.Opening.{empty_page}
 use Rattle.bx_truth.specs.Chunks.{chunks_of, block_at, word_at}
 use Rattle.bx_truth.specs.Stands.{StandsFor, IsOwned, WasGiven, inode_of}

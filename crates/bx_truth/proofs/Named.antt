@@ -2,11 +2,11 @@
 use Rattle.std.proofs.Common.{◌≡◌, ℕ, ◌+◌, ◌*◌, ◌^◌, arith, true, false, sym, ap, ◌∙◌, refl, Option, Some, None}
 use Rattle.std.specs.Prelude.{◌≢◌}
 use Rattle.std.proofs.lemmas.Bool.Decides.{nat_tests}
-use Rattle.bx_layout.specs.declared.block.Block.{Block}
-use Rattle.bx_layout.specs.Areas.{in_use, generation_in, is_free}
-use Rattle.bx_tree_files.specs.declared.file.File.{File}
+use Rattle.bx_views.specs.bx_layout.specs.declared.block.Block.{Block}
+use Rattle.bx_views.specs.bx_layout.specs.Areas.{in_use, generation_in, is_free}
+use Rattle.bx_model.specs.bx_tree_files.specs.declared.file.File.{File}
 use Rattle.bx_model.specs.declared.tree.Tree.{Tree}
-use Rattle.bx_tree_files.specs.Files.{file_at}
+use Rattle.bx_model.specs.bx_tree_files.specs.Files.{file_at}
 use Rattle.bx_model.specs.Opening.{root_handle}
 use Rattle.bx_truth.specs.Chunks.{IsName, block_at, chunks_of, is_free_at, word_at}
 use Rattle.bx_truth.specs.Stands.{StandsFor}

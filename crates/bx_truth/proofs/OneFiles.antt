@@ -1,14 +1,14 @@
 -- Chunks have one list of files.
 use Rattle.std.proofs.Common.{◌≡◌, ℕ, zero, suc, ◌<◌, ⊎_elim, arith, Bool, List, [], ◌∷◌, sym, ap, ◌∙◌, subst, refl, Option, Some, None}
 use Rattle.std.specs.Prelude.{◌≢◌, if◌then◌else◌, AllPairs, Contains}
-use Rattle.bx_layout.specs.declared.block.Block.{Block}
-use Rattle.bx_layout.specs.declared.inode.Inode.{Inode}
-use Rattle.bx_layout.specs.Inodes.{SpellsInode}
-use Rattle.bx_layout.proofs.InodeFields.{inode_field, parts_of}
-use Rattle.bx_layout.proofs.Payloads.{inode_same}
-use Rattle.bx_base.proofs.Whole.{padded_again}
-use Rattle.bx_tree_files.specs.declared.file.File.{File}
-use Rattle.bx_tree_files.specs.Files.{file_at}
+use Rattle.bx_views.specs.bx_layout.specs.declared.block.Block.{Block}
+use Rattle.bx_views.specs.bx_layout.specs.declared.inode.Inode.{Inode}
+use Rattle.bx_views.specs.bx_layout.specs.Inodes.{SpellsInode}
+use Rattle.bx_views.specs.bx_layout.proofs.InodeFields.{inode_field, parts_of}
+use Rattle.bx_views.specs.bx_layout.proofs.Payloads.{inode_same}
+use Rattle.bx_page.specs.bx_base.proofs.Whole.{padded_again}
+use Rattle.bx_model.specs.bx_tree_files.specs.declared.file.File.{File}
+use Rattle.bx_model.specs.bx_tree_files.specs.Files.{file_at}
 use Rattle.bx_truth.specs.Stored.{Owner, Inodes, PageOf, DataOf, Stored}
 use Rattle.bx_truth.specs.Stands.{IsOwned, IsAnInode, AreFiles}
 use Rattle.bx_truth.specs.PageTrees.{Chunks}

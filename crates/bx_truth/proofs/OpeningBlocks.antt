@@ -2,12 +2,12 @@
 use Rattle.std.proofs.Common.{refl, ◌≡◌, ℕ, ◌^◌, ◌<◌, ◌≤◌, ◌⊎◌, inl, inr, arith}
 use Rattle.std.specs.Prelude.{◌≢◌}
 use Rattle.std.proofs.lemmas.List.{length-replicate}
-use Rattle.bx_base.proofs.Whole.{length-padded}
-use Rattle.bx_layout.specs.Areas.{area_text}
-use Rattle.bx_layout.specs.Blocks.{HasParts, IsOwn}
-use Rattle.bx_layout.specs.Inodes.{inode_text}
-use Rattle.bx_layout.proofs.AreaFields.{length-area_text}
-use Rattle.bx_layout.proofs.InodeFields.{length-inode_text}
+use Rattle.bx_page.specs.bx_base.proofs.Whole.{length-padded}
+use Rattle.bx_views.specs.bx_layout.specs.Areas.{area_text}
+use Rattle.bx_views.specs.bx_layout.specs.Blocks.{HasParts, IsOwn}
+use Rattle.bx_views.specs.bx_layout.specs.Inodes.{inode_text}
+use Rattle.bx_views.specs.bx_layout.proofs.AreaFields.{length-area_text}
+use Rattle.bx_views.specs.bx_layout.proofs.InodeFields.{length-inode_text}
 use Rattle.bx_page.proofs.Whole.{length-page_bytes}
 use Rattle.bx_places.specs.Places.{IsBlock, block_area, block_slot}
 use Rattle.bx_places.specs.Handles.{number_of, own_handle, parts_of}

@@ -4,8 +4,8 @@ use Rattle.std.specs.Prelude.{◌≢◌, replicate, ◌==◌, if◌then◌else�
 use Rattle.std.proofs.lemmas.Bool.Decides.{nat_tests}
 use Rattle.std.proofs.lemmas.List.{length-replicate}
 use Rattle.std.proofs.Math.Nat.{zero-div}
-use Rattle.bx_layout.specs.declared.block.Block.{Block}
-use Rattle.bx_layout.specs.Areas.{IsArea, SpellsArea, bit, in_use, generation_in}
+use Rattle.bx_views.specs.bx_layout.specs.declared.block.Block.{Block}
+use Rattle.bx_views.specs.bx_layout.specs.Areas.{IsArea, SpellsArea, bit, in_use, generation_in}
 use Rattle.bx_places.specs.Places.{block_area, block_slot}
 use Rattle.bx_truth.specs.Chunks.{IsSlot, IsAreaBlock, IsChunked, handle_of, own_block, word_in, word_at, dead_at, dead_in}
 use Rattle.bx_truth.specs.Opening.{opening_truth, opening_slots, opening_words, area_block, root_block, page_block, free_block}

@@ -3,10 +3,10 @@ use Rattle.std.proofs.Common.{◌≡◌, ℕ, zero, suc, ◌+◌, ◌^◌, ◌<�
 use Rattle.std.specs.Prelude.{◌≢◌, ◌&&◌, ◌==◌, if◌then◌else◌, slice_index_or}
 use Rattle.std.proofs.lemmas.Bool.Decides.{nat_tests}
 use Rattle.std.proofs.lemmas.List.{length-append}
-use Rattle.bx_layout.specs.declared.block.Block.{Block}
-use Rattle.bx_layout.specs.Areas.{in_use, generation_in}
-use Rattle.bx_layout.specs.Inodes.{IsInode}
-use Rattle.bx_tree_files.specs.Files.{file_at}
+use Rattle.bx_views.specs.bx_layout.specs.declared.block.Block.{Block}
+use Rattle.bx_views.specs.bx_layout.specs.Areas.{in_use, generation_in}
+use Rattle.bx_views.specs.bx_layout.specs.Inodes.{IsInode}
+use Rattle.bx_model.specs.bx_tree_files.specs.Files.{file_at}
 use Rattle.bx_model.specs.Opening.{opening, opening_root}
 use Rattle.bx_page.specs.Contents.{IsPage}
 use Rattle.bx_page.proofs.Whole.{page_written}

@@ -1,11 +1,11 @@
 -- A piece is cut.
 use Rattle.std.proofs.Common.{◌≡◌, ℕ, ◌/◌, ◌%◌, ◌^◌, ◌<◌, ◌≤◌, ◌⊎◌, inl, inr, arith, false, List, length, sym, ap, ◌∙◌, subst, refl, Option, Some}
 use Rattle.std.specs.Prelude.{◌≢◌, ◌==◌}
-use Rattle.bx_layout.specs.declared.block.Block.{Block}
-use Rattle.bx_tree_files.specs.declared.file.Body.TheVariants.{Bytes}
-use Rattle.bx_tree_files.specs.declared.file.File.{File}
+use Rattle.bx_views.specs.bx_layout.specs.declared.block.Block.{Block}
+use Rattle.bx_model.specs.bx_tree_files.specs.declared.file.Body.TheVariants.{Bytes}
+use Rattle.bx_model.specs.bx_tree_files.specs.declared.file.File.{File}
 use Rattle.bx_model.specs.declared.tree.Tree.{Tree}
-use Rattle.bx_tree_files.specs.Files.{file_at, with_file}
+use Rattle.bx_model.specs.bx_tree_files.specs.Files.{file_at, with_file}
 use Rattle.bx_truth.specs.Chunks.{chunks_of}
 use Rattle.bx_truth.specs.Stands.{StandsFor, inode_of}
 use Rattle.bx_truth.specs.Stored.{AreBytesOf, Owner, DataOf, Stored, HasBody, HasTree, HasContents, IsRegular, byte_in}

@@ -1,7 +1,7 @@
 -- What an inode has once a piece is cut.
 use Rattle.std.proofs.Common.{◌≡◌, ℕ, ◌^◌, ◌<◌, ◌⊎◌, inl, inr, Bool, List, sym, ap, ◌∙◌, refl, Option, Some, None}
 use Rattle.std.specs.Prelude.{◌≢◌, if◌then◌else◌, option_and_then}
-use Rattle.bx_layout.specs.declared.block.Block.{Block}
+use Rattle.bx_views.specs.bx_layout.specs.declared.block.Block.{Block}
 use Rattle.bx_page.specs.Contents.{value_of}
 use Rattle.bx_truth.specs.Keys.{content_key, content_value}
 use Rattle.bx_truth.specs.Stored.{Owner, Inodes, PageOf, DataOf, Stored, HasTree, HasContents, IsContent, piece_of}

@@ -2,13 +2,13 @@
 use Rattle.std.proofs.Common.{◌≡◌, ℕ, ◌^◌, ◌%◌, ◌<◌, ◌≤◌, ◌⊎◌, inl, inr, arith, Bool, true, false, List, [], ◌∷◌, sym, ap, ◌∙◌, subst, refl, Some, None}
 use Rattle.std.specs.Prelude.{◌≢◌, if◌then◌else◌, bytes_eq, unwrap_or, option_map}
 use Rattle.std.proofs.lemmas.Slice.Eq.{bytes_eq-Decides}
-use Rattle.bx_layout.specs.declared.block.Block.{Block}
-use Rattle.bx_layout.specs.Areas.{generation_in}
+use Rattle.bx_views.specs.bx_layout.specs.declared.block.Block.{Block}
+use Rattle.bx_views.specs.bx_layout.specs.Areas.{generation_in}
 use Rattle.bx_views.specs.Truths.{block_in}
-use Rattle.bx_tree_files.specs.declared.file.Body.TheVariants.{Bytes}
-use Rattle.bx_tree_files.specs.declared.file.File.{File}
+use Rattle.bx_model.specs.bx_tree_files.specs.declared.file.Body.TheVariants.{Bytes}
+use Rattle.bx_model.specs.bx_tree_files.specs.declared.file.File.{File}
 use Rattle.bx_model.specs.declared.tree.Tree.{Tree}
-use Rattle.bx_tree_files.specs.Files.{file_at, with_file}
+use Rattle.bx_model.specs.bx_tree_files.specs.Files.{file_at, with_file}
 use Rattle.bx_page.specs.Contents.{value_of}
 use Rattle.bx_truth.specs.Chunks.{chunks_of, block_at, handle_of, own_block, word_at}
 use Rattle.bx_truth.specs.Keys.{content_key, content_value}

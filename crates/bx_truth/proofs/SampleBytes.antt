@@ -3,7 +3,7 @@ use Rattle.std.proofs.Common.{◌≡◌, ℕ, zero, suc, ◌+◌, ◌-◌, ◌/�
 use Rattle.std.specs.Prelude.{◌≢◌, if◌then◌else◌, bytes_eq, option_and_then, replicate}
 use Rattle.std.proofs.lemmas.List.{length-append, length-replicate, get_or-append_right}
 use Rattle.std.proofs.lemmas.Slice.Eq.{bytes_eq-Decides}
-use Rattle.bx_layout.specs.declared.block.Block.{Block}
+use Rattle.bx_views.specs.bx_layout.specs.declared.block.Block.{Block}
 use Rattle.bx_page.specs.Contents.{value_of, with_entry}
 use Rattle.bx_truth.specs.Chunks.{chunks_of}
 use Rattle.bx_truth.specs.Keys.{content_key, content_value}

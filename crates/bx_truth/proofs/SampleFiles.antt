@@ -4,10 +4,10 @@ use Rattle.std.specs.Prelude.{◌≢◌, ◌==◌, if◌then◌else◌, AllPairs
 use Rattle.std.proofs.lemmas.Bool.Decides.{eqb_tells}
 use Rattle.std.proofs.lemmas.List.Elements.{All-cons, All-nil}
 use Rattle.std.proofs.lemmas.List.Kept.{AllPairs-cons}
-use Rattle.bx_layout.specs.declared.block.Block.{Block}
-use Rattle.bx_layout.specs.Areas.{generation_in}
-use Rattle.bx_tree_files.specs.declared.file.File.{File}
-use Rattle.bx_tree_files.specs.Files.{file_at}
+use Rattle.bx_views.specs.bx_layout.specs.declared.block.Block.{Block}
+use Rattle.bx_views.specs.bx_layout.specs.Areas.{generation_in}
+use Rattle.bx_model.specs.bx_tree_files.specs.declared.file.File.{File}
+use Rattle.bx_model.specs.bx_tree_files.specs.Files.{file_at}
 use Rattle.bx_truth.specs.Chunks.{chunks_of, block_at, word_at, dead_at, IsSlot}
 use Rattle.bx_truth.specs.Sample.{nth, root_file, directory_file, regular_file, root_inode, directory_inode, regular_inode, dead_inode, inode_block, sample_truth, sample_tree}
 use Rattle.bx_truth.specs.Stands.{StandsFor, AreFiles, IsOwned, WasGiven, MarksTheDead}

@@ -1,11 +1,11 @@
 -- Whose the chunks of the sample volume are.
 use Rattle.std.proofs.Common.{◌≡◌, ℕ, zero, suc, ◌/◌, ◌^◌, ◌<◌, ◌≤◌, ⊎_elim, inl, inr, arith, List, [], ◌∷◌, get_or, sym, ap, ◌∙◌, subst, refl, Option, Some}
 use Rattle.std.specs.Prelude.{◌≢◌, ◌==◌, if◌then◌else◌, bytes_eq}
-use Rattle.bx_layout.specs.declared.block.Block.{Block}
-use Rattle.bx_layout.specs.declared.inode.Inode.{Inode}
-use Rattle.bx_layout.specs.Inodes.{IsInode}
-use Rattle.bx_tree_files.specs.declared.file.File.{File}
-use Rattle.bx_tree_files.specs.declared.file.Name.{Name}
+use Rattle.bx_views.specs.bx_layout.specs.declared.block.Block.{Block}
+use Rattle.bx_views.specs.bx_layout.specs.declared.inode.Inode.{Inode}
+use Rattle.bx_views.specs.bx_layout.specs.Inodes.{IsInode}
+use Rattle.bx_model.specs.bx_tree_files.specs.declared.file.File.{File}
+use Rattle.bx_model.specs.bx_tree_files.specs.declared.file.Name.{Name}
 use Rattle.bx_page.specs.Contents.{Contents, with_entry}
 use Rattle.bx_truth.specs.Chunks.{chunks_of}
 use Rattle.bx_truth.specs.Keys.{name_key, name_value, entry_key, entry_value}

@@ -1,10 +1,10 @@
 -- The tree of the sample volume is a file tree.
 use Rattle.std.proofs.Common.{◌≡◌, ℕ, zero, suc, ◌<◌, ◌≤◌, ◌⊎◌, inl, inr, arith, true, List, [], ◌∷◌, sym, subst, refl, Some}
 use Rattle.std.specs.Prelude.{◌≢◌, ◌==◌, if◌then◌else◌, Contains, slice_index_or}
-use Rattle.bx_tree_files.specs.declared.file.Body.TheVariants.{Bytes, Names}
-use Rattle.bx_tree_files.specs.declared.file.File.{File}
-use Rattle.bx_tree_files.specs.declared.file.Name.{Name}
-use Rattle.bx_tree_files.specs.Files.{IsFile, file_at, is_directory}
+use Rattle.bx_model.specs.bx_tree_files.specs.declared.file.Body.TheVariants.{Bytes, Names}
+use Rattle.bx_model.specs.bx_tree_files.specs.declared.file.File.{File}
+use Rattle.bx_model.specs.bx_tree_files.specs.declared.file.Name.{Name}
+use Rattle.bx_model.specs.bx_tree_files.specs.Files.{IsFile, file_at, is_directory}
 use Rattle.bx_model.specs.FileTrees.{IsFileTree, IsEntryOf, AreEntriesOf, HasEntries, HasLinks, links_to}
 use Rattle.bx_truth.specs.Sample.{nth, content, in_root, in_directory, root_file, directory_file, regular_file, sample_tree}
 use Rattle.bx_truth.proofs.SampleBytes.{content_long}

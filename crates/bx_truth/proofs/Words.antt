@@ -4,10 +4,10 @@ use Rattle.std.specs.Prelude.{replicate}
 use Rattle.std.specs.Int.{w32, to_be_bytes, from_be_bytes}
 use Rattle.std.proofs.lemmas.List.{get_or-append_right, get_or_append_left, append_assoc}
 use Rattle.std.proofs.lemmas.Nat.{from_be_bytes-to_be_bytes_4}
-use Rattle.bx_base.specs.Bytes.{words}
-use Rattle.bx_layout.specs.declared.area.AreaBlock.{AreaBlock}
-use Rattle.bx_layout.specs.Areas.{SpellsArea, area_text, bit, is_dead}
-use Rattle.bx_layout.proofs.Lengths.{length-words}
+use Rattle.bx_page.specs.bx_base.specs.Bytes.{words}
+use Rattle.bx_views.specs.bx_layout.specs.declared.area.AreaBlock.{AreaBlock}
+use Rattle.bx_views.specs.bx_layout.specs.Areas.{SpellsArea, area_text, bit, is_dead}
+use Rattle.bx_views.specs.bx_layout.proofs.Lengths.{length-words}
 use Rattle.bx_truth.specs.Chunks.{word_in, dead_in}
 
 front_word : (xs rest : List ℕ) (slot : ℕ) → slot < length xs → take 4 (drop (4 * slot) (words xs ++ rest)) ≡ to_be_bytes w32 (get_or xs slot 0)

@@ -3,9 +3,9 @@
 use Rattle.std.specs.Prelude.{◌≡◌, ℕ, ◌+◌, ◌*◌, ◌/◌, ◌%◌, ◌<◌, Bool, true, false, ◌&&◌, ◌==◌, nat_lt, if◌then◌else◌, List, take, drop, Some, None, slice_index}
 use Rattle.std.specs.Int.{w32, from_be_bytes}
 use Rattle.bx_places.specs.Handles.{block_of, number_of, own_handle, parts_of}
-use Rattle.bx_layout.specs.declared.area.AreaBlock.{AreaBlock}
-use Rattle.bx_layout.specs.declared.block.Block.{Block}
-use Rattle.bx_layout.specs.Areas.{SpellsArea, in_use, generation_in, is_free, bit}
+use Rattle.bx_views.specs.bx_layout.specs.declared.area.AreaBlock.{AreaBlock}
+use Rattle.bx_views.specs.bx_layout.specs.declared.block.Block.{Block}
+use Rattle.bx_views.specs.bx_layout.specs.Areas.{SpellsArea, in_use, generation_in, is_free, bit}
 use Rattle.bx_places.specs.Places.{block_area, block_slot}
 use Rattle.bx_views.specs.Truths.{Truth}
 use Rattle.bx_truth.specs.PageTrees.{Chunks}

@@ -1,8 +1,8 @@
 -- A file that dies: its inode and what it has stay as a dead inode's, and are freed later.
 use Rattle.std.specs.Prelude.{◌≡◌, ◌≢◌, ℕ, ◌≤◌, ◌==◌, if◌then◌else◌, Bool, List, [], ◌∷◌, Some, None}
-use Rattle.bx_layout.specs.declared.block.Block.{Block}
-use Rattle.bx_layout.specs.Areas.{generation_in}
-use Rattle.bx_tree_files.specs.declared.file.File.{File}
+use Rattle.bx_views.specs.bx_layout.specs.declared.block.Block.{Block}
+use Rattle.bx_views.specs.bx_layout.specs.Areas.{generation_in}
+use Rattle.bx_model.specs.bx_tree_files.specs.declared.file.File.{File}
 use Rattle.bx_model.specs.declared.tree.Tree.{Tree}
 use Rattle.bx_truth.specs.Chunks.{IsSlot, IsChunked, chunks_of, block_at, word_at, dead_at}
 use Rattle.bx_truth.specs.Stands.{StandsFor}

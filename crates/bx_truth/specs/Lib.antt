@@ -14,3 +14,8 @@ pub mod Dying
 pub mod Pieces
 pub mod Splitting
 pub mod Sample
+pub use Rattle.bx_views.specs.bx_layout
+pub use Rattle.bx_model
+pub use Rattle.bx_views.specs.bx_records
+pub use Rattle.bx_model.specs.bx_tree_files
+pub use Rattle.bx_views

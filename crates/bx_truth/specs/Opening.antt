@@ -1,12 +1,12 @@
 -- The truth of a volume that was just made.
 use Rattle.std.specs.Prelude.{ℕ, ◌+◌, ◌^◌, ◌==◌, if◌then◌else◌, List, [], ◌∷◌, replicate, None}
-use Rattle.bx_base.specs.Writing.{padded}
+use Rattle.bx_page.specs.bx_base.specs.Writing.{padded}
 use Rattle.bx_places.specs.Handles.{number_of, own_handle}
-use Rattle.bx_layout.specs.declared.area.AreaBlock.{AreaBlock}
-use Rattle.bx_layout.specs.declared.block.Block.{Block}
-use Rattle.bx_layout.specs.declared.inode.Inode.{Inode}
-use Rattle.bx_layout.specs.Areas.{area_text}
-use Rattle.bx_layout.specs.Inodes.{inode_text}
+use Rattle.bx_views.specs.bx_layout.specs.declared.area.AreaBlock.{AreaBlock}
+use Rattle.bx_views.specs.bx_layout.specs.declared.block.Block.{Block}
+use Rattle.bx_views.specs.bx_layout.specs.declared.inode.Inode.{Inode}
+use Rattle.bx_views.specs.bx_layout.specs.Areas.{area_text}
+use Rattle.bx_views.specs.bx_layout.specs.Inodes.{inode_text}
 use Rattle.bx_places.specs.Places.{block_area, block_slot}
 use Rattle.bx_model.specs.Opening.{root_handle}
 use Rattle.bx_page.specs.Contents.{Contents}

@@ -1,6 +1,6 @@
 -- A piece of a regular file that is put, in its place or anew, or cut.
 use Rattle.std.specs.Prelude.{◌≡◌, ◌≢◌, ℕ, ◌^◌, ◌<◌, ◌⊎◌, ◌==◌, if◌then◌else◌, List, bytes_eq, Option, Some, None}
-use Rattle.bx_layout.specs.declared.block.Block.{Block}
+use Rattle.bx_views.specs.bx_layout.specs.declared.block.Block.{Block}
 use Rattle.bx_page.specs.Contents.{value_of}
 use Rattle.bx_truth.specs.Keys.{content_key, content_value}
 use Rattle.bx_truth.specs.Stored.{Owner, DataOf, Stored, piece_of}

@@ -2,16 +2,16 @@
 -- that one, of three pieces of which the second is a hole, whose tree has two levels, and a dead inode.
 use Rattle.std.specs.Prelude.{ℕ, ◌+◌, ◌*◌, ◌^◌, ◌==◌, if◌then◌else◌, List, [], ◌∷◌, ◌++◌, replicate, slice_index_or, Some, None}
 use Rattle.std.specs.Int.{w64, to_be_bytes}
-use Rattle.bx_base.specs.Writing.{padded}
+use Rattle.bx_page.specs.bx_base.specs.Writing.{padded}
 use Rattle.bx_places.specs.Handles.{number_of, own_handle}
-use Rattle.bx_layout.specs.declared.area.AreaBlock.{AreaBlock}
-use Rattle.bx_layout.specs.declared.block.Block.{Block}
-use Rattle.bx_layout.specs.declared.inode.Inode.{Inode}
-use Rattle.bx_layout.specs.Areas.{area_text}
-use Rattle.bx_layout.specs.Inodes.{inode_text}
-use Rattle.bx_tree_files.specs.declared.file.Body.TheVariants.{Bytes, Names}
-use Rattle.bx_tree_files.specs.declared.file.File.{File}
-use Rattle.bx_tree_files.specs.declared.file.Name.{Name}
+use Rattle.bx_views.specs.bx_layout.specs.declared.area.AreaBlock.{AreaBlock}
+use Rattle.bx_views.specs.bx_layout.specs.declared.block.Block.{Block}
+use Rattle.bx_views.specs.bx_layout.specs.declared.inode.Inode.{Inode}
+use Rattle.bx_views.specs.bx_layout.specs.Areas.{area_text}
+use Rattle.bx_views.specs.bx_layout.specs.Inodes.{inode_text}
+use Rattle.bx_model.specs.bx_tree_files.specs.declared.file.Body.TheVariants.{Bytes, Names}
+use Rattle.bx_model.specs.bx_tree_files.specs.declared.file.File.{File}
+use Rattle.bx_model.specs.bx_tree_files.specs.declared.file.Name.{Name}
 use Rattle.bx_model.specs.declared.tree.Tree.{Tree}
 use Rattle.bx_model.specs.Opening.{opening_root, root_handle}
 use Rattle.bx_page.specs.declared.entry.Entry.{Entry}

@@ -1,8 +1,8 @@
 -- One file of a truth by itself: what is shown of it, and what stays around it.
 use Rattle.std.specs.Prelude.{◌≡◌, ◌≢◌, ℕ, ◌≤◌, ◌==◌, Some, None}
-use Rattle.bx_layout.specs.declared.block.Block.{Block}
-use Rattle.bx_layout.specs.Areas.{generation_in}
-use Rattle.bx_tree_files.specs.declared.file.File.{File}
+use Rattle.bx_views.specs.bx_layout.specs.declared.block.Block.{Block}
+use Rattle.bx_views.specs.bx_layout.specs.Areas.{generation_in}
+use Rattle.bx_model.specs.bx_tree_files.specs.declared.file.File.{File}
 use Rattle.bx_model.specs.declared.tree.Tree.{Tree}
 use Rattle.bx_page.specs.Contents.{value_of}
 use Rattle.bx_truth.specs.Chunks.{IsSlot, IsChunked, chunks_of, word_at, dead_at}

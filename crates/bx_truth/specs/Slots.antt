@@ -1,7 +1,7 @@
 -- Slots that are taken, freed and marked.
 use Rattle.std.specs.Prelude.{◌≡◌, ◌≢◌, ℕ, Bool, true, slice_index}
-use Rattle.bx_layout.specs.declared.area.AreaBlock.{AreaBlock}
-use Rattle.bx_layout.specs.Areas.{SpellsArea, in_use, generation_in, is_free, taken_word, freed_word, with_word, MarksDead}
+use Rattle.bx_views.specs.bx_layout.specs.declared.area.AreaBlock.{AreaBlock}
+use Rattle.bx_views.specs.bx_layout.specs.Areas.{SpellsArea, in_use, generation_in, is_free, taken_word, freed_word, with_word, MarksDead}
 use Rattle.bx_places.specs.Places.{block_area, block_slot}
 use Rattle.bx_truth.specs.Chunks.{IsAreaBlock, handle_of, own_block}
 use Rattle.bx_views.specs.Truths.{Truth}

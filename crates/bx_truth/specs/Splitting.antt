@@ -1,6 +1,6 @@
 -- A page tree that gets one page more, and keeps its map.
 use Rattle.std.specs.Prelude.{◌≡◌, ◌≢◌, ℕ, ◌⊎◌, Some, None}
-use Rattle.bx_layout.specs.declared.block.Block.{Block}
+use Rattle.bx_views.specs.bx_layout.specs.declared.block.Block.{Block}
 use Rattle.bx_truth.specs.PageTrees.{Chunks, Node, PageTree, IsTree, IsPageOf, map_of}
 use Rattle.bx_truth.specs.Edits.{HasPagesOf}
 

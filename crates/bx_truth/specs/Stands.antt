@@ -1,10 +1,10 @@
 -- The file tree that a truth stands for.
 use Rattle.std.specs.Prelude.{◌≡◌, ◌≢◌, ℕ, ◌%◌, ◌^◌, ◌<◌, ◌≤◌, Bool, true, false, List, AllPairs, Contains, Some, None}
-use Rattle.bx_layout.specs.declared.block.Block.{Block}
-use Rattle.bx_layout.specs.Areas.{generation_in}
-use Rattle.bx_tree_files.specs.declared.file.File.{File}
+use Rattle.bx_views.specs.bx_layout.specs.declared.block.Block.{Block}
+use Rattle.bx_views.specs.bx_layout.specs.Areas.{generation_in}
+use Rattle.bx_model.specs.bx_tree_files.specs.declared.file.File.{File}
 use Rattle.bx_model.specs.declared.tree.Tree.{Tree}
-use Rattle.bx_tree_files.specs.Files.{file_at}
+use Rattle.bx_model.specs.bx_tree_files.specs.Files.{file_at}
 use Rattle.bx_model.specs.Opening.{root_handle}
 use Rattle.bx_page.specs.Contents.{value_of}
 use Rattle.bx_truth.specs.Chunks.{IsSlot, IsChunked, chunks_of, block_at, word_at, dead_at}

@@ -1,10 +1,10 @@
 //! Laws of chunks: the slots of areas, and what a draft or a slot that is taken makes of them.
 
-ghost use Rattle.bx_layout.specs.Areas.{SpellsArea, is_dead};
+ghost use Rattle.bx_views.specs.bx_layout.specs.Areas.{SpellsArea, is_dead};
 ghost use Rattle.bx_views.specs.Truths.{Changed, block_in};
-ghost use Rattle.bx_layout.specs.declared.area.AreaBlock.{AreaBlock};
-ghost use Rattle.bx_layout.specs.declared.block.Block.{Block};
-ghost use Rattle.bx_tree_files.specs.Files.{file_at};
+ghost use Rattle.bx_views.specs.bx_layout.specs.declared.area.AreaBlock.{AreaBlock};
+ghost use Rattle.bx_views.specs.bx_layout.specs.declared.block.Block.{Block};
+ghost use Rattle.bx_model.specs.bx_tree_files.specs.Files.{file_at};
 ghost use Rattle.bx_model.specs.declared.tree.Tree.{Tree};
 ghost use Rattle.bx_truth.specs.Shown.{KeepsSlots};
 ghost use Rattle.bx_truth.specs.Chunks.{IsChunked, IsSlot, block_at, chunks_of, own_block, word_in, dead_in};

@@ -1,8 +1,8 @@
 //! Laws of dead files: they are marked, lose their pieces and are gone.
 
 ghost use Rattle.std.specs.Prelude.{◌≡◌, ◌≢◌, ◌≤◌, ◌==◌, ℕ, Bool, true, false, Some};
-ghost use Rattle.bx_layout.specs.declared.area.AreaBlock.{AreaBlock};
-ghost use Rattle.bx_layout.specs.declared.block.Block.{Block};
+ghost use Rattle.bx_views.specs.bx_layout.specs.declared.area.AreaBlock.{AreaBlock};
+ghost use Rattle.bx_views.specs.bx_layout.specs.declared.block.Block.{Block};
 ghost use Rattle.bx_model.specs.declared.tree.Tree.{Tree};
 ghost use Rattle.bx_truth.specs.Chunks.{IsChunked, IsSlot, block_at, chunks_of};
 ghost use Rattle.bx_truth.specs.Dying.{IsDeadFile, IsShownDead, MarksSlot};

@@ -1,9 +1,9 @@
 //! Laws of directories and their entries.
 
-ghost use Rattle.bx_tree_files.specs.Files.{file_at, with_file};
-ghost use Rattle.bx_tree_files.specs.declared.file.Body.TheVariants.{Names};
-ghost use Rattle.bx_tree_files.specs.declared.file.File.{File};
-ghost use Rattle.bx_tree_files.specs.declared.file.Name.{Name};
+ghost use Rattle.bx_model.specs.bx_tree_files.specs.Files.{file_at, with_file};
+ghost use Rattle.bx_model.specs.bx_tree_files.specs.declared.file.Body.TheVariants.{Names};
+ghost use Rattle.bx_model.specs.bx_tree_files.specs.declared.file.File.{File};
+ghost use Rattle.bx_model.specs.bx_tree_files.specs.declared.file.Name.{Name};
 ghost use Rattle.bx_model.specs.declared.tree.Tree.{Tree};
 ghost use Rattle.bx_page.specs.Contents.{with_entry, value_of};
 ghost use Rattle.bx_page.specs.declared.entry.Entry.{Entry};

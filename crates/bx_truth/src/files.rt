@@ -1,11 +1,11 @@
 //! Laws of edits of one file.
 
-ghost use Rattle.bx_layout.specs.declared.block.Block.{Block};
-ghost use Rattle.bx_layout.specs.declared.inode.Inode.{Inode};
-ghost use Rattle.bx_tree_files.specs.Files.{file_at, with_file};
+ghost use Rattle.bx_views.specs.bx_layout.specs.declared.block.Block.{Block};
+ghost use Rattle.bx_views.specs.bx_layout.specs.declared.inode.Inode.{Inode};
+ghost use Rattle.bx_model.specs.bx_tree_files.specs.Files.{file_at, with_file};
 ghost use Rattle.bx_model.specs.Opening.{root_handle};
-ghost use Rattle.bx_tree_files.specs.declared.file.Body.TheVariants.{Path, Bytes};
-ghost use Rattle.bx_tree_files.specs.declared.file.File.{File};
+ghost use Rattle.bx_model.specs.bx_tree_files.specs.declared.file.Body.TheVariants.{Path, Bytes};
+ghost use Rattle.bx_model.specs.bx_tree_files.specs.declared.file.File.{File};
 ghost use Rattle.bx_model.specs.declared.tree.Tree.{Tree};
 ghost use Rattle.bx_truth.specs.Dying.{IsShownDead, MarksSlot, without_file};
 ghost use Rattle.bx_truth.specs.Edits.{SameSlots, ChunkAnew};

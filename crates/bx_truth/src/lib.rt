@@ -29,3 +29,28 @@ pub use truths::{
     a_new_volume, one_list_of_names, one_tree, other_blocks_do_not_matter, other_files_stay,
     what_is_in_use_has_a_name,
 };
+
+/// What the crates above use of `bx_layout`.
+pub mod layout {
+    pub use bx_views::layout::Block;
+}
+
+/// What the crates above use of `bx_model`.
+pub mod model {
+    pub use bx_model::STALE;
+}
+
+/// What the crates above use of `bx_records`.
+pub mod records {
+    pub use bx_views::records::{Draft, DraftError};
+}
+
+/// What the crates above use of `bx_tree_files`.
+pub mod tree_files {
+    pub use bx_model::{Body, File};
+}
+
+/// What the crates above use of `bx_views`.
+pub mod views {
+    pub use bx_views::View;
+}

@@ -1,8 +1,8 @@
 //! Laws of page trees.
 
-ghost use Rattle.bx_layout.specs.declared.block.Block.{Block};
-ghost use Rattle.bx_tree_files.specs.Files.{file_at};
-ghost use Rattle.bx_tree_files.specs.declared.file.File.{File};
+ghost use Rattle.bx_views.specs.bx_layout.specs.declared.block.Block.{Block};
+ghost use Rattle.bx_model.specs.bx_tree_files.specs.Files.{file_at};
+ghost use Rattle.bx_model.specs.bx_tree_files.specs.declared.file.File.{File};
 ghost use Rattle.bx_model.specs.declared.tree.Tree.{Tree};
 ghost use Rattle.bx_truth.specs.Shown.{KeepsSlots};
 ghost use Rattle.bx_truth.specs.Splitting.{SplitsTree};

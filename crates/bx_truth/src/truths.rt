@@ -1,15 +1,15 @@
 //! Laws of what a truth stands for.
 
-ghost use Rattle.bx_layout.specs.declared.block.Block.{Block};
-ghost use Rattle.bx_tree_files.specs.Files.{file_at};
+ghost use Rattle.bx_views.specs.bx_layout.specs.declared.block.Block.{Block};
+ghost use Rattle.bx_model.specs.bx_tree_files.specs.Files.{file_at};
 ghost use Rattle.bx_model.specs.Listing.{listing};
 ghost use Rattle.bx_model.specs.Opening.{opening};
-ghost use Rattle.bx_tree_files.specs.declared.file.File.{File};
-ghost use Rattle.bx_tree_files.specs.declared.file.Name.{Name};
+ghost use Rattle.bx_model.specs.bx_tree_files.specs.declared.file.File.{File};
+ghost use Rattle.bx_model.specs.bx_tree_files.specs.declared.file.Name.{Name};
 ghost use Rattle.bx_model.specs.declared.tree.Tree.{Tree};
 ghost use Rattle.bx_page.specs.declared.entry.Entry.{Entry};
 ghost use Rattle.bx_truth.specs.Chunks.{IsChunked, IsName, block_at, chunks_of, is_free_at};
-ghost use Rattle.bx_layout.specs.Blocks.{HasParts};
+ghost use Rattle.bx_views.specs.bx_layout.specs.Blocks.{HasParts};
 ghost use Rattle.bx_places.specs.Places.{IsBlock};
 ghost use Rattle.bx_truth.specs.Opening.{opening_truth};
 ghost use Rattle.bx_truth.specs.Stands.{IsOwned, AreFiles, StandsFor, StaysBut, inode_of};

@@ -1,10 +1,10 @@
 -- What an attempt of a call answers.
 use Rattle.std.specs.Prelude.{◌≡◌, ◌≢◌, ℕ, ◌⊎◌, List, [], Contains, None, Some, IsSome, true}
-use Rattle.bx_base.specs.declared.names.Mode.{Mode}
-use Rattle.bx_base.specs.declared.names.Mode.TheVariants.{Exclusive}
+use Rattle.bx_records.specs.bx_base.specs.declared.names.Mode.{Mode}
+use Rattle.bx_records.specs.bx_base.specs.declared.names.Mode.TheVariants.{Exclusive}
 use Rattle.bx_records.specs.Drafts.{Block}
 use Rattle.bx_records.specs.Blocks.{HasParts}
-use Rattle.bx_places.specs.Places.{is_block}
+use Rattle.bx_records.specs.bx_places.specs.Places.{is_block}
 use Rattle.bx_records.specs.Drafts.{Changed, block_in}
 use Rattle.bx_views.specs.declared.attempt.Attempt.{Attempt}
 use Rattle.bx_views.specs.declared.attempt.Attempt.TheVariants.{Need, Change, Inner, Answer}

@@ -1,6 +1,6 @@
 -- Truths: what each block of a volume holds, once all that was acknowledged is home.
 use Rattle.std.specs.Prelude.{◌≡◌, ℕ, ◌==◌, List, Option, Some, None, unwrap_or, if◌then◌else◌}
-use Rattle.bx_base.specs.declared.names.Mode.{Mode}
+use Rattle.bx_records.specs.bx_base.specs.declared.names.Mode.{Mode}
 use Rattle.bx_records.specs.Drafts.{Block}
 pub use Rattle.bx_records.specs.Drafts.{Changed, block_in}
 

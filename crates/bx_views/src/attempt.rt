@@ -1,6 +1,6 @@
 //! What an attempt answers.
 
-use bx_base::Raw;
+use bx_records::base::Raw;
 use bx_records::{Draft, Wants};
 
 /// A call that acted.

@@ -1,9 +1,9 @@
 //! Engines.
 
 ghost use Rattle.std.specs.Prelude.{◌≡◌, ◌≢◌, ℕ, ◌<◌, ◌≤◌, List, true, false, IfNone, IfOk, IfSome};
-ghost use Rattle.bx_base.specs.declared.names.Mode.{Mode};
-ghost use Rattle.bx_base.specs.declared.names.Mode.TheVariants.{Shared};
-ghost use Rattle.bx_places.specs.Places.{is_block};
+ghost use Rattle.bx_records.specs.bx_base.specs.declared.names.Mode.{Mode};
+ghost use Rattle.bx_records.specs.bx_base.specs.declared.names.Mode.TheVariants.{Shared};
+ghost use Rattle.bx_records.specs.bx_places.specs.Places.{is_block};
 ghost use Rattle.bx_records.specs.Drafts.{Changed};
 ghost use Rattle.bx_rpc.specs.Message.{is_message};
 ghost use Rattle.bx_views.specs.Attempts.{ChangesNothing, Deed, Gives, IfActed, IfChange, IfInner, IsAnswer, IsFair, TellsFree, Tidies};
@@ -11,7 +11,7 @@ ghost use Rattle.bx_views.specs.Truths.{Held, Hints, IsTruth, Truth, no_hints, w
 
 use crate::attempt::Attempt;
 use crate::view::View;
-use bx_base::OutOfMemory;
+use bx_records::base::OutOfMemory;
 use std::alloc::Global;
 
 /// What calls do to a tree that stands on the blocks of a volume.

@@ -8,3 +8,13 @@ mod view;
 pub use attempt::{Attempt, Done};
 pub use engine::Engine;
 pub use view::View;
+
+/// What the crates above use of `bx_layout`.
+pub mod layout {
+    pub use bx_records::Block;
+}
+
+/// What the crates above use of `bx_records`.
+pub mod records {
+    pub use bx_records::{Draft, DraftError};
+}

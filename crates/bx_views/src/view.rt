@@ -2,12 +2,12 @@
 
 ghost use Rattle.std.specs.Prelude.{◌≡◌, ℕ, Some};
 ghost use Rattle.std.specs.Option.{option_copied};
-ghost use Rattle.bx_base.specs.declared.names.Mode.TheVariants.{Shared, Exclusive};
+ghost use Rattle.bx_records.specs.bx_base.specs.declared.names.Mode.TheVariants.{Shared, Exclusive};
 ghost use Rattle.bx_records.specs.Drafts.{Block};
 ghost use Rattle.bx_views.specs.Truths.{Held, Hints};
 
-use bx_base::Mode;
 use bx_records::Block;
+use bx_records::base::Mode;
 
 /// Blocks that are held, and hints of others.
 pub trait View {

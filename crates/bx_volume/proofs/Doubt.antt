@@ -7,11 +7,11 @@ use Rattle.bx_disk.specs.Disks.{Image}
 use Rattle.bx_rows.specs.declared.session.SessionRow.{SessionRow}
 use Rattle.bx_rows.specs.Words.{is_taken}
 use Rattle.bx_layout.specs.declared.block.Block.{Block}
-use Rattle.bx_records.specs.Drafts.{block_in}
+use Rattle.bx_truth.specs.bx_records.specs.Drafts.{block_in}
 use Rattle.bx_layout.specs.Labels.{IsOpenGate, gate_word}
 use Rattle.bx_places.specs.Places.{IsBlock, gate_place}
 use Rattle.bx_volume.specs.Records.{Logged, IsInBody, StandOpen, gate_of, newest_in}
-use Rattle.bx_views.specs.Truths.{Truth, with_draft}
+use Rattle.bx_truth.specs.bx_views.specs.Truths.{Truth, with_draft}
 use Rattle.bx_volume.specs.Overlay.{Logs, IsTruth, IsHome, Matters, WritesOnly, with_log}
 use Rattle.bx_volume.proofs.Matters.{truth_same}
 use Rattle.bx_truth.proofs.Cases.{same_or, eq_true, eq_false}

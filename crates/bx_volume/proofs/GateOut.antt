@@ -5,12 +5,12 @@ use Rattle.bx_disk.specs.Disks.{Image, Disks, IsImage}
 use Rattle.bx_rows.specs.declared.session.SessionRow.{SessionRow}
 use Rattle.bx_rows.specs.Words.{is_taken}
 use Rattle.bx_layout.specs.declared.block.Block.{Block}
-use Rattle.bx_records.specs.Drafts.{block_in}
+use Rattle.bx_truth.specs.bx_records.specs.Drafts.{block_in}
 use Rattle.bx_layout.specs.Labels.{IsOpenGate}
 use Rattle.bx_places.specs.Places.{IsBlock, gate_place, body_place}
 use Rattle.bx_volume.specs.Images.{devices_of, member_disk}
 use Rattle.bx_volume.specs.Records.{Logged, IsInBody, gate_of, newest_in}
-use Rattle.bx_views.specs.Truths.{Truth, with_draft}
+use Rattle.bx_truth.specs.bx_views.specs.Truths.{Truth, with_draft}
 use Rattle.bx_volume.specs.Overlay.{Logs, IsHome, IsSureAs, IsTruth, IsUnlogged, Matters, MattersMore, Gate, Body, Home, filled_of, with_log}
 use Rattle.bx_volume.proofs.Doubt.{gate_in_doubt, closing_in_doubt}
 use Rattle.bx_volume.proofs.Sizes.{filled_below, filled_there}

@@ -5,7 +5,7 @@ use Rattle.bx_disk.specs.Disks.{Image, Disks, IsImage}
 use Rattle.bx_rows.specs.declared.session.SessionRow.{SessionRow}
 use Rattle.bx_rows.specs.Words.{is_taken}
 use Rattle.bx_places.specs.Places.{IsVolume, AreApart, block_place}
-use Rattle.bx_views.specs.Truths.{Truth}
+use Rattle.bx_truth.specs.bx_views.specs.Truths.{Truth}
 use Rattle.bx_truth.proofs.Cases.{same_or}
 use Rattle.bx_volume.specs.Images.{devices_of, member_disk}
 use Rattle.bx_volume.specs.Overlay.{Logs, IsTruth, IsUnlogged, IsOfLogged, Matters, Gate, Body, Home}

@@ -8,7 +8,7 @@ use Rattle.bx_places.specs.Places.{IsBlock, block_place, gate_place, body_place}
 use Rattle.bx_volume.specs.Images.{devices_of, member_disk}
 use Rattle.bx_volume.specs.Records.{Logged, StandOpen, IsLog, LogWhere, gate_of}
 use Rattle.bx_rows.specs.Words.{is_taken}
-use Rattle.bx_views.specs.Truths.{Truth}
+use Rattle.bx_truth.specs.bx_views.specs.Truths.{Truth}
 use Rattle.bx_volume.specs.Overlay.{Logs, IsTruth, IsHome, IsUnlogged, Matters, Gate, Body, Home, filled_of}
 use Rattle.bx_volume.proofs.Kept.{has_log}
 use Rattle.bx_volume.proofs.Sizes.{block_bytes, filled_below, filled_there, logged_sectors}

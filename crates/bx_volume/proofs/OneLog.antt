@@ -7,14 +7,14 @@ use Rattle.bx_base.specs.Writing.{padded}
 use Rattle.bx_base.proofs.Whole.{padded_again}
 use Rattle.bx_rows.specs.declared.session.SessionRow.{SessionRow}
 use Rattle.bx_rows.specs.Words.{is_taken}
-use Rattle.bx_records.specs.declared.record_head.RecordHead.{RecordHead}
+use Rattle.bx_truth.specs.bx_records.specs.declared.record_head.RecordHead.{RecordHead}
 use Rattle.bx_layout.specs.Blocks.{HasParts, block_text}
-use Rattle.bx_records.specs.Drafts.{Changed}
+use Rattle.bx_truth.specs.bx_records.specs.Drafts.{Changed}
 use Rattle.bx_layout.specs.Labels.{IsOpenGate}
 use Rattle.bx_places.specs.Places.{IsBlock, body_place}
-use Rattle.bx_records.specs.Records.{IsHead, head_text}
-use Rattle.bx_records.proofs.HeadFields.{head_field}
-use Rattle.bx_records.proofs.Sectors.{head_same}
+use Rattle.bx_truth.specs.bx_records.specs.Records.{IsHead, head_text}
+use Rattle.bx_truth.specs.bx_records.proofs.HeadFields.{head_field}
+use Rattle.bx_truth.specs.bx_records.proofs.Sectors.{head_same}
 use Rattle.bx_volume.specs.Records.{Logged, IsInBody, StandOpen, IsLog, HasLog, LogWhere, gate_of, logged_text}
 use Rattle.bx_volume.proofs.Sizes.{block_bytes, head_long, first_fits, whole_sectors}
 use Rattle.bx_volume.proofs.OneTruth.{one_text, one_block}

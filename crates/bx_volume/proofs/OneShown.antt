@@ -4,13 +4,13 @@ use Rattle.bx_disk.specs.Disks.{Image}
 use Rattle.bx_rows.specs.declared.session.SessionRow.{SessionRow}
 use Rattle.bx_global.specs.declared.state.GlobalState.{GlobalState}
 use Rattle.bx_layout.specs.declared.label.Label.{Label}
-use Rattle.bx_model.specs.declared.tree.Tree.{Tree}
+use Rattle.bx_tree_laws.specs.bx_model.specs.declared.tree.Tree.{Tree}
 use Rattle.bx_truth.specs.Chunks.{chunks_of}
 use Rattle.bx_volume.specs.Images.{IsFirstLabel, ShowsTree, devices_of}
 use Rattle.bx_volume.specs.Records.{Logged, HasLog, newest_in}
 use Rattle.bx_truth.specs.Stands.{StandsFor}
 use Rattle.bx_truth.specs.Truth.{AreSame}
-use Rattle.bx_views.specs.Truths.{Truth}
+use Rattle.bx_truth.specs.bx_views.specs.Truths.{Truth}
 use Rattle.bx_volume.specs.Overlay.{Logs, IsTruth}
 use Rattle.bx_truth.proofs.OneFiles.{one_list}
 use Rattle.bx_volume.proofs.OneLog.{one_has_log}

@@ -8,7 +8,7 @@ use Rattle.bx_rows.specs.declared.device.DeviceRow.{DeviceRow}
 use Rattle.bx_rows.specs.Modes.{IsReadAtA}
 use Rattle.bx_global.specs.declared.state.GlobalState.{GlobalState}
 use Rattle.bx_layout.specs.declared.label.Label.{Label}
-use Rattle.bx_model.specs.declared.tree.Tree.{Tree}
+use Rattle.bx_tree_laws.specs.bx_model.specs.declared.tree.Tree.{Tree}
 use Rattle.bx_volume.specs.Images.{IsFirstLabel, AreReadFrom, ShowsTree, ImageStandsFor, by_device, devices_of, member_disk}
 use Rattle.bx_volume.specs.Overlay.{Logs, Matters, Gate, Body, Home}
 use Rattle.bx_volume.proofs.Matters.{truth_same}

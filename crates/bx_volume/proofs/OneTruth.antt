@@ -15,7 +15,7 @@ use Rattle.bx_places.specs.Places.{block_place}
 use Rattle.bx_volume.specs.Images.{by_device, devices_of, member_disk}
 use Rattle.bx_volume.specs.Records.{newest_in}
 use Rattle.bx_truth.specs.Truth.{AreSame}
-use Rattle.bx_views.specs.Truths.{Truth}
+use Rattle.bx_truth.specs.bx_views.specs.Truths.{Truth}
 use Rattle.bx_volume.specs.Overlay.{Logs, IsTruth, IsHome}
 use Rattle.bx_truth.proofs.Cases.{found}
 use Rattle.bx_volume.proofs.Sizes.{block_bytes}

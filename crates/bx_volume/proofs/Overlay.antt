@@ -4,11 +4,11 @@ use Rattle.std.specs.Prelude.{◌≢◌, unwrap_or}
 use Rattle.bx_disk.specs.Disks.{Image}
 use Rattle.bx_rows.specs.declared.session.SessionRow.{SessionRow}
 use Rattle.bx_layout.specs.declared.block.Block.{Block}
-use Rattle.bx_records.specs.Drafts.{block_in}
+use Rattle.bx_truth.specs.bx_records.specs.Drafts.{block_in}
 use Rattle.bx_places.specs.Places.{IsBlock}
 use Rattle.bx_truth.proofs.Cases.{same_or, eq_true, eq_false, found}
 use Rattle.bx_volume.specs.Records.{Logged, HasLog, newest_in, or_older}
-use Rattle.bx_views.specs.Truths.{Truth, with_draft}
+use Rattle.bx_truth.specs.bx_views.specs.Truths.{Truth, with_draft}
 use Rattle.bx_volume.specs.Overlay.{Logs, IsTruth, IsHome, IsUnlogged, with_log}
 
 pub log_here : (logs : Logs) (slot : ℕ) (records : List Logged) → with_log logs slot records slot ≡ records

@@ -10,12 +10,12 @@ use Rattle.bx_rows.specs.Words.{is_taken}
 use Rattle.bx_layout.specs.declared.label.Label.{Label}
 use Rattle.bx_layout.specs.Labels.{IsOpenGate}
 use Rattle.bx_places.specs.Places.{IsBlock}
-use Rattle.bx_model.specs.declared.tree.Tree.{Tree}
-use Rattle.bx_model.specs.FileTrees.{IsFileTree}
+use Rattle.bx_tree_laws.specs.bx_model.specs.declared.tree.Tree.{Tree}
+use Rattle.bx_tree_laws.specs.bx_model.specs.FileTrees.{IsFileTree}
 use Rattle.bx_volume.specs.AtRest.{IsAtRest}
 use Rattle.bx_volume.specs.Images.{ShowsTree, devices_of}
 use Rattle.bx_truth.specs.Stands.{StandsFor}
-use Rattle.bx_views.specs.Truths.{Truth}
+use Rattle.bx_truth.specs.bx_views.specs.Truths.{Truth}
 use Rattle.bx_volume.specs.Records.{Logged, HasLog, LogWhere, gate_of}
 use Rattle.bx_volume.specs.Overlay.{IsHome}
 use Rattle.bx_volume.specs.Volumes.{Reading, InDoubt, IsVolumeFor}

@@ -7,10 +7,10 @@ use Rattle.bx_base.specs.Writing.{padded}
 use Rattle.bx_base.proofs.Whole.{length-padded}
 use Rattle.bx_layout.specs.declared.block.Block.{Block}
 use Rattle.bx_layout.specs.Blocks.{HasParts, block_text}
-use Rattle.bx_records.specs.Drafts.{Changed}
+use Rattle.bx_truth.specs.bx_records.specs.Drafts.{Changed}
 use Rattle.bx_places.specs.Places.{IsBlock}
-use Rattle.bx_records.specs.Records.{head_text}
-use Rattle.bx_records.proofs.HeadFields.{length-head_text}
+use Rattle.bx_truth.specs.bx_records.specs.Records.{head_text}
+use Rattle.bx_truth.specs.bx_records.proofs.HeadFields.{length-head_text}
 use Rattle.bx_truth.proofs.Cases.{eq_true, eq_false}
 use Rattle.bx_volume.specs.Overlay.{filled_of}
 use Rattle.bx_volume.specs.Records.{Logged, IsLogged, logged_text}

@@ -5,11 +5,11 @@ use Rattle.bx_disk.specs.Disks.{Image}
 use Rattle.bx_rows.specs.declared.session.SessionRow.{SessionRow}
 use Rattle.bx_rows.specs.Words.{is_taken}
 use Rattle.bx_layout.specs.declared.block.Block.{Block}
-use Rattle.bx_records.specs.Drafts.{block_in}
+use Rattle.bx_truth.specs.bx_records.specs.Drafts.{block_in}
 use Rattle.bx_layout.specs.Labels.{IsOpenGate}
 use Rattle.bx_places.specs.Places.{IsVolume, IsBlock, block_place, log_start, log_device, gate_place, body_place}
 use Rattle.bx_volume.specs.Records.{Logged, IsInBody, IsLog, HasLog, LogWhere, gate_of, newest_in}
-use Rattle.bx_views.specs.Truths.{Truth, with_draft}
+use Rattle.bx_truth.specs.bx_views.specs.Truths.{Truth, with_draft}
 use Rattle.bx_volume.specs.Overlay.{Logs, IsTruth, IsHome, IsUnlogged, WritesOnly, with_log}
 use Rattle.bx_volume.proofs.Apart.{home_and_log, two_homes}
 use Rattle.bx_volume.proofs.Kept.{home_kept, log_kept, stand_kept, body_kept, gate_kept, log_apart, has_log}

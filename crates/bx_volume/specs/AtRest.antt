@@ -6,7 +6,7 @@ use Rattle.bx_layout.specs.declared.label.Label.{Label}
 use Rattle.bx_layout.specs.Labels.{IsOpenGate}
 use Rattle.bx_places.specs.Places.{IsBlock}
 use Rattle.bx_volume.specs.Images.{IsFirstLabel, IsLabelled, devices_of, member_disk}
-use Rattle.bx_views.specs.Truths.{Truth}
+use Rattle.bx_truth.specs.bx_views.specs.Truths.{Truth}
 use Rattle.bx_volume.specs.Records.{gate_of}
 use Rattle.bx_volume.specs.Overlay.{IsHome}
 

@@ -7,10 +7,10 @@ use Rattle.bx_rows.specs.Modes.{IsReadAtA, IsSource}
 use Rattle.bx_layout.specs.declared.label.Label.{Label}
 use Rattle.bx_layout.specs.Labels.{SpellsLabel}
 use Rattle.bx_places.specs.Places.{disk_count, disk_sectors}
-use Rattle.bx_model.specs.declared.tree.Tree.{Tree}
-use Rattle.bx_model.specs.FileTrees.{IsFileTree}
+use Rattle.bx_tree_laws.specs.bx_model.specs.declared.tree.Tree.{Tree}
+use Rattle.bx_tree_laws.specs.bx_model.specs.FileTrees.{IsFileTree}
 use Rattle.bx_truth.specs.Stands.{StandsFor}
-use Rattle.bx_views.specs.Truths.{Truth}
+use Rattle.bx_truth.specs.bx_views.specs.Truths.{Truth}
 use Rattle.bx_volume.specs.Overlay.{Logs, IsTruth}
 
 -- the disk of a device's member A (false) or B (true)

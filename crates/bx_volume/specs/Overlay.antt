@@ -6,7 +6,7 @@ use Rattle.bx_rows.specs.declared.session.SessionRow.{SessionRow}
 use Rattle.bx_layout.specs.declared.block.Block.{Block}
 use Rattle.bx_layout.specs.Blocks.{HasParts, block_text}
 use Rattle.bx_places.specs.Places.{IsBlock, block_place, gate_place, body_place}
-use Rattle.bx_views.specs.Truths.{Truth}
+use Rattle.bx_truth.specs.bx_views.specs.Truths.{Truth}
 use Rattle.bx_volume.specs.Records.{Logged, HasLog, logged_text, newest_in}
 
 -- the records of the log slots, by slot

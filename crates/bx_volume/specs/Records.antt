@@ -7,12 +7,12 @@ use Rattle.bx_calls.specs.Regions.{ReadsAs}
 use Rattle.bx_rows.specs.declared.session.SessionRow.{SessionRow}
 use Rattle.bx_rows.specs.Words.{is_taken}
 use Rattle.bx_layout.specs.declared.block.Block.{Block}
-use Rattle.bx_records.specs.declared.record_head.RecordHead.{RecordHead}
+use Rattle.bx_truth.specs.bx_records.specs.declared.record_head.RecordHead.{RecordHead}
 use Rattle.bx_layout.specs.Blocks.{HasParts, block_text}
-use Rattle.bx_records.specs.Drafts.{Changed, IsDraft, block_in}
+use Rattle.bx_truth.specs.bx_records.specs.Drafts.{Changed, IsDraft, block_in}
 use Rattle.bx_layout.specs.Labels.{IsOpenGate}
 use Rattle.bx_places.specs.Places.{IsBlock, gate_place, body_place}
-use Rattle.bx_records.specs.Records.{IsHead, head_text}
+use Rattle.bx_truth.specs.bx_records.specs.Records.{IsHead, head_text}
 
 -- a record: its header, and the blocks behind it with their numbers
 pub record Logged : Type 0 where

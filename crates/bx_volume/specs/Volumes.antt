@@ -4,10 +4,10 @@ use Rattle.bx_disk.specs.Disks.{Image, Disks, IsImage}
 use Rattle.bx_global.specs.declared.state.GlobalState.{GlobalState}
 use Rattle.bx_rows.specs.Words.{is_taken}
 use Rattle.bx_layout.specs.declared.block.Block.{Block}
-use Rattle.bx_records.specs.Drafts.{block_in}
+use Rattle.bx_truth.specs.bx_records.specs.Drafts.{block_in}
 use Rattle.bx_layout.specs.Labels.{IsOpenGate}
 use Rattle.bx_places.specs.Places.{IsBlock, block_place, body_place}
-use Rattle.bx_model.specs.declared.tree.Tree.{Tree}
+use Rattle.bx_tree_laws.specs.bx_model.specs.declared.tree.Tree.{Tree}
 use Rattle.bx_volume.specs.Images.{devices_of, AreSources, ShowsTree}
 use Rattle.bx_volume.specs.Records.{Logged, HasLog, gate_of, newest_in}
 use Rattle.bx_volume.specs.Overlay.{IsHome, filled_of}

@@ -3,13 +3,13 @@
 ghost use Rattle.bx_disk.specs.Disks.{Image, Disks, IsImage};
 ghost use Rattle.bx_rows.specs.Words.{is_taken};
 ghost use Rattle.bx_rows.specs.declared.session.SessionRow.{SessionRow};
-ghost use Rattle.bx_records.specs.Drafts.{block_in};
+ghost use Rattle.bx_truth.specs.bx_records.specs.Drafts.{block_in};
 ghost use Rattle.bx_layout.specs.Labels.{IsOpenGate};
 ghost use Rattle.bx_places.specs.Places.{IsBlock, gate_place};
 ghost use Rattle.bx_layout.specs.declared.block.Block.{Block};
 ghost use Rattle.bx_volume.specs.Images.{devices_of, member_disk};
 ghost use Rattle.bx_volume.specs.Records.{Logged, IsInBody, gate_of, newest_in};
-ghost use Rattle.bx_views.specs.Truths.{Truth, with_draft};
+ghost use Rattle.bx_truth.specs.bx_views.specs.Truths.{Truth, with_draft};
 ghost use Rattle.bx_volume.specs.Overlay.{Logs, IsSureAs, IsTruth, Matters, MattersMore, IsHome, with_log};
 ghost use Rattle.std.specs.Prelude.{◌≡◌, ◌≢◌, ◌⊎◌, ℕ, ◌+◌, ◌<◌, Bool, true, false, List, [], ◌∷◌, length, Some, None};
 

@@ -6,7 +6,7 @@ ghost use Rattle.bx_layout.specs.Labels.{IsOpenGate};
 ghost use Rattle.bx_places.specs.Places.{IsBlock};
 ghost use Rattle.bx_volume.specs.Records.{Logged, HasLog, gate_of};
 ghost use Rattle.bx_truth.specs.Truth.{AreSame};
-ghost use Rattle.bx_views.specs.Truths.{Truth};
+ghost use Rattle.bx_truth.specs.bx_views.specs.Truths.{Truth};
 ghost use Rattle.bx_volume.specs.Overlay.{Logs, IsTruth, IsHome};
 ghost use Rattle.std.specs.Prelude.{◌≡◌, ℕ, ◌<◌, List, []};
 

@@ -1,6 +1,6 @@
 -- What a whole chain leaves of sessions.
 use Rattle.std.proofs.Common.{inl, inr, ℕ, ◌<◌, ◌≤◌, List, [], ◌∷◌, refl, sym, ap, subst, arith}
-use Rattle.bx_facts.specs.Chains.{AreLegal, Chain, HasRow, IsAmong, IsPlace, LivesIn, last, state_after}
+use Rattle.bx_locking.specs.bx_facts.specs.Chains.{AreLegal, Chain, HasRow, IsAmong, IsPlace, LivesIn, last, state_after}
 use Rattle.bx_global.specs.Allowed.{IsAllowed}
 use Rattle.bx_global.specs.declared.change.Change.{Change}
 use Rattle.bx_global.specs.declared.state.GlobalState.{GlobalState}

@@ -3,7 +3,7 @@ use Rattle.std.proofs.Common.{◌≡◌, ◌≢◌, ◌⊎◌, ⊎_elim, inl, in
 use Rattle.std.specs.Prelude.{◌==◌, IsSome, IsSomeAnd}
 use Rattle.std.specs.List.{AllByRecursion}
 use Rattle.std.proofs.lemmas.Bool.Decides.{nat_tests}
-use Rattle.bx_facts.specs.Chains.{HasRow, LivesIn}
+use Rattle.bx_locking.specs.bx_facts.specs.Chains.{HasRow, LivesIn}
 use Rattle.bx_global.specs.Allowed.{IsAllowed, AreRising, HaveOwnSlots, IsSession}
 use Rattle.bx_global.specs.declared.change.Change.{Change}
 use Rattle.bx_global.specs.declared.change.Change.TheVariants.{Renew, Take, Open, Expire, Claim, Close, Shift}

@@ -3,7 +3,7 @@ use Rattle.std.proofs.Common.{◌≡◌, ◌⊎◌, ⊎_elim, inl, inr, ℕ, ◌
 use Rattle.std.specs.Prelude.{◌==◌, ◌&&◌, find, if◌then◌else◌}
 use Rattle.std.specs.List.{AllByRecursion}
 use Rattle.std.proofs.lemmas.Bool.Decides.{nat_tests}
-use Rattle.bx_facts.specs.Chains.{Chain, IsPlace, LivesIn, last, number_in, session_by}
+use Rattle.bx_locking.specs.bx_facts.specs.Chains.{Chain, IsPlace, LivesIn, last, number_in, session_by}
 use Rattle.bx_global.specs.Allowed.{AreRising, IsAllowed}
 use Rattle.bx_global.specs.declared.state.GlobalState.{GlobalState}
 use Rattle.bx_locking.specs.Owned.{CameOf, IsRowIn}

@@ -1,6 +1,6 @@
 -- Whose a log slot is to write.
 use Rattle.std.specs.Prelude.{◌≡◌, ◌⊎◌, ℕ, true, false, Some}
-use Rattle.bx_facts.specs.Chains.{Chain, IsPlace, LivesIn}
+use Rattle.bx_locking.specs.bx_facts.specs.Chains.{Chain, IsPlace, LivesIn}
 use Rattle.bx_global.specs.Allowed.{IsAllowed}
 use Rattle.bx_global.specs.declared.change.Change.{Change}
 use Rattle.bx_global.specs.declared.change.Change.TheVariants.{Close}

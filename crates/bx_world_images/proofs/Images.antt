@@ -5,11 +5,11 @@ use Rattle.bx_disk.specs.Disks.{Image}
 use Rattle.bx_layout.specs.Labels.{IsOpenGate}
 use Rattle.bx_places.specs.Places.{IsBlock, block_place, body_place, gate_place}
 use Rattle.bx_records.specs.Drafts.{Block, block_in}
-use Rattle.bx_redo.specs.Stands.{AreClosed, IsAlone, IsUnderWay, LogStands, Shows as ShowsOne}
-use Rattle.bx_redo.specs.Stands as log
-use Rattle.bx_redo.specs.declared.work.Work.{Work}
-use Rattle.bx_redo.specs.declared.work.Work.TheVariants as works
-use Rattle.bx_redo.proofs.Shown.{shown as shows_one}
+use Rattle.bx_world_logs.specs.bx_redo.specs.Stands.{AreClosed, IsAlone, IsUnderWay, LogStands, Shows as ShowsOne}
+use Rattle.bx_world_logs.specs.bx_redo.specs.Stands as log
+use Rattle.bx_world_logs.specs.bx_redo.specs.declared.work.Work.{Work}
+use Rattle.bx_world_logs.specs.bx_redo.specs.declared.work.Work.TheVariants as works
+use Rattle.bx_world_logs.specs.bx_redo.proofs.Shown.{shown as shows_one}
 use Rattle.bx_rows.specs.declared.session.SessionRow.{SessionRow}
 use Rattle.bx_rows.specs.Words.{is_taken}
 use Rattle.bx_views.specs.Truths.{Truth, with_draft}

@@ -3,12 +3,12 @@
 use Rattle.std.proofs.Common.{◌≡◌, ◌≢◌, ◌⊎◌, inl, inr, ℕ, ◌+◌, ◌*◌, ◌/◌, ◌<◌, Bool, true, false, List, [], ◌∷◌, length, IsSome, refl, sym, ◌∙◌, ap, subst, arith}
 use Rattle.bx_disk.specs.Disks.{Image}
 use Rattle.bx_places.specs.Places.{IsBlock, block_place, body_place, gate_place, log_device, log_start}
-use Rattle.bx_redo.specs.Stands.{LogStands, Shows as ShowsOne}
-use Rattle.bx_redo.specs.Stands as log
-use Rattle.bx_redo.specs.declared.work.Work.{Work}
-use Rattle.bx_redo.specs.declared.work.Work.TheVariants as works
-use Rattle.bx_redo.proofs.Shown.{shown as shows_one}
-use Rattle.bx_redo.proofs.Within.{before_it, behind_it}
+use Rattle.bx_world_logs.specs.bx_redo.specs.Stands.{LogStands, Shows as ShowsOne}
+use Rattle.bx_world_logs.specs.bx_redo.specs.Stands as log
+use Rattle.bx_world_logs.specs.bx_redo.specs.declared.work.Work.{Work}
+use Rattle.bx_world_logs.specs.bx_redo.specs.declared.work.Work.TheVariants as works
+use Rattle.bx_world_logs.specs.bx_redo.proofs.Shown.{shown as shows_one}
+use Rattle.bx_world_logs.specs.bx_redo.proofs.Within.{before_it, behind_it}
 use Rattle.bx_rows.specs.declared.session.SessionRow.{SessionRow}
 use Rattle.bx_rows.specs.Words.{is_taken}
 use Rattle.bx_truth.proofs.Cases.{same_or}

@@ -26,7 +26,7 @@ use Rattle.bx_volume.proofs.Sizes.{block_bytes}
 use Rattle.bx_world_logs.specs.Logs.{AreHomed, Activity, OfLog, Found, Finds, IsLogOf, LogsStand, Slot, SlotStands, closes, opens}
 use Rattle.bx_world_logs.specs.Shown.{IsRun, IsShown, ShowsTo}
 use Rattle.bx_world_images.proofs.Images.{body_sure, home_sure, images_show, run_of}
-use Rattle.bx_redo.specs.declared.work.Work.TheVariants as works
+use Rattle.bx_world_logs.specs.bx_redo.specs.declared.work.Work.TheVariants as works
 
 -- what stands in a sector of a device, by each member that is a source in a state, in an image
 abbrev pub SureIn : Image → GlobalState → ℕ → ℕ → List ℕ → Type 0

@@ -7,8 +7,8 @@ use Rattle.bx_redo.specs.declared.work.Work.TheVariants as works
 use Rattle.bx_rows.specs.declared.session.SessionRow.{SessionRow}
 use Rattle.bx_rows.specs.Words.{is_taken}
 use Rattle.bx_views.specs.Truths.{Truth}
-use Rattle.bx_volume.specs.Overlay.{Logs}
-use Rattle.bx_volume.specs.Records.{Logged, LogWhere}
+use Rattle.bx_redo.specs.bx_volume.specs.Overlay.{Logs}
+use Rattle.bx_redo.specs.bx_volume.specs.Records.{Logged, LogWhere}
 use Rattle.bx_world_logs.specs.Logs.{Activity, OfLog, Found, Finds, IsLogOf, IsShut, LogsStand, Slot, SlotStands, idle, writes_in}
 use Rattle.bx_world_logs.proofs.Regions.{idle_writes}
 

@@ -3,19 +3,19 @@ use Rattle.std.proofs.Common.{◌≡◌, ◌≢◌, ◌⊎◌, inl, inr, ℕ, �
 use Rattle.std.specs.Prelude.{◌==◌, if◌then◌else◌}
 use Rattle.bx_base.specs.declared.names.Point.{Point}
 use Rattle.bx_disk.specs.Disks.{Image}
-use Rattle.bx_layout.specs.Labels.{IsOpenGate}
+use Rattle.bx_views.specs.bx_layout.specs.Labels.{IsOpenGate}
 use Rattle.bx_places.specs.Places.{IsBlock, block_place, body_place, gate_place, log_start}
-use Rattle.bx_records.specs.Drafts.{Block, block_in}
+use Rattle.bx_views.specs.bx_records.specs.Drafts.{Block, block_in}
 use Rattle.bx_redo.specs.Stands.{AreClosed, IsAlone, IsUnderWay}
 use Rattle.bx_redo.specs.declared.work.Work.TheVariants as works
 use Rattle.bx_rows.specs.declared.session.SessionRow.{SessionRow}
 use Rattle.bx_rows.specs.Words.{is_taken}
-use Rattle.bx_truth.proofs.Cases.{eq_false, eq_true, same_or}
+use Rattle.bx_redo.specs.bx_truth.proofs.Cases.{eq_false, eq_true, same_or}
 use Rattle.bx_views.specs.Truths.{Truth}
-use Rattle.bx_volume.specs.Overlay.{Logs, IsHome, IsTruth, IsUnlogged, filled_of, with_log}
-use Rattle.bx_volume.specs.Records.{Logged, LogWhere, StandOpen, IsInBody, logged_text, newest_in}
-use Rattle.bx_volume.proofs.Overlay.{log_there}
-use Rattle.bx_volume.proofs.Sizes.{logged_sectors}
+use Rattle.bx_redo.specs.bx_volume.specs.Overlay.{Logs, IsHome, IsTruth, IsUnlogged, filled_of, with_log}
+use Rattle.bx_redo.specs.bx_volume.specs.Records.{Logged, LogWhere, StandOpen, IsInBody, logged_text, newest_in}
+use Rattle.bx_redo.specs.bx_volume.proofs.Overlay.{log_there}
+use Rattle.bx_redo.specs.bx_volume.proofs.Sizes.{logged_sectors}
 use Rattle.bx_redo.proofs.Own.{most_of}
 use Rattle.bx_world_logs.specs.Logs.{AreSure, Activity, OfLog, Found, Finds, IsBegun, IsInLog, IsLogOf, LogsStand, Slot, SlotStands, begins, writes_in}
 use Rattle.bx_world_logs.proofs.Regions.{IsIn, body_is_in, gate_is_in, home_in_none, one_slot}

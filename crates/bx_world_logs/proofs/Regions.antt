@@ -4,9 +4,9 @@ use Rattle.bx_disk.specs.Disks.{Image, is_within}
 use Rattle.bx_places.specs.Places.{block_place, log_device, log_start}
 use Rattle.bx_redo.specs.declared.work.Work.TheVariants as works
 use Rattle.bx_redo.proofs.Within.{behind_it, within_is}
-use Rattle.bx_volume.specs.Overlay.{Logs}
-use Rattle.bx_volume.proofs.Apart.{home_and_log}
-use Rattle.bx_volume.proofs.Sizes.{logged_sectors}
+use Rattle.bx_redo.specs.bx_volume.specs.Overlay.{Logs}
+use Rattle.bx_redo.specs.bx_volume.proofs.Apart.{home_and_log}
+use Rattle.bx_redo.specs.bx_volume.proofs.Sizes.{logged_sectors}
 use Rattle.bx_world_logs.specs.Logs.{Activity, OfLog, Found, Slot, SlotStands, Finds, idle, writes_in}
 
 -- a sector's number is one of a log slot's

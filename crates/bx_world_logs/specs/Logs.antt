@@ -3,7 +3,7 @@ use Rattle.std.specs.Prelude.{◌≡◌, ◌⊎◌, ℕ, ◌+◌, ◌/◌, ◌<�
 use Rattle.bx_base.specs.declared.names.Point.{Point}
 use Rattle.bx_disk.specs.Disks.{Image}
 use Rattle.bx_places.specs.Places.{IsVolume, IsBlock, block_place, body_place, gate_place, log_device}
-use Rattle.bx_records.specs.Drafts.{Block, block_in}
+use Rattle.bx_views.specs.bx_records.specs.Drafts.{Block, block_in}
 use Rattle.bx_redo.specs.Stands.{AreClosed, IsUnderWay, is_written}
 use Rattle.bx_redo.specs.View.{LogView}
 use Rattle.bx_redo.specs.declared.work.Work.{Work}
@@ -11,8 +11,8 @@ use Rattle.bx_redo.specs.declared.work.Work.TheVariants as works
 use Rattle.bx_rows.specs.declared.session.SessionRow.{SessionRow}
 use Rattle.bx_rows.specs.Words.{is_taken}
 use Rattle.bx_views.specs.Truths.{Truth}
-use Rattle.bx_volume.specs.Overlay.{Logs, IsHome, IsTruth, IsUnlogged, filled_of}
-use Rattle.bx_volume.specs.Records.{Logged, IsInBody, gate_of, logged_text, newest_in}
+use Rattle.bx_redo.specs.bx_volume.specs.Overlay.{Logs, IsHome, IsTruth, IsUnlogged, filled_of}
+use Rattle.bx_redo.specs.bx_volume.specs.Records.{Logged, IsInBody, gate_of, logged_text, newest_in}
 
 -- What is under way in a log slot: a work of its log, by whom ever; or nothing, while gates behind its run may be open, as a recovery finds them.
 pub data Activity : Type 0 where

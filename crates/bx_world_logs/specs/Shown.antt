@@ -3,8 +3,8 @@ use Rattle.std.specs.Prelude.{◌≡◌, ◌⊎◌, ℕ, zero, suc, true, List, 
 use Rattle.bx_disk.specs.Disks.{Image}
 use Rattle.bx_rows.specs.declared.session.SessionRow.{SessionRow}
 use Rattle.bx_views.specs.Truths.{Truth, with_draft}
-use Rattle.bx_volume.specs.Overlay.{Logs, IsTruth}
-use Rattle.bx_volume.specs.Records.{Logged}
+use Rattle.bx_redo.specs.bx_volume.specs.Overlay.{Logs, IsTruth}
+use Rattle.bx_redo.specs.bx_volume.specs.Records.{Logged}
 use Rattle.bx_world_logs.specs.Logs.{Slot, closes, opens}
 
 module _ (logs : Logs) (slots : ℕ → Slot) where

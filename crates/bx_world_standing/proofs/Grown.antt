@@ -17,8 +17,8 @@ use Rattle.bx_rows.specs.Rows.{GoesOn}
 use Rattle.bx_rows.specs.declared.session.SessionRow.{SessionRow}
 use Rattle.bx_rows.specs.Words.{is_taken, row_in}
 use Rattle.bx_views.specs.Truths.{Truth}
-use Rattle.bx_volume.specs.Overlay.{Logs}
-use Rattle.bx_volume.specs.Records.{LogWhere, newest_in}
+use Rattle.bx_world_logs.specs.bx_volume.specs.Overlay.{Logs}
+use Rattle.bx_world_logs.specs.bx_volume.specs.Records.{LogWhere, newest_in}
 use Rattle.bx_world_chains.specs.Entitled.{AreAllowed, ClosesSlot, IsEntitled}
 use Rattle.bx_world_chains.proofs.Chains.{has_less}
 use Rattle.bx_world_chains.proofs.Rows.{Was, below_next, entitled_after, has_before, has_of, lives_before, lives_has, lives_of, lives_row, row_before, row_of, slot_goes}

@@ -5,7 +5,7 @@ use Rattle.bx_facts.specs.Writes.{Sent, WritesTo}
 use Rattle.bx_global.specs.declared.state.GlobalState.{GlobalState}
 use Rattle.bx_rows.specs.Words.{row_in}
 use Rattle.bx_rows.specs.declared.session.SessionRow.{SessionRow}
-use Rattle.bx_volume.specs.Overlay.{Logs}
+use Rattle.bx_world_logs.specs.bx_volume.specs.Overlay.{Logs}
 use Rattle.bx_world_chains.specs.Entitled.{IsEntitled}
 use Rattle.bx_world_logs.specs.Logs.{Slot, idle}
 use Rattle.bx_world_standing.specs.Rights.{IsOfSlot}

@@ -2,7 +2,7 @@
 use Rattle.std.specs.Prelude.{◌≡◌, ℕ, true, List, Option, Some, IsSomeAnd}
 use Rattle.bx_rows.specs.Words.{row_in}
 use Rattle.bx_rows.specs.declared.session.SessionRow.{SessionRow}
-use Rattle.bx_volume.specs.Records.{Logged}
+use Rattle.bx_world_logs.specs.bx_volume.specs.Records.{Logged}
 use Rattle.bx_world_logs.specs.Logs.{Slot, begins}
 use Rattle.bx_world_views.specs.Views.{Act, Doubt, OfCall, OfTidy}
 

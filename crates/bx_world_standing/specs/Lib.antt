@@ -5,3 +5,9 @@ pub mod Parts
 pub mod Rights
 pub mod Sessions
 pub mod Standing
+pub use Rattle.bx_owners
+pub use Rattle.bx_world_logs.specs.bx_redo
+pub use Rattle.bx_world_logs.specs.bx_volume
+pub use Rattle.bx_world_chains
+pub use Rattle.bx_world_logs
+pub use Rattle.bx_world_views

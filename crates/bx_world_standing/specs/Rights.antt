@@ -7,7 +7,7 @@ use Rattle.bx_global.specs.declared.state.GlobalState.{GlobalState}
 use Rattle.bx_places.specs.Places.{IsBlock, block_place, log_device, log_start}
 use Rattle.bx_rows.specs.Words.{row_in}
 use Rattle.bx_rows.specs.declared.session.SessionRow.{SessionRow}
-use Rattle.bx_volume.specs.Overlay.{Logs}
+use Rattle.bx_world_logs.specs.bx_volume.specs.Overlay.{Logs}
 use Rattle.bx_world_chains.specs.Entitled.{IsEntitled}
 use Rattle.bx_world_logs.specs.Logs.{IsInLog, Slot}
 

@@ -14,7 +14,7 @@ use Rattle.bx_global.specs.declared.change.Change.TheVariants.{Close}
 use Rattle.bx_post.specs.declared.packets.Letter.{Letter}
 use Rattle.bx_views.specs.Attempts.{Deed}
 use Rattle.bx_views.specs.Truths.{Held, Hints, Truth}
-use Rattle.bx_volume.specs.Overlay.{Logs}
+use Rattle.bx_world_logs.specs.bx_volume.specs.Overlay.{Logs}
 use Rattle.bx_world_logs.specs.Logs.{LogsStand, Slot}
 use Rattle.bx_world_views.specs.Views.{Doubt, VolumeStands}
 use Rattle.bx_world_standing.specs.Closings.{ClosingStands}

@@ -15,14 +15,14 @@ use Rattle.bx_rows.specs.Words.{row_in}
 use Rattle.bx_rows.specs.declared.session.SessionRow.{SessionRow}
 use Rattle.bx_views.specs.Attempts.{Deed}
 use Rattle.bx_views.specs.Truths.{Held, Hints, Truth, no_hints}
-use Rattle.bx_volume.specs.Overlay.{Logs}
-use Rattle.bx_volume.specs.Records.{Logged}
-use Rattle.bx_world_chains.proofs.Chains.{last_place}
-use Rattle.bx_world_chains.proofs.Rows.{lives_has}
-use Rattle.bx_world_chains.proofs.Sessions.{own_row}
-use Rattle.bx_world_logs.specs.Logs.{IsInLog, LogsStand, Slot, idle}
-use Rattle.bx_world_logs.proofs.Growing.{rows_go}
-use Rattle.bx_world_views.specs.Views.{Doubt}
+use Rattle.bx_world_standing.specs.bx_volume.specs.Overlay.{Logs}
+use Rattle.bx_world_standing.specs.bx_volume.specs.Records.{Logged}
+use Rattle.bx_world_standing.specs.bx_world_chains.proofs.Chains.{last_place}
+use Rattle.bx_world_standing.specs.bx_world_chains.proofs.Rows.{lives_has}
+use Rattle.bx_world_standing.specs.bx_world_chains.proofs.Sessions.{own_row}
+use Rattle.bx_world_standing.specs.bx_world_logs.specs.Logs.{IsInLog, LogsStand, Slot, idle}
+use Rattle.bx_world_standing.specs.bx_world_logs.proofs.Growing.{rows_go}
+use Rattle.bx_world_standing.specs.bx_world_views.specs.Views.{Doubt}
 use Rattle.bx_world_standing.specs.Labels.{LabelsStand}
 use Rattle.bx_world_standing.specs.Standing.{Course, Known, StandsAt, SureOf}
 

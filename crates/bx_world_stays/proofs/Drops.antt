@@ -8,7 +8,7 @@ use Rattle.bx_facts.specs.Chains.{last}
 use Rattle.bx_facts.specs.Writes.{IsOnly, Sent}
 use Rattle.bx_views.specs.Attempts.{Deed}
 use Rattle.bx_views.specs.Truths.{Hints, Truth}
-use Rattle.bx_world_logs.proofs.Growing.{rows_go}
+use Rattle.bx_world_standing.specs.bx_world_logs.proofs.Growing.{rows_go}
 use Rattle.bx_world_standing.specs.Standing.{Course, Known, StandsAt, SureOf}
 
 abbrev pub dropped_course : Course → List Sent → Course

@@ -24,9 +24,9 @@ use Rattle.bx_post.specs.declared.packets.Letter.{Letter}
 use Rattle.bx_views.specs.Attempts.{Deed}
 use Rattle.bx_records.specs.Drafts.{Block}
 use Rattle.bx_views.specs.Truths.{Held, Hints, Truth}
-use Rattle.bx_world_chains.specs.Entitled.{AreAllowed}
-use Rattle.bx_world_chains.proofs.Rows.{lives_row}
-use Rattle.bx_world_views.specs.Views.{AreApart}
+use Rattle.bx_world_standing.specs.bx_world_chains.specs.Entitled.{AreAllowed}
+use Rattle.bx_world_standing.specs.bx_world_chains.proofs.Rows.{lives_row}
+use Rattle.bx_world_standing.specs.bx_world_views.specs.Views.{AreApart}
 use Rattle.bx_world_standing.specs.Parts.{Clocks}
 use Rattle.bx_world_standing.specs.Labels.{LabelsStand}
 use Rattle.bx_world_standing.specs.Closings.{ClosingStands}

@@ -18,11 +18,11 @@ use Rattle.bx_rows.specs.Words.{row_in}
 use Rattle.bx_rows.specs.declared.session.SessionRow.{SessionRow}
 use Rattle.bx_views.specs.Attempts.{Deed}
 use Rattle.bx_views.specs.Truths.{Hints, Truth, no_hints}
-use Rattle.bx_volume.specs.Overlay.{Logs}
-use Rattle.bx_world_logs.specs.Logs.{LogsStand, Slot}
-use Rattle.bx_world_logs.proofs.Growing.{rows_go}
-use Rattle.bx_world_views.specs.Views.{AreApart}
-use Rattle.bx_world_views.proofs.Steps.{goes_on}
+use Rattle.bx_world_standing.specs.bx_volume.specs.Overlay.{Logs}
+use Rattle.bx_world_standing.specs.bx_world_logs.specs.Logs.{LogsStand, Slot}
+use Rattle.bx_world_standing.specs.bx_world_logs.proofs.Growing.{rows_go}
+use Rattle.bx_world_standing.specs.bx_world_views.specs.Views.{AreApart}
+use Rattle.bx_world_standing.specs.bx_world_views.proofs.Steps.{goes_on}
 use Rattle.bx_world_standing.specs.Parts.{ArePasts, PartsStand}
 use Rattle.bx_world_standing.specs.Rights.{HasBlock, OfHeld, IsReached, IsToldOf, IsWithin, OfLogged, MayTouch, OfSlot, RightsStand, Surely, WritesStand}
 use Rattle.bx_world_standing.specs.Labels.{LabelsStand}

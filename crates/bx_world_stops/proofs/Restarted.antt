@@ -19,10 +19,10 @@ use Rattle.bx_rows.specs.declared.session.SessionRow.{SessionRow}
 use Rattle.bx_views.specs.Attempts.{Deed}
 use Rattle.bx_views.specs.Truths.{Hints, Truth}
 use Rattle.bx_world_views.specs.Views.{AreApart}
-use Rattle.bx_world_standing.specs.Labels.{LabelsStand}
-use Rattle.bx_world_standing.specs.Sessions.{IsOfNode}
-use Rattle.bx_world_standing.specs.Standing.{Course, Known, StandsAt, own_up}
-use Rattle.bx_world_standing.proofs.Owns.{own_is, own_of}
+use Rattle.bx_world_stays.specs.bx_world_standing.specs.Labels.{LabelsStand}
+use Rattle.bx_world_stays.specs.bx_world_standing.specs.Sessions.{IsOfNode}
+use Rattle.bx_world_stays.specs.bx_world_standing.specs.Standing.{Course, Known, StandsAt, own_up}
+use Rattle.bx_world_stays.specs.bx_world_standing.proofs.Owns.{own_is, own_of}
 use Rattle.bx_world_stays.proofs.Stays.{stays}
 
 put_cases : {A : Type 0} (who other : Actor) (value : A) (old : Actor → A) → ((who ≡ other) × (put_at who value old other ≡ value)) ⊎ ((who ≢ other) × (put_at who value old other ≡ old other))

@@ -17,10 +17,10 @@ use Rattle.bx_post.specs.declared.packets.Letter.{Letter}
 use Rattle.bx_views.specs.Attempts.{Deed}
 use Rattle.bx_views.specs.Truths.{Hints, Truth}
 use Rattle.bx_world_views.specs.Views.{AreApart}
-use Rattle.bx_world_standing.specs.Parts.{Clocks}
-use Rattle.bx_world_standing.specs.Labels.{LabelsStand}
-use Rattle.bx_world_standing.specs.Standing.{Course, Known, StandsAt, own_up}
-use Rattle.bx_world_standing.proofs.Owns.{own_is, own_of}
+use Rattle.bx_world_stays.specs.bx_world_standing.specs.Parts.{Clocks}
+use Rattle.bx_world_stays.specs.bx_world_standing.specs.Labels.{LabelsStand}
+use Rattle.bx_world_stays.specs.bx_world_standing.specs.Standing.{Course, Known, StandsAt, own_up}
+use Rattle.bx_world_stays.specs.bx_world_standing.proofs.Owns.{own_is, own_of}
 use Rattle.bx_world_stops.proofs.Crashed.{up_then}
 use Rattle.bx_world_stays.proofs.Stays.{stays}
 

@@ -4,7 +4,7 @@ use Rattle.std.specs.Prelude.{unwrap_or}
 use Rattle.std.proofs.lemmas.Bool.Decides.{nat_tests}
 use Rattle.bx_base.specs.declared.names.Mode.{Mode}
 use Rattle.bx_base.specs.declared.names.Mode.TheVariants.{Shared, Exclusive}
-use Rattle.bx_records.specs.Drafts.{Block, Changed, block_in}
+use Rattle.bx_views.specs.bx_records.specs.Drafts.{Block, Changed, block_in}
 use Rattle.bx_views.specs.Attempts.{Deed}
 use Rattle.bx_views.specs.Truths.{Truth, Held, Hints, no_hints, with_draft}
 use Rattle.bx_facts.specs.Holds.{Hold, Holds, KeepsHolds}

@@ -2,7 +2,7 @@
 use Rattle.std.specs.Prelude.{◌≡◌, ◌≢◌, ◌⊎◌, ℕ, List, Option, Some, None, IfSome}
 use Rattle.bx_base.specs.declared.names.Mode.{Mode}
 use Rattle.bx_base.specs.declared.names.Mode.TheVariants.{Shared, Exclusive}
-use Rattle.bx_records.specs.Drafts.{Block, Changed, block_in}
+use Rattle.bx_views.specs.bx_records.specs.Drafts.{Block, Changed, block_in}
 use Rattle.bx_views.specs.Attempts.{Deed, Leads}
 use Rattle.bx_views.specs.Truths.{Truth, Held, Hints, IsTruth, no_hints}
 use Rattle.bx_facts.specs.Holds.{Hold, Holds}

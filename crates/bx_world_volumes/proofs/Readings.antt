@@ -16,7 +16,7 @@ use Rattle.bx_layout.specs.declared.label.Label.{Label}
 use Rattle.bx_model.specs.declared.tree.Tree.{Tree}
 use Rattle.bx_model.specs.FileTrees.{IsFileTree}
 use Rattle.bx_places.specs.Places.{disk_count, disk_sectors, member_sectors, replica_sectors}
-use Rattle.bx_redo.proofs.Settled.{one_disk, settled_has}
+use Rattle.bx_world_standing.specs.bx_redo.proofs.Settled.{one_disk, settled_has}
 use Rattle.bx_rows.specs.declared.device.DeviceRow.{DeviceRow}
 use Rattle.bx_rows.specs.declared.session.SessionRow.{SessionRow}
 use Rattle.bx_rows.specs.Modes.{IsSource}
@@ -28,9 +28,9 @@ use Rattle.bx_volume.specs.Overlay.{Logs}
 use Rattle.bx_volume.specs.Volumes.{IsVolumeFor, Reading}
 use Rattle.bx_world_chains.specs.Entitled.{AreAllowed}
 use Rattle.bx_world_chains.proofs.Chains.{last_place}
-use Rattle.bx_world_logs.specs.Logs.{LogsStand, Slot}
-use Rattle.bx_world_logs.specs.Shown.{ShowsTo}
-use Rattle.bx_world_logs.proofs.Growing.{rows_go}
+use Rattle.bx_world_standing.specs.bx_world_logs.specs.Logs.{LogsStand, Slot}
+use Rattle.bx_world_standing.specs.bx_world_logs.specs.Shown.{ShowsTo}
+use Rattle.bx_world_standing.specs.bx_world_logs.proofs.Growing.{rows_go}
 use Rattle.bx_world_images.proofs.Volume.{SureIn, is_volume}
 use Rattle.bx_world_standing.specs.Rights.{IsWithin, Surely}
 use Rattle.bx_world_standing.specs.Labels.{HasNoLabel, LabelsStand}

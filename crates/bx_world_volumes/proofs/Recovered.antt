@@ -21,11 +21,11 @@ use Rattle.bx_volume.specs.Records.{Logged, gate_of, newest_in}
 use Rattle.bx_volume.proofs.Overlay.{log_here, log_there}
 use Rattle.bx_world_chains.specs.Entitled.{IsEntitled}
 use Rattle.bx_world_chains.proofs.Rows.{lives_row, one_entitled, one_slot, taken_of}
-use Rattle.bx_world_logs.specs.Logs.{IsInLog, Slot, begins, opens, writes_in}
-use Rattle.bx_world_logs.specs.Shown.{IsRun, ShowsSlot}
-use Rattle.bx_world_logs.proofs.Activities.{opens_begins}
+use Rattle.bx_world_standing.specs.bx_world_logs.specs.Logs.{IsInLog, Slot, begins, opens, writes_in}
+use Rattle.bx_world_standing.specs.bx_world_logs.specs.Shown.{IsRun, ShowsSlot}
+use Rattle.bx_world_standing.specs.bx_world_logs.proofs.Activities.{opens_begins}
 use Rattle.bx_world_images.proofs.Images.{in_log}
-use Rattle.bx_world_logs.proofs.Moving.{slot_here, slot_there, with_slot}
+use Rattle.bx_world_standing.specs.bx_world_logs.proofs.Moving.{slot_here, slot_there, with_slot}
 use Rattle.bx_world_images.proofs.Settling.{Settles, found_slot, settles}
 use Rattle.bx_world_views.specs.Views.{Doubt, StepOf, VolumeStands}
 use Rattle.bx_world_views.proofs.Doubts.{without_doubt, without_only}

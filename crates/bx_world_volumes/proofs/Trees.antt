@@ -16,9 +16,9 @@ use Rattle.bx_views.specs.Truths.{Held, Hints, Truth, no_hints, with_draft}
 use Rattle.bx_volume.specs.Overlay.{Logs}
 use Rattle.bx_volume.specs.Records.{Logged}
 use Rattle.bx_world_chains.proofs.Rows.{all_row, number_is}
-use Rattle.bx_world_logs.specs.Logs.{LogsStand, Slot, SlotStands, begins, opens}
-use Rattle.bx_world_logs.proofs.Activities.{opens_begins}
-use Rattle.bx_world_logs.specs.Shown.{ShowsSlot, ShowsTo}
+use Rattle.bx_world_standing.specs.bx_world_logs.specs.Logs.{LogsStand, Slot, SlotStands, begins, opens}
+use Rattle.bx_world_standing.specs.bx_world_logs.proofs.Activities.{opens_begins}
+use Rattle.bx_world_standing.specs.bx_world_logs.specs.Shown.{ShowsSlot, ShowsTo}
 use Rattle.bx_world_views.specs.Views.{Doubt, StepOf, VolumeStands}
 use Rattle.bx_world_views.proofs.Doubts.{without_doubt, without_only}
 use Rattle.bx_world_views.proofs.Steps.{acked}

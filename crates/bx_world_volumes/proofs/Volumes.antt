@@ -19,7 +19,7 @@ use Rattle.bx_volume.specs.Images.{ImageStandsFor}
 use Rattle.bx_volume.specs.Volumes.{IsVolumeFor}
 use Rattle.bx_world_chains.specs.Entitled.{AreAllowed}
 use Rattle.bx_world_chains.proofs.Chains.{last_place}
-use Rattle.bx_world_logs.specs.Logs.{LogsStand}
+use Rattle.bx_world_standing.specs.bx_world_logs.specs.Logs.{LogsStand}
 use Rattle.bx_world_images.proofs.Audited.{audit_stands}
 use Rattle.bx_world_views.specs.Views.{Doubt, StepOf}
 use Rattle.bx_world_standing.specs.Rights.{IsWithin, Surely}

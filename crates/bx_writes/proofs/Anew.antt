@@ -13,7 +13,7 @@ use Rattle.bx_blink.proofs.Under.{agrees}
 use Rattle.bx_chunks.specs.Allocating.{Adds, AllocatesAt}
 use Rattle.bx_chunks.specs.Putting.{empty_of}
 use Rattle.bx_chunks.proofs.Allocates.{allocates_in}
-use Rattle.bx_dirs.proofs.Edited.{Edited, HasPageAt, edited_by}
+use Rattle.bx_entries.specs.bx_dirs.proofs.Edited.{Edited, HasPageAt, edited_by}
 use Rattle.bx_inodes.specs.Fitting.{ChangesOne, Continues, HintsFitAll, IsPageUnder}
 use Rattle.bx_inodes.proofs.Later.{fit_later, fit_still}
 use Rattle.bx_inodes.proofs.Pages.{one_block}
@@ -26,14 +26,14 @@ use Rattle.bx_leaves.specs.Changes.{MakesMap}
 use Rattle.bx_leaves.specs.Leaves.{InsertsAt}
 use Rattle.bx_leaves.proofs.Done.{inserts_in}
 use Rattle.bx_leaves.proofs.Written.{draft_elsewhere, own_not_slot}
-use Rattle.bx_making.proofs.Puts.{put_chunk, put_slots}
+use Rattle.bx_entries.specs.bx_making.proofs.Puts.{put_chunk, put_slots}
 use Rattle.bx_model.specs.declared.tree.Tree.{Tree}
 use Rattle.bx_page.specs.declared.entry.Entry.{Entry}
 use Rattle.bx_page.specs.Contents.{Contents, above, below, size, value_of, with_entry, with_value}
 use Rattle.bx_page.specs.Keys.{is_below}
 use Rattle.bx_page.proofs.Room.{size_with-le}
-use Rattle.bx_ready.proofs.Spare.{taken_less}
-use Rattle.bx_ready.specs.Rooms.{HasRoom}
+use Rattle.bx_entries.specs.bx_ready.proofs.Spare.{taken_less}
+use Rattle.bx_entries.specs.bx_ready.specs.Rooms.{HasRoom}
 use Rattle.bx_records.specs.Drafts.{Changed, with_block}
 use Rattle.bx_tree_files.specs.declared.file.File.{File}
 use Rattle.bx_truth.specs.Chunks.{block_at, chunks_of, own_block, word_at}

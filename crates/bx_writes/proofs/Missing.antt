@@ -7,7 +7,7 @@ use Rattle.bx_blink.specs.Hints.{HintsFit, Under}
 use Rattle.bx_changes.specs.Growing.{LeavesTrees}
 use Rattle.bx_changes.specs.declared.error.ChangeError.{ChangeError}
 use Rattle.bx_changes.specs.declared.error.ChangeError.TheVariants.{Stopped, Full}
-use Rattle.bx_ready.specs.Keeping.{KeepsFiles}
+use Rattle.bx_entries.specs.bx_ready.specs.Keeping.{KeepsFiles}
 use Rattle.bx_files.specs.Reads.{Tells}
 use Rattle.bx_inodes.specs.Stands.{Stands}
 use Rattle.bx_inodes.specs.declared.stop.Stop.{Stop}
@@ -18,9 +18,9 @@ use Rattle.bx_leaves.specs.Changes.{NeedsUnheld}
 use Rattle.bx_model.specs.declared.tree.Tree.{Tree}
 use Rattle.bx_page.specs.Contents.{value_of}
 use Rattle.bx_records.specs.Drafts.{Changed}
-use Rattle.bx_ready.specs.Lacking.{FindsRoom, MakesRoom}
-use Rattle.bx_ready.specs.Ready.{IsFileUnder, OnReadyPath, ReadiesIn}
-use Rattle.bx_ready.specs.Spare.{TellsFew}
+use Rattle.bx_entries.specs.bx_ready.specs.Lacking.{FindsRoom, MakesRoom}
+use Rattle.bx_entries.specs.bx_ready.specs.Ready.{IsFileUnder, OnReadyPath, ReadiesIn}
+use Rattle.bx_entries.specs.bx_ready.specs.Spare.{TellsFew}
 use Rattle.bx_truth.specs.Chunks.{block_at, chunks_of}
 use Rattle.bx_truth.specs.Keys.{content_key}
 use Rattle.bx_truth.specs.PageTrees.{IsTree, PageTree, handle_in, map_of}

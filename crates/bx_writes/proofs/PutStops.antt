@@ -18,8 +18,8 @@ use Rattle.bx_leaves.specs.Leaves.{InsertsAt, OnLeafPath}
 use Rattle.bx_leaves.proofs.Done.{inserts_in}
 use Rattle.bx_model.specs.declared.tree.Tree.{Tree}
 use Rattle.bx_page.specs.Contents.{value_of}
-use Rattle.bx_ready.proofs.Lengths.{crowded_many}
-use Rattle.bx_ready.proofs.Spare.{full_none, told}
+use Rattle.bx_entries.specs.bx_ready.proofs.Lengths.{crowded_many}
+use Rattle.bx_entries.specs.bx_ready.proofs.Spare.{full_none, told}
 use Rattle.bx_records.specs.Drafts.{Changed}
 use Rattle.bx_tree_files.specs.declared.file.File.{File}
 use Rattle.bx_truth.specs.Chunks.{chunks_of}

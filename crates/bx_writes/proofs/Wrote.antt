@@ -29,7 +29,7 @@ use Rattle.bx_model.specs.Permissions.{is_in_group}
 use Rattle.bx_model.specs.Reading.{attributes_reply}
 use Rattle.bx_model.specs.Steps.{Outcome, must, refuse, ◌>>=◌, ◌>>◌}
 use Rattle.bx_model.specs.Writing.{write, write_errors}
-use Rattle.bx_reads.proofs.Told.{named_as, size_fits}
+use Rattle.bx_changes.specs.bx_reads.proofs.Told.{named_as, size_fits}
 use Rattle.bx_records.specs.Drafts.{Changed}
 use Rattle.bx_sizes.proofs.Bytes.{resized}
 use Rattle.bx_sizes.proofs.Resized.{over_none, regular_bytes}

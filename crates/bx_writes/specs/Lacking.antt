@@ -4,8 +4,8 @@ use Rattle.bx_places.specs.Handles.{named}
 use Rattle.bx_inodes.specs.Inodes.{HoldsInode}
 use Rattle.bx_layout.specs.declared.inode.Inode.{Inode}
 use Rattle.bx_page.specs.Contents.{value_of}
-use Rattle.bx_ready.specs.Lacking.{MakesRoom}
-use Rattle.bx_ready.specs.Ready.{IsReady}
+use Rattle.bx_entries.specs.bx_ready.specs.Lacking.{MakesRoom}
+use Rattle.bx_entries.specs.bx_ready.specs.Ready.{IsReady}
 use Rattle.bx_records.specs.Drafts.{Changed}
 use Rattle.bx_sizes.specs.Cuts.{ClearsFirst, ReadyToGrow}
 use Rattle.bx_sizes.specs.Lengths.{grows_over}

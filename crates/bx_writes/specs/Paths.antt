@@ -8,7 +8,7 @@ use Rattle.bx_places.specs.Handles.{named, parts_of}
 use Rattle.bx_inodes.specs.Inodes.{LiveAt}
 use Rattle.bx_inodes.specs.Stops.{OnInode}
 use Rattle.bx_layout.specs.declared.inode.Inode.{Inode}
-use Rattle.bx_ready.specs.Ready.{OnReadyPath}
+use Rattle.bx_entries.specs.bx_ready.specs.Ready.{OnReadyPath}
 use Rattle.bx_sizes.specs.Clearing.{OnClearing}
 use Rattle.bx_truth.specs.Chunks.{block_at}
 use Rattle.bx_truth.specs.Keys.{content_key}

@@ -12,7 +12,7 @@ use Rattle.bx_layout.specs.declared.block.Block.{Block}
 use Rattle.bx_layout.specs.declared.inode.Inode.{Inode}
 use Rattle.bx_model.specs.declared.tree.Tree.{Tree}
 use Rattle.bx_page.specs.Contents.{value_of}
-use Rattle.bx_ready.specs.Ready.{IsReady}
+use Rattle.bx_entries.specs.bx_ready.specs.Ready.{IsReady}
 use Rattle.bx_layout.specs.Blocks.{HasParts}
 use Rattle.bx_records.specs.Drafts.{Changed, with_block}
 use Rattle.bx_tree_files.specs.declared.file.File.{File}

@@ -9,3 +9,8 @@ mod writer;
 pub use laws::{one_reading, written_reads};
 pub use reader::Reader;
 pub use writer::Writer;
+
+/// What the crates above use of `bx_base`.
+pub mod base {
+    pub use bx_base::{OutOfMemory, Raw, Words};
+}

@@ -12,8 +12,8 @@ use Rattle.bx_changes.specs.declared.error.ChangeError.{ChangeError}
 use Rattle.bx_changes.specs.declared.error.ChangeError.TheVariants.{Stopped}
 use Rattle.bx_creating.specs.Paths.{OnCreate}
 use Rattle.bx_creating.specs.Making.{OnMaking}
-use Rattle.bx_entries.specs.Finding.{OnRemoval}
-use Rattle.bx_entries.specs.declared.finding.Removable.TheVariants as removable
+use Rattle.bx_creating.specs.bx_entries.specs.Finding.{OnRemoval}
+use Rattle.bx_creating.specs.bx_entries.specs.declared.finding.Removable.TheVariants as removable
 use Rattle.bx_model.specs.declared.call.Args.TheVariants.{Link, Make, Name, Rename, Set, Symlink, Write}
 use Rattle.bx_model.specs.declared.reply.Reply.{Reply}
 use Rattle.bx_model.specs.Making.{create, link, mkdir, symlink}

@@ -1,5 +1,5 @@
 use Rattle.std.proofs.Common.{ℕ, IfOk, sym, subst, ◌∙◌}
-use Rattle.bx_audit_slots.specs.Numbers.{IsToldOf}
+use Rattle.bx_audit_owners.specs.bx_audit_slots.specs.Numbers.{IsToldOf}
 use Rattle.bx_layout.specs.declared.block.Block.{Block}
 use Rattle.bx_overlay.proofs.Moved.{moved}
 use Rattle.bx_audit.proofs.links.block_in.Goals as goal

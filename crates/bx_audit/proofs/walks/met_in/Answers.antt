@@ -1,6 +1,6 @@
 use Rattle.std.proofs.Common.{inr, refl, subst}
 use Rattle.bx_audit.specs.Blocks.{blocks_of}
-use Rattle.bx_audit_slots.specs.Numbers.{IsToldOf}
+use Rattle.bx_audit_owners.specs.bx_audit_slots.specs.Numbers.{IsToldOf}
 use Rattle.bx_audit.proofs.Walked.{of_torn}
 use Rattle.bx_disk.specs.Disks.{Disks}
 use Rattle.bx_audit.proofs.walks.met_in.Goals as goal

@@ -3,7 +3,7 @@ use Rattle.std.proofs.lemmas.Result.{err_from_is_err_and}
 use Rattle.bx_audit_bodies.specs.Parts.{IsTornDead}
 use Rattle.bx_audit_bodies.specs.Outlines.{ArePartsAt, IsOutlineAt, IsRight, IsUnreadFile}
 use Rattle.bx_audit_bodies.specs.Reading.{IsReadAs}
-use Rattle.bx_audit_files.specs.Inodes.{IsInodeAt}
+use Rattle.bx_audit_bodies.specs.bx_audit_files.specs.Inodes.{IsInodeAt}
 use Rattle.bx_layout.specs.declared.inode.Inode.{Inode}
 use Rattle.bx_audit_owners.specs.Dead.{Held, Live, Taken, Unread}
 use Rattle.bx_audit_bodies.specs.declared.claims.Claim.{Claim}

@@ -1,5 +1,5 @@
 use Rattle.bx_truth.specs.Chunks.{chunks_of}
-use Rattle.bx_views.specs.Truths.{with_draft}
+use Rattle.bx_truth.specs.bx_views.specs.Truths.{with_draft}
 use Rattle.bx_blink.specs.Walks.{reads_with}
 use Rattle.bx_blink.proofs.LeafFound.{leaf_found, leaf_fairly}
 use Rattle.bx_blink.proofs.Under.{agrees}

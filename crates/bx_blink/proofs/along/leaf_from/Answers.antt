@@ -1,6 +1,6 @@
 use Rattle.bx_base.specs.declared.names.Mode.TheVariants.{Shared}
 use Rattle.bx_truth.specs.Chunks.{chunks_of}
-use Rattle.bx_views.specs.Truths.{with_draft}
+use Rattle.bx_truth.specs.bx_views.specs.Truths.{with_draft}
 use Rattle.bx_blink.specs.Walks.{most, reads_with, start}
 use Rattle.bx_blink.proofs.RunLeaves.{leaf_has}
 use Rattle.bx_blink.proofs.RunFound.{leaf_in}

@@ -3,7 +3,7 @@ use Rattle.bx_base.specs.declared.names.Mode.TheVariants.{Shared}
 use Rattle.bx_blink.specs.Walks.{reads_with}
 use Rattle.bx_blink.proofs.Found.{finds, fair}
 use Rattle.bx_blink.proofs.Under.{agrees}
-use Rattle.bx_views.specs.Truths.{with_draft}
+use Rattle.bx_truth.specs.bx_views.specs.Truths.{with_draft}
 use Rattle.bx_truth.specs.Chunks.{chunks_of}
 use Rattle.bx_blink.proofs.searches.find.Goals as goal
 

@@ -3,7 +3,7 @@ use Rattle.bx_blink.specs.Walks.{reads_with}
 use Rattle.bx_blink.proofs.RunFound.{next_in}
 use Rattle.bx_blink.proofs.RunPaths.{run_fair}
 use Rattle.bx_blink.proofs.Under.{agrees}
-use Rattle.bx_views.specs.Truths.{with_draft}
+use Rattle.bx_truth.specs.bx_views.specs.Truths.{with_draft}
 use Rattle.bx_truth.specs.Chunks.{chunks_of}
 use Rattle.bx_blink.proofs.searches.next.Goals as goal
 

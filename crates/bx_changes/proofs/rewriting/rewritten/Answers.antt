@@ -1,5 +1,5 @@
 use Rattle.std.proofs.Common.{List, subst, sym}
-use Rattle.bx_inodes.specs.Inodes.{HoldsInode}
+use Rattle.bx_reads.specs.bx_inodes.specs.Inodes.{HoldsInode}
 use Rattle.bx_reads.proofs.Told.{over_none}
 use Rattle.bx_records.specs.Drafts.{Changed}
 use Rattle.bx_views.specs.Truths.{with_draft}

@@ -9,7 +9,7 @@ use Rattle.bx_model.specs.declared.reply.Reply.{Reply}
 use Rattle.bx_creating.specs.Lacking.{ClearsGiven}
 use Rattle.bx_creating.proofs.First.{inode_never, stop_comes}
 use Rattle.bx_inodes.specs.Inodes.{FileAt, IsInodeOf}
-use Rattle.bx_reads.proofs.Told.{over_none}
+use Rattle.bx_changes.specs.bx_reads.proofs.Told.{over_none}
 use Rattle.bx_creating.proofs.NamesThere.{irregular, not_there}
 use Rattle.bx_base.specs.declared.names.Mode.TheVariants.{Exclusive}
 use Rattle.bx_layout.specs.declared.inode.Inode.{Inode}

@@ -1,6 +1,6 @@
 use Rattle.std.proofs.Common.{List, subst, Err}
 use Rattle.bx_inodes.specs.Inodes.{FileAt, IsInodeOf}
-use Rattle.bx_reads.proofs.Told.{over_none, size_fits}
+use Rattle.bx_changes.specs.bx_reads.proofs.Told.{over_none, size_fits}
 use Rattle.bx_records.specs.Drafts.{Changed}
 use Rattle.bx_views.specs.Truths.{with_draft}
 use Rattle.bx_creating.proofs.NamesThere.{gives, irregular, not_there}

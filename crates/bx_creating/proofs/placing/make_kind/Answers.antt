@@ -1,5 +1,5 @@
 use Rattle.std.proofs.Common.{sym, subst, inl, inr}
-use Rattle.bx_making.specs.Made.{MakesIn}
+use Rattle.bx_entries.specs.bx_making.specs.Made.{MakesIn}
 use Rattle.bx_tree_files.specs.declared.file.Body.{Body}
 use Rattle.bx_creating.proofs.placing.make_kind.Goals as goal
 

@@ -1,6 +1,6 @@
 use Rattle.std.proofs.Common.{List, Err, Ok, subst, sym}
-use Rattle.bx_making.specs.Made.{MakesFile, MakesIn}
-use Rattle.bx_ready.proofs.Split.{none_held}
+use Rattle.bx_entries.specs.bx_making.specs.Made.{MakesFile, MakesIn}
+use Rattle.bx_entries.specs.bx_ready.proofs.Split.{none_held}
 use Rattle.bx_records.specs.Drafts.{Changed}
 use Rattle.bx_truth.specs.Stands.{StandsFor}
 use Rattle.bx_views.specs.Attempts.{IsHeldDraft}

@@ -4,7 +4,7 @@ use Rattle.bx_entries.specs.RoomFinding.{OnRoomPath}
 use Rattle.bx_entries.specs.Lacking.{MakesEither}
 use Rattle.bx_entries.proofs.Lacks.{full_so, never_first}
 use Rattle.bx_entries.proofs.Stopped.{wider}
-use Rattle.bx_dirs.specs.Changes.{OnAddPath, entry_of}
+use Rattle.bx_entries.specs.bx_dirs.specs.Changes.{OnAddPath, entry_of}
 use Rattle.bx_places.specs.Handles.{parts_of}
 use Rattle.bx_creating.specs.Placing.{OnPlacing}
 use Rattle.bx_creating.proofs.Made.{first_near}

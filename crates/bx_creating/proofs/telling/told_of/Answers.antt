@@ -1,6 +1,6 @@
 use Rattle.std.proofs.Common.{refl, sym, ◌∙◌}
 use Rattle.bx_places.specs.Handles.{file_text}
-use Rattle.bx_making.specs.Made.{file_of}
+use Rattle.bx_entries.specs.bx_making.specs.Made.{file_of}
 use Rattle.bx_model.specs.declared.reply.Reply.TheVariants.{Handle}
 use Rattle.bx_tree_files.specs.Attributes.{attributes_of}
 use Rattle.bx_truth.specs.Stored.{HasFields}

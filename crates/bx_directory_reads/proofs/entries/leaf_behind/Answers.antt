@@ -1,8 +1,8 @@
 use Rattle.std.proofs.Common.{List, subst, sym}
 use Rattle.bx_base.specs.declared.names.Mode.TheVariants.{Shared}
-use Rattle.bx_blink.specs.Hints.{Under}
-use Rattle.bx_blink.specs.Runs.{OnRun}
-use Rattle.bx_blink.specs.Walks.{most, reads_with, start}
+use Rattle.bx_dirs.specs.bx_blink.specs.Hints.{Under}
+use Rattle.bx_dirs.specs.bx_blink.specs.Runs.{OnRun}
+use Rattle.bx_dirs.specs.bx_blink.specs.Walks.{most, reads_with, start}
 use Rattle.bx_records.specs.Drafts.{Changed}
 use Rattle.bx_directory_reads.proofs.Along.{leaf_so, need_leaf}
 use Rattle.bx_directory_reads.proofs.RunSlots.{run_block}

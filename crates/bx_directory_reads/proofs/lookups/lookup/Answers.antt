@@ -2,7 +2,7 @@ use Rattle.std.proofs.Common.{◌∙◌, sym, inr}
 use Rattle.bx_directory_reads.proofs.LookedUp.{directory, looking, meant_told, refused, stops_meant}
 use Rattle.bx_directory_reads.proofs.Wider.{needs_wider}
 use Rattle.bx_directory_reads.specs.Lookups.{OnLooking}
-use Rattle.bx_files.specs.Paths.{IsBlockOf}
+use Rattle.bx_reads.specs.bx_files.specs.Paths.{IsBlockOf}
 use Rattle.bx_model.specs.declared.reply.Reply.{Reply}
 use Rattle.bx_reads.proofs.Told.{stops}
 use Rattle.bx_directory_reads.proofs.lookups.lookup.Goals as goal

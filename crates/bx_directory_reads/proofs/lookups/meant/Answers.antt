@@ -2,7 +2,7 @@ use Rattle.std.proofs.Common.{◌≡◌, false, refl, sym}
 use Rattle.std.specs.Prelude.{codes}
 use Rattle.std.specs.Str.{bytes_eq}
 use Rattle.bx_directory_reads.proofs.LookedUp.{entry_means, need_means, none_means}
-use Rattle.bx_files.proofs.Slots.{search_block}
+use Rattle.bx_reads.specs.bx_files.proofs.Slots.{search_block}
 use Rattle.bx_truth.specs.Keys.{name_key}
 use Rattle.bx_directory_reads.proofs.lookups.meant.Goals as goal
 

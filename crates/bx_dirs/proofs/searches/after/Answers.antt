@@ -3,7 +3,7 @@ use Rattle.bx_page.specs.Contents.{first, from}
 use Rattle.bx_truth.specs.Chunks.{chunks_of}
 use Rattle.bx_truth.specs.PageTrees.{map_of}
 use Rattle.bx_views.specs.Truths.{with_draft}
-use Rattle.bx_blink.specs.Runs.{NextIn}
+use Rattle.bx_leaves.specs.bx_blink.specs.Runs.{NextIn}
 use Rattle.bx_dirs.specs.Entries.{IsNoNumbered}
 use Rattle.bx_dirs.proofs.Rising.{map_rises}
 use Rattle.bx_dirs.proofs.Searched.{follows, next_error_in, no_stray_behind, nothing_behind}

@@ -1,7 +1,7 @@
 use Rattle.std.proofs.Common.{◌≡◌, ℕ, List, sym, ap, subst, ◌∙◌, Some, Err}
 use Rattle.bx_page.specs.Contents.{value_of}
 use Rattle.bx_truth.specs.PageTrees.{map_of}
-use Rattle.bx_blink.specs.Answers.{FindsIn}
+use Rattle.bx_leaves.specs.bx_blink.specs.Answers.{FindsIn}
 use Rattle.bx_dirs.proofs.Names.{is_named}
 use Rattle.bx_dirs.proofs.Searched.{error_in, no_stray}
 use Rattle.bx_dirs.proofs.searches.lookup.Goals as goal

@@ -1,7 +1,7 @@
 use Rattle.std.proofs.Common.{arith, subst}
 use Rattle.bx_entries.proofs.Entered.{above, directory, enters, has_numbers, listed, stopped}
 use Rattle.bx_entries.proofs.Stopped.{added_more, full_stops, inode_more, needs_stop, never_full}
-use Rattle.bx_dirs.specs.Changes.{OnAddPath, entry_of}
+use Rattle.bx_directory_reads.specs.bx_dirs.specs.Changes.{OnAddPath, entry_of}
 use Rattle.bx_inodes.specs.Writing.{PutsInode}
 use Rattle.bx_layout.specs.declared.inode.Inode.{Inode}
 use Rattle.bx_entries.proofs.entering.enter.Goals as goal

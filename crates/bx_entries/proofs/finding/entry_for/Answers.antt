@@ -1,5 +1,5 @@
 use Rattle.std.proofs.Common.{refl}
-use Rattle.bx_files.proofs.Slots.{search_block}
+use Rattle.bx_changes.specs.bx_files.proofs.Slots.{search_block}
 use Rattle.bx_truth.specs.Keys.{name_key}
 use Rattle.bx_entries.proofs.Found.{need_lists}
 use Rattle.bx_entries.proofs.finding.entry_for.Goals as goal

@@ -1,5 +1,5 @@
 use Rattle.std.proofs.Common.{List, inl, inr}
-use Rattle.bx_files.proofs.Needs.{needs_along}
+use Rattle.bx_changes.specs.bx_files.proofs.Needs.{needs_along}
 use Rattle.bx_layout.specs.declared.inode.Inode.{Inode}
 use Rattle.bx_records.specs.Drafts.{Changed}
 use Rattle.bx_entries.specs.Finding.{OnFile, OnNamed}

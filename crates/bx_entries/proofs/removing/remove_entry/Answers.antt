@@ -1,6 +1,6 @@
 use Rattle.std.proofs.Common.{ℕ, List, sym, ap, subst, inr}
 use Rattle.std.specs.Prelude.{◌==◌, Ok, Err}
-use Rattle.bx_files.proofs.Needs.{needs_along}
+use Rattle.bx_changes.specs.bx_files.proofs.Needs.{needs_along}
 use Rattle.bx_records.specs.Drafts.{Changed}
 use Rattle.bx_entries.specs.Removing.{OnRemoving, OnUnlinking}
 use Rattle.bx_entries.specs.Taking.{IsEntryOf, TakesEntry}

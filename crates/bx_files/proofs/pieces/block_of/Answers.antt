@@ -1,6 +1,6 @@
 use Rattle.std.proofs.Common.{◌≡◌, Option, None, Some, sym, ◌∙◌}
 use Rattle.bx_layout.specs.declared.block.Block.{Block}
-use Rattle.bx_truth.specs.Chunks.{chunks_of}
+use Rattle.bx_chunks.specs.bx_truth.specs.Chunks.{chunks_of}
 use Rattle.bx_files.proofs.pieces.block_of.Goals as goal
 
 pub returns-in-Err-Stale-clause-chunk : goal.returns-in-Err-Stale-clause-chunk

@@ -3,9 +3,9 @@ use Rattle.std.specs.Option.{option_copied}
 use Rattle.std.specs.Result.{result_map_both}
 use Rattle.bx_layout.specs.declared.block.Block.{Block}
 use Rattle.bx_page.specs.Contents.{value_of}
-use Rattle.bx_truth.specs.Chunks.{chunks_of}
-use Rattle.bx_truth.specs.PageTrees.{handle_in, map_of}
-use Rattle.bx_truth.specs.Stored.{piece_of}
+use Rattle.bx_chunks.specs.bx_truth.specs.Chunks.{chunks_of}
+use Rattle.bx_chunks.specs.bx_truth.specs.PageTrees.{handle_in, map_of}
+use Rattle.bx_chunks.specs.bx_truth.specs.Stored.{piece_of}
 use Rattle.bx_files.specs.Reads.{Tells}
 use Rattle.bx_files.proofs.Told.{no_piece, piece_block, piece_is, stops_told}
 use Rattle.bx_files.proofs.pieces.piece_at.Goals as goal

@@ -1,11 +1,11 @@
 use Rattle.std.proofs.Common.{◌≡◌, ℕ, ◌+◌, ◌∙◌, Option, refl, ap}
 use Rattle.std.specs.Prelude.{[]}
 use Rattle.std.specs.Option.{option_copied}
-use Rattle.bx_blink.specs.Hints.{Under}
+use Rattle.bx_inodes.specs.bx_blink.specs.Hints.{Under}
 use Rattle.bx_views.specs.Truths.{Truth}
 use Rattle.bx_layout.specs.declared.block.Block.{Block}
-use Rattle.bx_truth.specs.Chunks.{chunks_of}
-use Rattle.bx_truth.specs.Stored.{HasContents, Owner, Stored, byte_in, piece_of}
+use Rattle.bx_chunks.specs.bx_truth.specs.Chunks.{chunks_of}
+use Rattle.bx_chunks.specs.bx_truth.specs.Stored.{HasContents, Owner, Stored, byte_in, piece_of}
 use Rattle.bx_files.specs.Paths.{OnPiece, OnPieces}
 use Rattle.bx_files.proofs.Needs.{needs_along, piece_on}
 use Rattle.bx_files.proofs.Windows.{all_below, piece_below, piece_more}

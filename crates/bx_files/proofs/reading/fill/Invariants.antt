@@ -1,7 +1,7 @@
 use Rattle.std.proofs.Common.{◌≡◌, ℕ, ◌*◌, [], length}
-use Rattle.bx_blink.specs.Hints.{Under}
-use Rattle.bx_truth.specs.Chunks.{chunks_of}
-use Rattle.bx_truth.specs.Stored.{HasContents, Owner, Stored, piece_of}
+use Rattle.bx_inodes.specs.bx_blink.specs.Hints.{Under}
+use Rattle.bx_chunks.specs.bx_truth.specs.Chunks.{chunks_of}
+use Rattle.bx_chunks.specs.bx_truth.specs.Stored.{HasContents, Owner, Stored, piece_of}
 use Rattle.bx_views.specs.Truths.{Truth}
 use Rattle.bx_files.specs.Reads.{AreOfPieces}
 use Rattle.bx_files.proofs.reading.fill.Given as goal

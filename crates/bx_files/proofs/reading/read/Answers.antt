@@ -1,10 +1,10 @@
 use Rattle.std.proofs.Common.{◌≡◌, ℕ, ◌+◌, ◌/◌, ◌%◌, [], ◌∙◌, List, take, drop, refl, ap, subst, arith}
 use Rattle.std.specs.Prelude.{◌-◌, ◌≤◌, min}
 use Rattle.bx_layout.specs.declared.inode.Inode.{Inode}
-use Rattle.bx_truth.specs.Chunks.{chunks_of}
-use Rattle.bx_truth.specs.Stored.{piece_of}
+use Rattle.bx_chunks.specs.bx_truth.specs.Chunks.{chunks_of}
+use Rattle.bx_chunks.specs.bx_truth.specs.Stored.{piece_of}
 use Rattle.bx_files.specs.Paths.{OnPieces, OnRead}
-use Rattle.bx_blink.specs.Hints.{Under}
+use Rattle.bx_inodes.specs.bx_blink.specs.Hints.{Under}
 use Rattle.bx_files.proofs.Told.{fill_stops}
 use Rattle.bx_files.proofs.Needs.{needs_along, read_on}
 use Rattle.bx_files.proofs.Windows.{window}

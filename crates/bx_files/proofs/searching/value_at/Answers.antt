@@ -1,6 +1,6 @@
 use Rattle.std.proofs.Common.{sym}
 use Rattle.bx_page.specs.Contents.{value_of}
-use Rattle.bx_truth.specs.PageTrees.{map_of}
+use Rattle.bx_chunks.specs.bx_truth.specs.PageTrees.{map_of}
 use Rattle.bx_files.proofs.Slots.{search_block}
 use Rattle.bx_files.proofs.Told.{need_told}
 use Rattle.bx_files.proofs.searching.value_at.Goals as goal

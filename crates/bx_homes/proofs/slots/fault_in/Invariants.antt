@@ -1,7 +1,7 @@
 use Rattle.std.proofs.Common.{ℕ, ◌+◌, ◌*◌, ◌<◌, Ok}
 use Rattle.bx_layout.specs.Areas.{IsArea, SpellsArea}
-use Rattle.bx_truth.specs.Chunks.{IsAreaBlock, own_block}
-use Rattle.bx_views.specs.Truths.{Truth}
+use Rattle.bx_volume.specs.bx_truth.specs.Chunks.{IsAreaBlock, own_block}
+use Rattle.bx_volume.specs.bx_views.specs.Truths.{Truth}
 use Rattle.bx_homes.specs.Slots.{AreBlocks, HasBlock, StaysSo, HasHeader}
 use Rattle.bx_homes.specs.Reading.{ReadsBlocks}
 use Rattle.bx_homes.proofs.slots.fault_in.Given as goal

@@ -1,5 +1,5 @@
 use Rattle.std.proofs.Common.{ℕ, ◌<◌, Ok}
-use Rattle.bx_views.specs.Truths.{Truth}
+use Rattle.bx_volume.specs.bx_views.specs.Truths.{Truth}
 use Rattle.bx_homes.specs.Slots.{AreBlocks, HasArea, StaysSo, IsAreaChunked}
 use Rattle.bx_homes.specs.Reading.{ReadsBlocks}
 use Rattle.bx_homes.proofs.slots.first_fault.Given as goal

@@ -1,5 +1,5 @@
 use Rattle.std.proofs.Common.{inl, inr, sym}
-use Rattle.bx_dirs.specs.Changes.{OnAddPath, entry_of}
+use Rattle.bx_entries.specs.bx_dirs.specs.Changes.{OnAddPath, entry_of}
 use Rattle.bx_model.specs.Reading.{named_file}
 use Rattle.bx_linking.specs.Linking.{OnInto, OnTest, linking}
 use Rattle.bx_linking.proofs.Comes.{both, into, is_linked, lacks_room, needs_by, needs_if, never_if, no_directory, no_name, not_linked, stop_first}

@@ -1,4 +1,4 @@
-use Rattle.bx_files.proofs.Slots.{search_block}
+use Rattle.bx_changes.specs.bx_files.proofs.Slots.{search_block}
 use Rattle.bx_truth.specs.Keys.{name_key}
 use Rattle.bx_linking.proofs.Tested.{need_told}
 use Rattle.bx_linking.proofs.searching.find_entry.Goals as goal

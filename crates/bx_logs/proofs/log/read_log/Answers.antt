@@ -3,8 +3,8 @@ use Rattle.std.proofs.lemmas.List.{length-append}
 use Rattle.bx_disk.specs.Disks.{Image, Disks}
 use Rattle.bx_layout.specs.Labels.{IsOpenGate}
 use Rattle.bx_places.specs.Places.{gate_place, log_device}
-use Rattle.bx_volume.specs.Images.{devices_of, member_disk}
-use Rattle.bx_volume.specs.Records.{Logged, IsInBody, StandOpen}
+use Rattle.bx_homes.specs.bx_volume.specs.Images.{devices_of, member_disk}
+use Rattle.bx_homes.specs.bx_volume.specs.Records.{Logged, IsInBody, StandOpen}
 use Rattle.bx_homes.proofs.Sectors.{of_none, of_some}
 use Rattle.bx_logs.specs.declared.members.Members.{Members}
 use Rattle.bx_logs.specs.Members.{held_by, member_in}

@@ -1,6 +1,6 @@
 use Rattle.std.proofs.Common.{◌≡◌, length, reverse, Ok}
 use Rattle.bx_disk.specs.Kept.{Fails}
-use Rattle.bx_volume.specs.Records.{StandOpen}
+use Rattle.bx_homes.specs.bx_volume.specs.Records.{StandOpen}
 use Rattle.bx_logs.specs.Members.{held_by}
 use Rattle.bx_logs.proofs.log.read_log.Given as goal
 

@@ -1,6 +1,6 @@
 use Rattle.std.proofs.Common.{◌≡◌, ℕ, ◌<◌, length, reverse, Ok}
 use Rattle.bx_disk.specs.Kept.{Fails}
-use Rattle.bx_volume.specs.Records.{HasLog}
+use Rattle.bx_homes.specs.bx_volume.specs.Records.{HasLog}
 use Rattle.bx_logs.specs.Logs.{log_in}
 use Rattle.bx_logs.specs.Members.{held_by}
 use Rattle.bx_logs.proofs.logs.read_logs.Given as goal

@@ -1,5 +1,5 @@
 use Rattle.std.proofs.Common.{◌≡◌, ℕ, reverse, take}
-use Rattle.bx_volume.specs.Records.{newest_in}
+use Rattle.bx_homes.specs.bx_volume.specs.Records.{newest_in}
 use Rattle.bx_logs.specs.Newest.{newest_at}
 use Rattle.bx_logs.proofs.newest.newest_of.Given as goal
 

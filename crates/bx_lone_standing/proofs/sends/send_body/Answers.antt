@@ -3,7 +3,7 @@ use Rattle.bx_facts.specs.Writes.{AreRuns}
 use Rattle.bx_redo.specs.Steps.{record_of, with_work, writes}
 use Rattle.bx_redo.specs.View.{LogView}
 use Rattle.bx_redo.specs.declared.work.Work.TheVariants as works
-use Rattle.bx_volume.specs.Records.{logged_text}
+use Rattle.bx_redo.specs.bx_volume.specs.Records.{logged_text}
 use Rattle.bx_lone_standing.specs.Sends.{HasSent}
 use Rattle.bx_lone_standing.proofs.Fitting.{body_is, log_fits, of_areas, of_volume}
 use Rattle.bx_lone_standing.proofs.sends.send_body.Goals as goal

@@ -2,7 +2,7 @@ use Rattle.std.proofs.Common.{◌<◌, Err, rules, subst}
 use Rattle.bx_places.specs.declared.chunk_handle.ChunkHandle.{ChunkHandle}
 use Rattle.bx_layout.specs.Areas.{MarksDead}
 use Rattle.bx_records.specs.Drafts.{with_block}
-use Rattle.bx_truth.specs.Chunks.{own_block}
+use Rattle.bx_chunks.specs.bx_truth.specs.Chunks.{own_block}
 use Rattle.bx_chunks.specs.Putting.{PutsAs, own_of}
 use Rattle.bx_chunks.specs.declared.error.ChunkError.TheVariants.{Stale}
 use Rattle.bx_chunks.proofs.HeldDrafts.{marks_held}

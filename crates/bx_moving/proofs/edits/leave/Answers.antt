@@ -1,5 +1,5 @@
 use Rattle.std.proofs.Common.{inr}
-use Rattle.bx_dirs.specs.Changes.{OnTakePath}
+use Rattle.bx_entries.specs.bx_dirs.specs.Changes.{OnTakePath}
 use Rattle.bx_entries.proofs.RemovedFrom.{needs_wider}
 use Rattle.bx_leaves.proofs.Fair.{seen_held}
 use Rattle.bx_model.specs.Edits.{changed}

@@ -1,6 +1,6 @@
 use Rattle.std.proofs.Common.{List, inr}
 use Rattle.bx_entries.specs.Unlinking.{without_name_of}
-use Rattle.bx_files.proofs.Needs.{needs_along}
+use Rattle.bx_changes.specs.bx_files.proofs.Needs.{needs_along}
 use Rattle.bx_leaves.proofs.Fair.{seen_held}
 use Rattle.bx_records.specs.Drafts.{Changed}
 use Rattle.bx_truth.specs.Chunks.{block_at}

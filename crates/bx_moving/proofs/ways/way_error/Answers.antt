@@ -4,7 +4,7 @@ use Rattle.bx_base.specs.declared.names.Mode.TheVariants.{Shared}
 use Rattle.bx_blink.specs.Walks.{reads_with}
 use Rattle.bx_inodes.specs.Inodes.{FileAt, IsInodeOf, LiveAt}
 use Rattle.bx_model.specs.Moves.{way_errors}
-use Rattle.bx_reads.proofs.Told.{over_none}
+use Rattle.bx_changes.specs.bx_reads.proofs.Told.{over_none}
 use Rattle.bx_records.specs.Drafts.{Changed}
 use Rattle.bx_views.specs.Truths.{with_draft}
 use Rattle.bx_moving.specs.Ways.{itself, parent}

@@ -1,6 +1,6 @@
 use Rattle.std.proofs.Common.{arith}
 use Rattle.std.proofs.lemmas.Bool.Decides.{nat_tests}
-use Rattle.bx_homes.proofs.Sectors.{of_none}
+use Rattle.bx_logs.specs.bx_homes.proofs.Sectors.{of_none}
 use Rattle.bx_overlay.proofs.There.{are_there}
 use Rattle.bx_overlay.proofs.volume_disks.find_members.Goals as goal
 

@@ -3,7 +3,7 @@ use Rattle.bx_disk.specs.Disks.{Disks}
 use Rattle.bx_facts.specs.Writes.{Made}
 use Rattle.bx_plain.specs.Begin.{plain_state}
 use Rattle.bx_plain.specs.Fits.{own_in}
-use Rattle.bx_plain_parts.specs.declared.parts.Shape.{Shape}
+use Rattle.bx_node_rounds.specs.bx_plain_parts.specs.declared.parts.Shape.{Shape}
 use Rattle.bx_plain_service.proofs.Openings.{has_own, if_ok_map, own_below}
 use Rattle.bx_plain_service.proofs.beginning.cluster_of.Goals as goal
 

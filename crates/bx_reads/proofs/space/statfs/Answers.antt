@@ -1,5 +1,5 @@
 use Rattle.bx_reads.proofs.FreeSpace.{by_areas, by_inode, space_told, stopped_space}
-use Rattle.bx_chunks.specs.Counting.{free_slots}
+use Rattle.bx_files.specs.bx_chunks.specs.Counting.{free_slots}
 use Rattle.bx_reads.proofs.space.statfs.Goals as goal
 
 pub returns-in-Err-clause-step : goal.returns-in-Err-clause-step

@@ -2,8 +2,8 @@ use Rattle.std.proofs.Common.{List, [], Option, sym, subst, Err}
 use Rattle.bx_blink.specs.Walks.{reads_with}
 use Rattle.bx_chunks.specs.Taking.{NoSlots, TakesSlots}
 use Rattle.bx_records.specs.Drafts.{Changed}
-use Rattle.bx_splits.specs.Cutting.{IsOwned, NeedsForSplit, SplitsAt}
-use Rattle.bx_splits.specs.Splits.{SplitsIn, SplitsPage}
+use Rattle.bx_posts.specs.bx_splits.specs.Cutting.{IsOwned, NeedsForSplit, SplitsAt}
+use Rattle.bx_posts.specs.bx_splits.specs.Splits.{SplitsIn, SplitsPage}
 use Rattle.bx_blink.specs.Hints.{Under}
 use Rattle.bx_ready.specs.Rooms.{FindsFull, LandsFull, LandsRoomy}
 use Rattle.bx_ready.proofs.Lacks.{no_room}

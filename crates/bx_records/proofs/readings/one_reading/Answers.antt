@@ -1,4 +1,4 @@
-use Rattle.bx_base.proofs.Whole.{padded_again}
+use Rattle.bx_layout.specs.bx_base.proofs.Whole.{padded_again}
 use Rattle.bx_records.proofs.HeadFields.{head_field}
 use Rattle.bx_records.proofs.Sectors.{head_same}
 use Rattle.bx_records.proofs.readings.one_reading.Goals as goal

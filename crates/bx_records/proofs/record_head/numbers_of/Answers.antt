@@ -1,7 +1,7 @@
 use Rattle.std.proofs.lemmas.Result.{err_from_is_err_and}
-use Rattle.bx_base.specs.Reading.{list_at}
+use Rattle.bx_layout.specs.bx_base.specs.Reading.{list_at}
 use Rattle.bx_records.specs.RecordReading.{number_of_block_at}
-use Rattle.bx_base.proofs.Lists.{goes_on, ends, is_done}
+use Rattle.bx_layout.specs.bx_base.proofs.Lists.{goes_on, ends, is_done}
 use Rattle.bx_records.proofs.record_head.numbers_of.Goals as goal
 
 pub returns-in_err-block : goal.returns-in_err-block

@@ -1,7 +1,7 @@
 use Rattle.std.proofs.Common.{List, subst}
 use Rattle.std.specs.Prelude.{Err}
 use Rattle.bx_inodes.specs.Inodes.{FileAt, IsInodeOf}
-use Rattle.bx_reads.proofs.Told.{over_none}
+use Rattle.bx_changes.specs.bx_reads.proofs.Told.{over_none}
 use Rattle.bx_records.specs.Drafts.{Changed}
 use Rattle.bx_views.specs.Truths.{with_draft}
 use Rattle.bx_renaming.proofs.Finds.{no_other, nobody, not_told, somebody}

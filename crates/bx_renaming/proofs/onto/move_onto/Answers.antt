@@ -1,7 +1,7 @@
 use Rattle.std.proofs.Common.{ℕ, Option, None, inl, inr, subst}
 use Rattle.std.specs.Prelude.{Ok}
 use Rattle.std.proofs.lemmas.Result.{IfErr-weaker, IfOk-weaker}
-use Rattle.bx_entries.specs.declared.taking.Known.{Known}
+use Rattle.bx_linking.specs.bx_entries.specs.declared.taking.Known.{Known}
 use Rattle.bx_tree_files.specs.Names.{names_of}
 use Rattle.bx_moving.proofs.Steps.{wider_by}
 use Rattle.bx_renaming.specs.Found.{OtherFor}

@@ -2,7 +2,7 @@ use Rattle.bx_renaming.proofs.Comes.{moves_from, not_moved}
 use Rattle.bx_renaming.proofs.Rooms.{from}
 use Rattle.bx_linking.proofs.Comes.{stop_first}
 use Rattle.std.proofs.Common.{ℕ}
-use Rattle.bx_entries.specs.declared.taking.Known.{Known}
+use Rattle.bx_linking.specs.bx_entries.specs.declared.taking.Known.{Known}
 use Rattle.bx_tree_files.specs.Names.{names_of}
 use Rattle.bx_renaming.specs.Lacking.{MakesRoomFor}
 use Rattle.bx_renaming.proofs.renaming.move_between.Goals as goal

@@ -2,7 +2,7 @@ use Rattle.std.proofs.Common.{◌≡◌, ◌+◌, ◌<◌, ℕ, List, Some, None
 use Rattle.std.specs.Prelude.{bytes_eq}
 use Rattle.std.proofs.lemmas.Slice.Eq.{bytes_eq-Decides}
 use Rattle.bx_blink.specs.Leaves.{IsLeafFor}
-use Rattle.bx_files.proofs.Slots.{search_block}
+use Rattle.bx_changes.specs.bx_files.proofs.Slots.{search_block}
 use Rattle.bx_page.specs.Contents.{first, from}
 use Rattle.bx_truth.specs.Keys.{content_key}
 use Rattle.bx_truth.specs.PageTrees.{map_of}

@@ -5,7 +5,7 @@ use Rattle.bx_blink.specs.Walks.{reads_with}
 use Rattle.bx_changes.proofs.AttributesSet.{no_name, stopped}
 use Rattle.bx_inodes.specs.Inodes.{IsInodeOf, LiveAt}
 use Rattle.bx_model.specs.Writing.{setattr}
-use Rattle.bx_reads.proofs.Told.{over_none}
+use Rattle.bx_changes.specs.bx_reads.proofs.Told.{over_none}
 use Rattle.bx_records.specs.Drafts.{Changed}
 use Rattle.bx_views.specs.Truths.{with_draft}
 use Rattle.bx_sizes.proofs.First.{never_first, no_inode_stops, not_given}

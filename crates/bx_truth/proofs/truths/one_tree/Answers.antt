@@ -1,6 +1,6 @@
 use Rattle.std.proofs.Common.{sym, ap, ◌∙◌, List}
-use Rattle.bx_base.specs.Text.{text_of}
-use Rattle.bx_tree_files.specs.declared.file.File.{File}
+use Rattle.bx_page.specs.bx_base.specs.Text.{text_of}
+use Rattle.bx_model.specs.bx_tree_files.specs.declared.file.File.{File}
 use Rattle.bx_model.specs.Listing.{listing_lines}
 use Rattle.bx_truth.specs.Chunks.{chunks_of}
 use Rattle.bx_truth.proofs.OneFiles.{one_list}

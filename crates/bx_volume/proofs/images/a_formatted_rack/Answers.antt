@@ -1,5 +1,5 @@
 use Rattle.std.proofs.Common.{◌≡◌, refl}
-use Rattle.bx_model.specs.Opening.{opening}
+use Rattle.bx_tree_laws.specs.bx_model.specs.Opening.{opening}
 use Rattle.bx_tree_laws.proofs.Opening.{opening_is}
 use Rattle.bx_truth.specs.Opening.{opening_truth}
 use Rattle.bx_truth.proofs.OpeningTree.{opening_stands}

@@ -1,7 +1,7 @@
 use Rattle.std.proofs.Common.{ap, List}
 use Rattle.bx_base.specs.Text.{text_of}
-use Rattle.bx_tree_files.specs.declared.file.File.{File}
-use Rattle.bx_model.specs.Listing.{listing_lines}
+use Rattle.bx_truth.specs.bx_tree_files.specs.declared.file.File.{File}
+use Rattle.bx_tree_laws.specs.bx_model.specs.Listing.{listing_lines}
 use Rattle.bx_volume.proofs.OneShown.{one_shown}
 use Rattle.bx_volume.proofs.images.one_tree_is_shown.Goals as goal
 

@@ -1,11 +1,11 @@
 use Rattle.std.proofs.Common.{ℕ, List, [], Option, Err, subst}
 use Rattle.bx_leaves.specs.Changes.{NeedsUnheld}
-use Rattle.bx_ready.specs.Ready.{OnReadyPath, ReadiesIn}
+use Rattle.bx_entries.specs.bx_ready.specs.Ready.{OnReadyPath, ReadiesIn}
 use Rattle.bx_records.specs.Drafts.{Changed}
 use Rattle.bx_entries.proofs.Lacks.{not_first}
 use Rattle.bx_entries.proofs.Stopped.{full_stops, needs_stop}
 use Rattle.bx_chunks.specs.Taking.{NoSlots, TakesSlots}
-use Rattle.bx_ready.specs.Lacking.{MakesRoom}
+use Rattle.bx_entries.specs.bx_ready.specs.Lacking.{MakesRoom}
 use Rattle.bx_truth.specs.Keys.{content_key}
 use Rattle.bx_writes.proofs.Missing.{finding, leaves, making, stopped, under}
 use Rattle.bx_writes.proofs.preparing.missing.Goals as goal

@@ -3,8 +3,8 @@ use Rattle.bx_blink.specs.Walks.{reads_with}
 use Rattle.bx_leaves.proofs.Fair.{put_held}
 use Rattle.bx_leaves.specs.Changes.{NeedsUnheld}
 use Rattle.bx_leaves.specs.Leaves.{InsertsAt, OnLeafPath}
-use Rattle.bx_making.proofs.Steps.{taken_held}
-use Rattle.bx_ready.proofs.Lengths.{one_more, put_more, taken_more}
+use Rattle.bx_entries.specs.bx_making.proofs.Steps.{taken_held}
+use Rattle.bx_entries.specs.bx_ready.proofs.Lengths.{one_more, put_more, taken_more}
 use Rattle.bx_records.specs.Drafts.{Changed}
 use Rattle.bx_truth.specs.Chunks.{block_at}
 use Rattle.bx_truth.specs.Keys.{content_key, content_value}

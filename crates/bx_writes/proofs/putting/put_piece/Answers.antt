@@ -1,6 +1,6 @@
 use Rattle.std.proofs.Common.{ℕ, List, Option, Some, length, arith, ap, subst, sym}
 use Rattle.bx_leaves.proofs.Fair.{put_held}
-use Rattle.bx_ready.proofs.Lengths.{one_more}
+use Rattle.bx_entries.specs.bx_ready.proofs.Lengths.{one_more}
 use Rattle.bx_records.specs.Drafts.{Changed}
 use Rattle.bx_truth.specs.Chunks.{block_at}
 use Rattle.bx_views.specs.Attempts.{IsHeldDraft}

@@ -3,7 +3,7 @@ use Rattle.std.specs.Prelude.{Err}
 use Rattle.bx_base.specs.declared.names.Mode.TheVariants.{Exclusive}
 use Rattle.bx_blink.specs.Walks.{reads_with}
 use Rattle.bx_inodes.specs.Inodes.{IsInodeOf, LiveAt}
-use Rattle.bx_reads.proofs.Told.{over_none}
+use Rattle.bx_changes.specs.bx_reads.proofs.Told.{over_none}
 use Rattle.bx_records.specs.Drafts.{Changed}
 use Rattle.bx_views.specs.Truths.{with_draft}
 use Rattle.bx_model.specs.Writing.{write}

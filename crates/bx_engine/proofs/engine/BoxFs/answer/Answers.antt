@@ -2,8 +2,8 @@ use Rattle.std.proofs.Common.{◌≡◌, ◌∙◌, ℕ, List, refl, sym, ap, su
 use Rattle.std.specs.Prelude.{Ok, IfOk}
 use Rattle.std.proofs.lemmas.Result.{IfOk-weaker}
 use Rattle.bx_chunks.specs.Counting.{free_slots}
-use Rattle.bx_directory_reads.specs.Listings.{OnListing}
-use Rattle.bx_directory_reads.specs.Lookups.{OnLooking}
+use Rattle.bx_attempts.specs.bx_directory_reads.specs.Listings.{OnListing}
+use Rattle.bx_attempts.specs.bx_directory_reads.specs.Lookups.{OnLooking}
 use Rattle.bx_engine.proofs.Along.{fair_along}
 use Rattle.bx_engine.proofs.Acting.{gives_by, lookup_acts, mount_acts, nothing_acts, read_acts, readdir_acts, refused_acts}
 use Rattle.bx_engine.proofs.Stopping.{answered_comes, replied_comes, replied_enough, replied_fair, replied_keeps, told_enough}

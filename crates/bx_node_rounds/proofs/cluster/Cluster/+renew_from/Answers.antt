@@ -1,5 +1,5 @@
 use Rattle.std.proofs.Common.{rules, arith, refl}
-use Rattle.bx_node_openings.specs.Opening.{opening_clocks}
+use Rattle.bx_nodes.specs.bx_node_openings.specs.Opening.{opening_clocks}
 use Rattle.bx_node_rounds.proofs.Coming.{none_renewed, on_ok_two, ready_renewed, sessions_on, told_renewed}
 use Rattle.bx_node_rounds.proofs.cluster.Cluster.+renew_from.Goals as goal
 

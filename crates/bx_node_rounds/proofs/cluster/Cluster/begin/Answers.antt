@@ -3,7 +3,7 @@ use Rattle.bx_facts.proofs.Lists.{nothing}
 use Rattle.bx_node_rounds.specs.Rounds.{HasSession}
 use Rattle.bx_node_steps.specs.Seen.{seen}
 use Rattle.bx_volume.specs.Records.{Logged}
-use Rattle.bx_world_stays.proofs.Begins.{opening_course}
+use Rattle.bx_nodes.specs.bx_world_stays.proofs.Begins.{opening_course}
 use Rattle.bx_node_rounds.proofs.cluster.Cluster.begin.Goals as goal
 
 -- no record

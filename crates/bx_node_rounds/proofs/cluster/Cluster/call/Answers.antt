@@ -1,4 +1,4 @@
-use Rattle.bx_node_openings.specs.Opening.{opening_clocks}
+use Rattle.bx_nodes.specs.bx_node_openings.specs.Opening.{opening_clocks}
 use Rattle.bx_node_rounds.proofs.Coming.{each_called, ready_call, still_called, told_call}
 use Rattle.bx_node_rounds.proofs.cluster.Cluster.call.Goals as goal
 

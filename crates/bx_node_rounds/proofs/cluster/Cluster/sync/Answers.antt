@@ -1,8 +1,8 @@
 use Rattle.std.proofs.Common.{◌≡◌, ◌∙◌, List, ◌++◌, Err, refl, sym, subst, ap}
 use Rattle.std.proofs.lemmas.List.{append-nil}
 use Rattle.bx_base.specs.declared.names.Actor.TheVariants.{Member}
-use Rattle.bx_node_openings.specs.Opening.{opening_clocks}
-use Rattle.bx_node_events.proofs.Stopping.{but_none}
+use Rattle.bx_nodes.specs.bx_node_openings.specs.Opening.{opening_clocks}
+use Rattle.bx_nodes.specs.bx_node_events.proofs.Stopping.{but_none}
 use Rattle.bx_node_steps.specs.Seen.{seen}
 use Rattle.bx_nodes.specs.Standing.{Stand}
 use Rattle.bx_post.specs.declared.packets.Letter.{Letter}

@@ -1,4 +1,4 @@
-use Rattle.bx_node_openings.specs.Opening.{opening_clocks}
+use Rattle.bx_nodes.specs.bx_node_openings.specs.Opening.{opening_clocks}
 use Rattle.bx_node_rounds.proofs.Ticking.{begins_ticked, busy_ticked, ready_ticked, still_ticked, told_ticked, waits_ticked}
 use Rattle.bx_node_rounds.proofs.cluster.Cluster.tick.Goals as goal
 

@@ -1,6 +1,6 @@
 use Rattle.std.proofs.Common.{◌≡◌, List, ◌++◌, refl, sym, subst, arith, ap, ◌∙◌}
 use Rattle.std.proofs.lemmas.List.{append-nil}
-use Rattle.bx_node_openings.specs.Opening.{opening_clocks}
+use Rattle.bx_nodes.specs.bx_node_openings.specs.Opening.{opening_clocks}
 use Rattle.bx_node_rounds.proofs.Nodes.{if_ok_both, if_ok_with, on_ok_pair, on_ok_with, sessions_turn, turn_of, turn_ready, turn_stands}
 use Rattle.bx_nodes.specs.Standing.{Stand}
 use Rattle.bx_post.specs.declared.packets.Letter.{Letter}

@@ -5,8 +5,8 @@ use Rattle.bx_facts.specs.Chains.{IsAboveBoots}
 use Rattle.bx_facts.specs.Pasts.{found_register}
 use Rattle.bx_facts.specs.declared.input.OpenError.TheVariants.{NoMajority, Spent}
 use Rattle.bx_global.specs.declared.state.GlobalState.{GlobalState}
-use Rattle.bx_paxos.specs.Reading.{ReadsState}
-use Rattle.bx_paxos_found.specs.Finding.{AreAtTheEnd, AreFollowed, IsGreatestBoot, LackMajority}
+use Rattle.bx_paxos_machines.specs.bx_paxos.specs.Reading.{ReadsState}
+use Rattle.bx_paxos_machines.specs.bx_paxos_found.specs.Finding.{AreAtTheEnd, AreFollowed, IsGreatestBoot, LackMajority}
 use Rattle.bx_rounds.specs.declared.course.Course.{Course}
 use Rattle.bx_paxos_machines.specs.Cluster.{Cluster}
 use Rattle.bx_paxos_machines.specs.Keeps.{Keeps}

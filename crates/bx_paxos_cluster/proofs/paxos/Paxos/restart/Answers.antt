@@ -8,8 +8,8 @@ use Rattle.bx_facts.specs.Chains.{IsNext, last}
 use Rattle.bx_facts.specs.Disks.{NeedsAt, OnlyDiskOf, ReadsOnly}
 use Rattle.bx_facts.specs.Machines.{IsMachine, OnlyAt, OnlyFactsAt}
 use Rattle.bx_facts.specs.Pasts.{register_failed, register_restarted, register_with}
-use Rattle.bx_paxos.specs.Fits.{Fits, Turned, going}
-use Rattle.bx_paxos.specs.Reading.{ReadsState}
+use Rattle.bx_paxos_machines.specs.bx_paxos.specs.Fits.{Fits, Turned, going}
+use Rattle.bx_paxos_machines.specs.bx_paxos.specs.Reading.{ReadsState}
 use Rattle.bx_paxos_machines.specs.Cluster.{Cluster, Moves, OnlyMachine, is_busy, knows, needs, voters_of}
 use Rattle.bx_paxos_machines.specs.Keeps.{Keeps}
 use Rattle.bx_paxos_machines.specs.Parts.{KnowsNoLess, MachineStarts, acceptor_of, course_of, proposer_of}

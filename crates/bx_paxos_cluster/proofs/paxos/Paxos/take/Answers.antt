@@ -8,7 +8,7 @@ use Rattle.bx_facts.specs.Disks.{HasRoom, NeedsNoMore, OnlyDiskOf, ReadsOnly}
 use Rattle.bx_facts.specs.Machines.{IsMachine, OnlyAt, OnlyFactsAt}
 use Rattle.bx_facts.specs.Pasts.{register_with}
 use Rattle.bx_global.specs.declared.state.GlobalState.{GlobalState}
-use Rattle.bx_paxos.specs.Reading.{ReadsState}
+use Rattle.bx_paxos_machines.specs.bx_paxos.specs.Reading.{ReadsState}
 use Rattle.bx_paxos_machines.specs.Cluster.{Cluster, Moves, OnlyMachine, is_busy, knows, needs, voters_of}
 use Rattle.bx_paxos_machines.specs.Keeps.{Keeps}
 use Rattle.bx_paxos_machines.specs.Parts.{KnowsNoLess, MachineTakes}

@@ -1,5 +1,5 @@
 use Rattle.std.proofs.Common.{refl}
-use Rattle.bx_paxos_found.proofs.Refusals.{tell_none, tell_one}
+use Rattle.bx_paxos_machines.specs.bx_paxos_found.proofs.Refusals.{tell_none, tell_one}
 use Rattle.bx_paxos_machines.proofs.Others.{all_ok}
 use Rattle.bx_paxos_cluster.proofs.register.PaxosRegister.open.Goals as goal
 

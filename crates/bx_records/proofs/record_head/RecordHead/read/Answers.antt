@@ -1,5 +1,5 @@
 use Rattle.std.proofs.Common.{arith}
-use Rattle.bx_base.proofs.Whole.{zeros_none, zeros_some}
+use Rattle.bx_layout.specs.bx_base.proofs.Whole.{zeros_none, zeros_some}
 use Rattle.bx_records.specs.declared.record_head.RecordHead.{RecordHead}
 use Rattle.bx_records.specs.Records.{SpellsHead}
 use Rattle.bx_records.specs.RecordReading.{head_at}

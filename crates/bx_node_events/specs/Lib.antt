@@ -1,0 +1,2 @@
+pub use Rattle.bx_node_holds
+pub use Rattle.bx_world_stays

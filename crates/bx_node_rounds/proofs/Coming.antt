@@ -1,16 +1,22 @@
 -- What is left of all nodes where a call comes to one of them, or one meets its session.
-use Rattle.std.proofs.Common.{◌≡◌, ◌≢◌, ◌⊎◌, ⊎_elim, inl, inr, ◌∙◌, ℕ, zero, suc, ◌+◌, ◌*◌, ◌<◌, ◌≤◌, List, [], ◌∷◌, length, Option, Some, None, IfSome, IsSomeAnd, OnOk, Result, Ok, Err, refl, sym, ap, subst, arith}
-use Rattle.std.specs.Prelude.{◌↔◌, ◌++◌, option_map, slice_get}
+use Rattle.std.proofs.Common.{◌≡◌, ◌≢◌, ◌⊎◌, ⊎_elim, inl, inr, ◌∙◌, ℕ, zero, suc, ◌+◌, ◌*◌, ◌<◌, ◌≤◌, Bool, false, List, [], ◌∷◌, length, Option, Some, None, IfSome, IsSomeAnd, OnOk, Result, Ok, Err, refl, sym, ap, subst, arith}
+use Rattle.std.specs.Prelude.{◌↔◌, ◌++◌, is_some, option_map, slice_get}
 use Rattle.std.proofs.lemmas.List.Elements.{Contains-append_left, Contains-push, Contains-push_cases}
 use Rattle.bx_facts.specs.declared.register.Register as register
 use Rattle.bx_facts.specs.declared.store.Store as store
+use Rattle.bx_global.specs.declared.state.GlobalState.{GlobalState}
+use Rattle.bx_node_rounds.specs.Quiet.{tidies_at, tidies_in}
 use Rattle.bx_node_rounds.specs.Rounds.{AreNumbered, AreReady, AreTold, HasSession, HaveStill, NoneWaits, Waits, acting_in}
 use Rattle.bx_node_rounds.specs.declared.cluster.Cluster.{Cluster}
 use Rattle.bx_node_rounds.proofs.Nodes.{both_there, ready_still}
 use Rattle.bx_node_steps.specs.Calls.{AreApart, CallOf, IsAmong, IsThat, KeepsCalls, WaitsAt, call_of, call_written, under_way}
+use Rattle.bx_node_steps.specs.Tidying.{is_tidying}
 use Rattle.bx_node_steps.specs.declared.machine.Machine.{Machine}
 use Rattle.bx_node_tries.specs.declared.round.Waiting.{Waiting}
 use Rattle.bx_nodes.specs.Calls.{AddsCall, IsNewest, WaitsBehind}
+use Rattle.bx_nodes.specs.Opening.{IsFirst}
+use Rattle.bx_nodes.specs.Renewing.{Renews}
+use Rattle.bx_nodes.specs.Renewing.Renews.{Stays, Anew}
 use Rattle.bx_nodes.specs.Standing.{BeReady, OfBoth, OfNode}
 use Rattle.bx_nodes.specs.Turns.{OnlyMachine}
 use Rattle.bx_nodes.specs.declared.nodes.Nodes.{Nodes}
@@ -195,6 +201,14 @@ changed_at node old new Says there count both =
     let is = there_is new.machines.items node (omega (arith, there, count)) in
     record { before = was.0; after = is.0; was = was.1; is = is.1; says = both_there Says old new node was.0 is.0 was.1 is.1 both }
 
+-- Tidies are under way where they were, if so at the one node that changes.
+pub same_tidies : {G O S E T : Type 0} (node : ℕ) (old new : Nodes G O S E T) (before after : Machine) → slice_get old.machines.items node ≡ Some before → slice_get new.machines.items node ≡ Some after
+    → OnlyMachine node old.machines.items new.machines.items → is_tidying after ≡ is_tidying before → (at : ℕ) → tidies_in new.machines.items at ≡ tidies_in old.machines.items at
+same_tidies node old new before after was is others same at = ⊎_elim
+    (λ here. subst (λ (k : ℕ). tidies_in new.machines.items k ≡ tidies_in old.machines.items k) (sym here) (ap tidies_at is ∙ same ∙ sym (ap tidies_at was)))
+    (λ ne. ap tidies_at (others.others at ne))
+    (same_or at node)
+
 module _ {G O S E T : Type 0} (node : ℕ) (call : Waiting) (old new : Nodes G O S E T) (there : node < length old.machines.items) (count : length new.machines.items ≡ length old.machines.items)
     (behind : OfBoth old new node (WaitsBehind call)) (others : OnlyMachine node old.machines.items new.machines.items) where
   pair_at : Changed node old new (WaitsBehind call)
@@ -205,6 +219,10 @@ module _ {G O S E T : Type 0} (node : ℕ) (call : Waiting) (old new : Nodes G O
 
   pub still_called : HaveStill old.machines.items new.machines.items
   still_called = still node old.machines.items new.machines.items pair_at.before pair_at.after pair_at.was pair_at.is others call pair_at.says
+
+  -- tidies go on
+  pub tidies_called : (at : ℕ) → tidies_in new.machines.items at ≡ tidies_in old.machines.items at
+  tidies_called = same_tidies node old new pair_at.before pair_at.after pair_at.was pair_at.is others (ap is_tidying pair_at.says.only)
 
 module _ {G O S E T : Type 0} (g : register.Ghosts G) (st : store.Ghosts S) (e : engine.Ghosts E T) (old : Cluster G O S E T) (ready : AreReady g st e old) where
   -- The machine of one node changes, and all is ready then.
@@ -275,3 +293,21 @@ module _ {G O S E T : Type 0} (g : register.Ghosts G) (st : store.Ghosts S) (e :
 
     pub none_renewed : NoneWaits old.nodes.machines.items → NoneWaits new.machines.items
     none_renewed = none_on old.latest old.nodes.machines.items new.machines.items waited_still
+
+    -- its tidy goes on
+    pub tidies_renewed : (own : Option ℕ) (known : GlobalState) (reads : Bool) → OfBoth old.nodes new node (Renews own known reads) → (at : ℕ) → tidies_in new.machines.items at ≡ tidies_in old.nodes.machines.items at
+    tidies_renewed own known reads renews = same_tidies node old.nodes new was_too.0 is_too.0 was_too.1 is_too.1 others
+        (by (both_there (Renews own known reads) old.nodes new node was_too.0 is_too.0 was_too.1 is_too.1 renews))
+      where
+        by : Renews own known reads was_too.0 is_too.0 → is_tidying is_too.0 ≡ is_tidying was_too.0
+        by (Stays own_is same) = ap is_tidying same
+        by (Anew other begins) = ap is_tidying begins.only
+
+-- a node that has nothing tidies nothing
+pub first_tidies : (devices areas : ℕ) (found : Option Machine) → IfSome found (IsFirst devices areas) → tidies_at found ≡ false
+first_tidies devices areas None first = refl
+first_tidies devices areas (Some machine) first = ap is_some first.has.tidy
+
+pub on_ok_then : {A F : Type 0} (P Q : Type 0) (r : Result A F) → (P → Q) → OnOk r P → OnOk r Q
+on_ok_then P Q (Ok a) gives is = gives is
+on_ok_then P Q (Err e) gives is = tt

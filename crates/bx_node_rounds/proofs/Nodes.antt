@@ -1,19 +1,21 @@
 -- What is left of all nodes where one of them does something.
-use Rattle.std.proofs.Common.{◌≡◌, ◌≢◌, ◌⊎◌, ⊎_elim, ◌∙◌, ℕ, ◌*◌, ◌<◌, List, length, Option, Some, IfOk, IfSome, IsSomeAnd, OnOk, Result, Ok, Err, sym, ap, subst, arith}
+use Rattle.std.proofs.Common.{◌≡◌, ◌≢◌, ◌⊎◌, ⊎_elim, ◌∙◌, ℕ, ◌*◌, ◌<◌, List, length, Option, Some, None, IfOk, IfSome, IsSomeAnd, OnOk, Result, Ok, Err, sym, ap, subst, arith}
 use Rattle.std.specs.Prelude.{option_map, slice_get}
 use Rattle.bx_disk.specs.Disks.{Disks}
 use Rattle.bx_facts.specs.declared.register.Register as register
 use Rattle.bx_facts.specs.declared.store.Store as store
 use Rattle.bx_facts.specs.Writes.{Asked, Made}
 use Rattle.bx_nodes.specs.bx_node_openings.specs.Opening.{opening_clocks}
-use Rattle.bx_node_rounds.specs.Rounds.{AreReady, AreTold, IsTurn, Rounded, Standing, session_at}
+use Rattle.bx_node_rounds.specs.Rounds.{AreReady, AreTold, IsTurn, Rounded, Standing, StandsClean, session_at}
 use Rattle.bx_node_rounds.specs.declared.cluster.Cluster.{Cluster}
 use Rattle.bx_node_rounds.proofs.Turning.{numbered_then, told_then, which}
 use Rattle.bx_node_steps.specs.Calls.{AnswersCalls, AreApart}
 use Rattle.bx_node_steps.specs.Ready.{WasReady}
 use Rattle.bx_node_steps.specs.Tidying.{TidyGoes}
 use Rattle.bx_node_steps.specs.declared.machine.Machine.{Machine}
+use Rattle.bx_node_steps.specs.declared.machine.Tidy.{Tidy}
 use Rattle.bx_node_tries.specs.declared.round.Said.{Said}
+use Rattle.bx_nodes.specs.Cleaning.{CleansArea}
 use Rattle.bx_nodes.specs.Standing.{BeReady, OfBoth, OfNode, Stand}
 use Rattle.bx_nodes.specs.Turns.{OnlyMachine, OnlyStore, Turned}
 use Rattle.bx_nodes.specs.declared.nodes.Nodes.{Nodes}
@@ -47,6 +49,15 @@ if_ok_both P Q R (Err e) by is also = tt
 pub on_ok_with : {A F : Type 0} (P : A → Type 0) (Q R : Type 0) (r : Result A F) → ((a : A) → P a → Q → R) → IfOk r P → OnOk r Q → OnOk r R
 on_ok_with P Q R (Ok a) by is also = by a is also
 on_ok_with P Q R (Err e) by is also = tt
+
+-- .. or what follows of it
+pub on_ok_by : {A F : Type 0} (P : A → Type 0) (R : Type 0) (r : Result A F) → IfOk r P → ((a : A) → P a → OnOk r R) → OnOk r R
+on_ok_by P R (Ok a) is by = by a is
+on_ok_by P R (Err e) is by = tt
+
+pub if_ok_and : {A F : Type 0} (P Q : A → Type 0) (r : Result A F) → IfOk r P → IfOk r Q → IfOk r (λ a. P a × Q a)
+if_ok_and P Q (Ok a) is also = (is, also)
+if_ok_and P Q (Err e) is also = tt
 
 pub on_ok_pair : {A F : Type 0} (P Q : Type 0) (r : Result A F) → OnOk r P → OnOk r Q → OnOk r (P × Q)
 on_ok_pair P Q (Ok a) is also = (is, also)
@@ -131,6 +142,51 @@ module _ {G O S E T : Type 0} where
       where
         its : (machine : Machine) × (slice_get old.nodes.machines.items node ≡ Some machine)
         its = there_is old.nodes.machines.items node (omega (arith, less, ready.counted))
+
+    -- .. with the area that a tidy cleaned.
+    pub turn_clean : (o : owners.Ghosts O) (moment node : ℕ) (new : Nodes G O S E T) (said : List Said) → IsTurn moment node old.nodes.machines.items new.machines.items said → node < old.count → (x : Disks) (tree : T) (letters : List Letter) (course : Course)
+        → AreTold old.latest old.nodes.machines.items course.logs → (turned : Turned (e.step old.nodes.engine) (Stand g o st e new x letters opening_clocks) course tree said)
+        → OfBoth old.nodes new node (λ before after. CleansArea (e.is_clean old.nodes.engine turned.later.truth) (st.made old.nodes.store).areas before.tidy after.tidy)
+        → StandsClean g o st e old (record old { nodes = new }) node x
+    turn_clean o moment node new said turn less x tree letters course told turned clean = record {
+      tree = turned.next;
+      stands = record {
+        letters = letters;
+        course = turned.later;
+        stands = turned.stands;
+        told = told_then moment node old.latest old.nodes.machines.items new.machines.items said its.0 its.1 turn course.logs turned.later.logs ready.numbered told turned.logged;
+      };
+      clean = clean;
+    }
+      where
+        its : (machine : Machine) × (slice_get old.nodes.machines.items node ≡ Some machine)
+        its = there_is old.nodes.machines.items node (omega (arith, less, ready.counted))
+
+-- What a tidy that goes on has cleaned is nothing yet.
+clean_still : (IsClean : ℕ → Type 0) (areas : ℕ) (tidy : Option Tidy) → CleansArea IsClean areas tidy tidy
+clean_still IsClean areas None = tt
+clean_still IsClean areas (Some tidy) = tt
+
+same_clean : {G O S E T : Type 0} (IsClean : ℕ → Type 0) (areas : ℕ) (old new : Nodes G O S E T) (node : ℕ) → new.machines ≡ old.machines → OfBoth old new node (λ before after. CleansArea IsClean areas before.tidy after.tidy)
+same_clean IsClean areas old new node same = rw same (by (slice_get old.machines.items node))
+  where
+    by : (found : Option Machine) → IfSome found (λ before. IfSome found (λ after. CleansArea IsClean areas before.tidy after.tidy))
+    by None = tt
+    by (Some machine) = clean_still IsClean areas machine.tidy
+
+-- Where nodes are left as they were, no tidy of theirs is over.
+pub clean_left : {G O S E T : Type 0} (g : register.Ghosts G) (o : owners.Ghosts O) (st : store.Ghosts S) (e : engine.Ghosts E T) (old new : Cluster G O S E T) (node : ℕ) (x : Disks) (tree : T) → new.nodes.machines ≡ old.nodes.machines
+    → Standing g o st e new x tree → StandsClean g o st e old new node x
+clean_left g o st e old new node x tree same stands = record {
+  tree = tree;
+  stands = stands;
+  clean = same_clean (e.is_clean old.nodes.engine stands.course.truth) (st.made old.nodes.store).areas old.nodes new.nodes node same;
+}
+
+-- .. by what the nodes were before their disks were asked.
+pub clean_from : {G O S E T : Type 0} (g : register.Ghosts G) (o : owners.Ghosts O) (st : store.Ghosts S) (e : engine.Ghosts E T) (old middle new : Cluster G O S E T) (node : ℕ) (x : Disks) → middle.nodes.machines ≡ old.nodes.machines
+    → middle.nodes.engine ≡ old.nodes.engine → st.made middle.nodes.store ≡ st.made old.nodes.store → StandsClean g o st e middle new node x → StandsClean g o st e old new node x
+clean_from g o st e old middle new node x machines engine made clean = record { tree = clean.tree; stands = clean.stands; clean = rw (machines, engine, made) at clean.clean }
 
 -- A turn leaves all sessions.
 pub sessions_turn : (moment node : ℕ) (old new : List Machine) (said : List Said) → IsTurn moment node old new said → (other : ℕ) → session_at new other ≡ session_at old other

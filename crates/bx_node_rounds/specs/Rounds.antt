@@ -14,7 +14,8 @@ use Rattle.bx_node_steps.specs.Tidying.{TidyGoes}
 use Rattle.bx_node_steps.specs.declared.machine.Machine.{Machine}
 use Rattle.bx_node_tries.specs.Tries.{LeadsBack}
 use Rattle.bx_node_tries.specs.declared.round.Said.{Said}
-use Rattle.bx_nodes.specs.Standing.{BeReady, OfNode, Stand}
+use Rattle.bx_nodes.specs.Cleaning.{CleansArea}
+use Rattle.bx_nodes.specs.Standing.{BeReady, OfBoth, OfNode, Stand}
 use Rattle.bx_owners.specs.declared.owners.Owners as owners
 use Rattle.bx_plain_parts.specs.declared.parts.Shape.{Shape}
 use Rattle.bx_post.specs.declared.packets.Letter.{Letter}
@@ -122,6 +123,12 @@ module _ {G O S E T : Type 0} (g : register.Ghosts G) (o : owners.Ghosts O) (st 
     pub course : Course
     pub stands : Stand g o st e cluster.nodes x letters opening_clocks course tree
     pub told : AreTold cluster.latest cluster.nodes.machines.items course.logs
+
+  -- After a turn of a node a cluster stands on these disks for some tree; and where a tidy of the node is over since, the area that it cleaned has no dead file.
+  pub record StandsClean (old new : Cluster G O S E T) (node : ℕ) (x : Disks) : Type 0 where
+    pub tree : T
+    pub stands : Standing new x tree
+    pub clean : OfBoth old.nodes new.nodes node (λ before after. CleansArea (e.is_clean old.nodes.engine stands.course.truth) (st.made old.nodes.store).areas before.tidy after.tidy)
 
 -- The answers lead to a next tree, for which something stands.
 pub record Rounded {E T : Type 0} (e : engine.Ghosts E T) (engine_is : E) (Stands_then : T → Type 0) (tree : T) (said : List Said) : Type 0 where

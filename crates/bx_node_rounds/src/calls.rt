@@ -2,6 +2,7 @@
 
 ghost use Rattle.std.specs.Prelude.{◌≡◌, ◌⊎◌, ◌↔◌, ◌<◌, ℕ, length, List, OnOk};
 ghost use Rattle.bx_disk.specs.Disks.{Disks};
+ghost use Rattle.bx_node_rounds.specs.Quiet.{tidies_in};
 ghost use Rattle.bx_node_rounds.specs.Rounds.{AreReady, HaveStill, IsReady, Standing, Waits};
 ghost use Rattle.bx_node_steps.specs.Calls.{CallOf, call_of};
 
@@ -22,6 +23,7 @@ impl<G: Register, O: Owners, S: Store, E: Engine> Cluster<G, O, S, E> {
             → OnOk result (Standing G.Register O.Owners S.Store E.Engine self.new x tree) }
         ensures waits { (at : ℕ) (other : CallOf) → OnOk result (Waits self.new.nodes.machines.items at other ↔ (Waits self.old.nodes.machines.items at other ⊎ ((at ≡ node) × (call_of call ≡ other)))) }
         ensures still { OnOk result (HaveStill self.old.nodes.machines.items self.new.nodes.machines.items) }
+        ensures tidies { (at : ℕ) → OnOk result (tidies_in self.new.nodes.machines.items at ≡ tidies_in self.old.nodes.machines.items at) }
         ensures latest { OnOk result (self.new.latest ≡ call.number) }
         ensures parts { (self.new.nodes.register ≡ self.old.nodes.register) × (self.new.nodes.owners ≡ self.old.nodes.owners) × (self.new.nodes.store ≡ self.old.nodes.store) × (self.new.nodes.engine ≡ self.old.nodes.engine) }
         ensures count { length self.new.nodes.machines.items ≡ length self.old.nodes.machines.items }

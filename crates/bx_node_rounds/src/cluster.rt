@@ -1,12 +1,13 @@
 //! The cluster.
 
-ghost use Rattle.std.specs.Prelude.{◌≡◌, ◌+◌, ◌*◌, ◌<◌, ◌≤◌, ℕ, List, IfOk, IfSome, OnOk, slice_get, slice_index};
+ghost use Rattle.std.specs.Prelude.{◌≡◌, ◌+◌, ◌*◌, ◌<◌, ◌≤◌, ℕ, List, IfOk, IfSome, OnOk, false, slice_get, slice_index};
 ghost use Rattle.bx_disk.specs.Disks.{Disks, Image};
 ghost use Rattle.bx_facts.specs.Disks.{HasRoom};
 ghost use Rattle.bx_facts.specs.Writes.{store_room};
 ghost use Rattle.bx_global.specs.declared.state.GlobalState.{GlobalState};
 ghost use Rattle.bx_nodes.specs.bx_node_openings.specs.Opening.{AreNew};
 ghost use Rattle.bx_nodes.specs.bx_node_openings.specs.Resting.{VolumeRests};
+ghost use Rattle.bx_node_rounds.specs.Quiet.{tidies_in};
 ghost use Rattle.bx_node_rounds.specs.Rounds.{AreFor, AreReady, HasSession, IsReady, NoneWaits, Standing};
 ghost use Rattle.bx_places.specs.Places.{IsVolume};
 ghost use Rattle.bx_views.specs.Truths.{Truth, no_hints};
@@ -63,6 +64,7 @@ impl<G: Register, O: Owners, S: Store, E: Engine> Cluster<G, O, S, E> {
             → VolumeRests (S.made parts.store) x s held truth → E.stands parts.engine truth no_hints tree
             → IfOk result (λ cluster. Standing G.Register O.Owners S.Store E.Engine cluster x tree × ((node : ℕ) → HasSession cluster.nodes.machines.items node (O.own parts.owners node))) }
         ensures none_wait { IfOk result (λ cluster. NoneWaits cluster.nodes.machines.items) }
+        ensures no_tidy { (node : ℕ) → IfOk result (λ cluster. tidies_in cluster.nodes.machines.items node ≡ false) }
         ensures parts { IfOk result (λ cluster. (cluster.nodes.register ≡ parts.register) × (cluster.nodes.owners ≡ parts.owners) × (cluster.nodes.store ≡ parts.store) × (cluster.nodes.engine ≡ parts.engine)) }
         ensures shape { IfOk result (λ cluster. (cluster.count ≡ shape.nodes) × (cluster.latest ≡ latest)) }
     {
@@ -92,6 +94,7 @@ impl<G: Register, O: Owners, S: Store, E: Engine> Cluster<G, O, S, E> {
         ensures stands { (x : Disks) (tree : E.Tree) → Standing G.Register O.Owners S.Store E.Engine self.old x tree
             → OnOk result (Standing G.Register O.Owners S.Store E.Engine self.new x tree × ((other : ℕ) → node ≤ other → HasSession self.new.nodes.machines.items other (O.own self.old.nodes.owners other))) }
         ensures none_wait { NoneWaits self.old.nodes.machines.items → OnOk result (NoneWaits self.new.nodes.machines.items) }
+        ensures tidies { (other : ℕ) → OnOk result (tidies_in self.new.nodes.machines.items other ≡ tidies_in self.old.nodes.machines.items other) }
         ensures earlier { (other : ℕ) → other < node → OnOk result (slice_get self.new.nodes.machines.items other ≡ slice_get self.old.nodes.machines.items other) }
         ensures parts { (self.new.nodes.register ≡ self.old.nodes.register) × (self.new.nodes.owners ≡ self.old.nodes.owners) × (self.new.nodes.store ≡ self.old.nodes.store) × (self.new.nodes.engine ≡ self.old.nodes.engine) }
         ensures same { (self.new.count ≡ self.old.count) × (self.new.members ≡ self.old.members) × (self.new.latest ≡ self.old.latest) }

@@ -4,7 +4,7 @@ ghost use Rattle.std.specs.Prelude.{◌≡◌, ◌⊎◌, ◌<◌, ◌≤◌, �
 ghost use Rattle.bx_base.specs.Faults.{Rose};
 ghost use Rattle.bx_disk.specs.Disks.{Disks};
 ghost use Rattle.bx_facts.specs.Disks.{SameLabels};
-ghost use Rattle.bx_node_rounds.specs.Rounds.{AreTurns, IsReady, IsTurn, Rounded, Standing, all_said, at_node, session_at};
+ghost use Rattle.bx_node_rounds.specs.Rounds.{AreTurns, IsReady, IsTurn, Rounded, Standing, StandsClean, all_said, at_node, session_at};
 
 use crate::cluster::Cluster;
 use bx_base::{Actor, OutOfMemory};
@@ -36,6 +36,8 @@ impl<G: Register, O: Owners, S: Store, E: Engine> Cluster<G, O, S, E> {
             ⊎ (Rose (R.faults rack.old) (R.faults rack.new) × (told.items ≡ []) × (self.new.nodes.machines ≡ self.old.nodes.machines))) }
         ensures stands { (tree : E.Tree) → R.tells rack.old → Standing G.Register O.Owners S.Store E.Engine self.old (R.state rack.old) tree
             → IfOk result (λ told. Rounded E.Engine self.old.nodes.engine (Standing G.Register O.Owners S.Store E.Engine self.new (R.state rack.new)) tree (all_said told.items)) }
+        ensures cleans { (tree : E.Tree) → R.tells rack.old → self.old.count ≡ 1 → Standing G.Register O.Owners S.Store E.Engine self.old (R.state rack.old) tree
+            → OnOk result (StandsClean G.Register O.Owners S.Store E.Engine self.old self.new 0 (R.state rack.new)) }
         ensures same { (self.new.count ≡ self.old.count) × (self.new.members ≡ self.old.members) × (self.new.latest ≡ self.old.latest) × (self.new.nodes.engine ≡ self.old.nodes.engine) }
         ensures parts { (G.made self.new.nodes.register ≡ G.made self.old.nodes.register) × (S.made self.new.nodes.store ≡ S.made self.old.nodes.store) }
         ensures sessions { OnOk result ((node : ℕ) → session_at self.new.nodes.machines.items node ≡ session_at self.old.nodes.machines.items node) }
@@ -116,6 +118,8 @@ impl<G: Register, O: Owners, S: Store, E: Engine> Cluster<G, O, S, E> {
         ensures turns { IfOk result (λ told. AreTurns moment self.old.count self.old.nodes.machines.items self.new.nodes.machines.items told.items) }
         ensures stands { (sizes : List ℕ) (x : Disks) (tree : E.Tree) → IsReady G.Register S.Store E.Engine self.old sizes → Standing G.Register O.Owners S.Store E.Engine self.old x tree
             → IfOk result (λ told. Rounded E.Engine self.old.nodes.engine (Standing G.Register O.Owners S.Store E.Engine self.new x) tree (all_said told.items)) }
+        ensures cleans { (sizes : List ℕ) (x : Disks) (tree : E.Tree) → self.old.count ≡ 1 → IsReady G.Register S.Store E.Engine self.old sizes → Standing G.Register O.Owners S.Store E.Engine self.old x tree
+            → OnOk result (StandsClean G.Register O.Owners S.Store E.Engine self.old self.new 0 x) }
         ensures same { (self.new.count ≡ self.old.count) × (self.new.members ≡ self.old.members) × (self.new.latest ≡ self.old.latest) × (self.new.nodes.engine ≡ self.old.nodes.engine) }
         ensures parts { (G.made self.new.nodes.register ≡ G.made self.old.nodes.register) × (S.made self.new.nodes.store ≡ S.made self.old.nodes.store) }
         ensures sessions { OnOk result ((node : ℕ) → session_at self.new.nodes.machines.items node ≡ session_at self.old.nodes.machines.items node) }
@@ -137,6 +141,8 @@ impl<G: Register, O: Owners, S: Store, E: Engine> Cluster<G, O, S, E> {
         ensures turns { IfOk result (λ said. IsTurn moment node self.old.nodes.machines.items self.new.nodes.machines.items said.items) }
         ensures stands { (sizes : List ℕ) (x : Disks) (tree : E.Tree) → IsReady G.Register S.Store E.Engine self.old sizes → Standing G.Register O.Owners S.Store E.Engine self.old x tree
             → IfOk result (λ said. Rounded E.Engine self.old.nodes.engine (Standing G.Register O.Owners S.Store E.Engine self.new x) tree said.items) }
+        ensures cleans { (sizes : List ℕ) (x : Disks) (tree : E.Tree) → IsReady G.Register S.Store E.Engine self.old sizes → Standing G.Register O.Owners S.Store E.Engine self.old x tree
+            → OnOk result (StandsClean G.Register O.Owners S.Store E.Engine self.old self.new node x) }
         ensures same { (self.new.count ≡ self.old.count) × (self.new.members ≡ self.old.members) × (self.new.latest ≡ self.old.latest) × (self.new.nodes.engine ≡ self.old.nodes.engine) }
         ensures parts { (G.made self.new.nodes.register ≡ G.made self.old.nodes.register) × (S.made self.new.nodes.store ≡ S.made self.old.nodes.store) }
         ensures sessions { OnOk result ((other : ℕ) → session_at self.new.nodes.machines.items other ≡ session_at self.old.nodes.machines.items other) }

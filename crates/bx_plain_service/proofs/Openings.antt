@@ -1,16 +1,19 @@
 -- What a cluster begins with, and its disks.
-use Rattle.std.proofs.Common.{◌≡◌, ℕ, ◌+◌, ◌<◌, Bool, true, List, Option, None, Some, IfOk, Result, Ok, Err, refl, ap, subst, arith}
-use Rattle.std.specs.Prelude.{◌^◌, if◌then◌else◌, nat_lt}
+use Rattle.std.proofs.Common.{◌≡◌, ℕ, ◌+◌, ◌<◌, Bool, true, List, Option, None, Some, IfOk, OnErr, OnOk, Result, Ok, Err, ◌∙◌, refl, ap, subst, arith}
+use Rattle.std.specs.Prelude.{◌^◌, IfSome, if◌then◌else◌, nat_lt, option_map, slice_get}
 use Rattle.std.proofs.lemmas.Bool.Decides.{nat_tests}
 use Rattle.bx_disk.specs.Disks.{Disks}
 use Rattle.bx_format.specs.Formats.{HasSizes, IsFormatted}
 use Rattle.bx_layout.specs.Labels.{IsLabel}
 use Rattle.bx_lone_repair.specs.Bench.{AreLong, IsBench, first_label}
-use Rattle.bx_node_rounds.specs.Rounds.{HasSession, NoneWaits}
+use Rattle.bx_node_rounds.specs.Rounds.{HasSession, NoneWaits, session_at}
 use Rattle.bx_node_steps.specs.declared.machine.Machine.{Machine}
+use Rattle.bx_lone_store.specs.contracts.store.PlainStoreStore.TheImpl as plain_store
 use Rattle.bx_plain.specs.Fits.{own_in}
+use Rattle.bx_plain.specs.contracts.register.PlainRegisterRegister.TheImpl as plain_register
 use Rattle.bx_plain_service.specs.Events.{call_in, doubts_at}
 use Rattle.bx_plain_service.specs.Showing.{doubt_waits}
+use Rattle.bx_plain_service.specs.Stages.{IsOfShape, PlainCluster}
 use Rattle.bx_service.specs.Rounds.{Doubt}
 
 pub sizes_long : (sizes : List ℕ) → HasSizes sizes 1 1 → AreLong sizes
@@ -51,3 +54,30 @@ if_ok_map P Q (Err e) by is = tt
 
 pub has_own : (machines : List Machine) (node : ℕ) (own : Option ℕ) → own ≡ Some (node + 1) → HasSession machines node own → HasSession machines node (Some (node + 1))
 has_own machines node own same has = subst (HasSession machines node) same has
+
+-- ---- sessions that go on
+
+pub keeps_session : (old new : List Machine) (node : ℕ) (session : Option ℕ) → session_at new node ≡ session_at old node → HasSession old node session → HasSession new node session
+keeps_session old new node session = by (slice_get old node) (slice_get new node)
+  where
+    by : (was is : Option Machine) → option_map (λ (m : Machine). m.session) is ≡ option_map (λ (m : Machine). m.session) was → IfSome was (λ m. m.session ≡ session) → IfSome is (λ m. m.session ≡ session)
+    by was None same had = tt
+    by None (Some now) same had = absurd (let e : Some now.session ≡ None = same in cc)
+    by (Some machine) (Some now) same had = (let e : now.session ≡ machine.session = cc in e) ∙ had
+
+-- ---- what a cluster is made of
+
+-- It stays of its shape where what it is made of does.
+pub shaped_by : (old new : PlainCluster) → IsOfShape old → new.count ≡ old.count → new.nodes.engine ≡ old.nodes.engine → plain_register.ghosts.made new.nodes.register ≡ plain_register.ghosts.made old.nodes.register
+    → plain_store.ghosts.made new.nodes.store ≡ plain_store.ghosts.made old.nodes.store → IsOfShape new
+shaped_by old new was counted engine state made = record { some = rw counted was.some; few = rw counted was.few; areas = rw engine was.areas; made = rw (engine, counted) (made ∙ was.made); state = rw counted (state ∙ was.state) }
+
+-- ---- results
+
+pub on_ok_is : {A F : Type 0} (P : Type 0) (r : Result A F) → P → OnOk r P
+on_ok_is P (Ok a) holds = holds
+on_ok_is P (Err e) holds = tt
+
+pub on_err_then : {A F : Type 0} (P Q : Type 0) (r : Result A F) → (P → Q) → OnErr r P → OnErr r Q
+on_err_then P Q (Ok a) gives is = tt
+on_err_then P Q (Err e) gives is = gives is

@@ -1,5 +1,5 @@
 -- What a service leaves where it stops.
-use Rattle.std.proofs.Common.{◌≡◌, ◌∙◌, ℕ, ◌<◌, ◌≤◌, List, [], ◌∷◌, Option, None, Some, refl, sym, ap, subst, arith}
+use Rattle.std.proofs.Common.{◌≡◌, ◌∙◌, ℕ, ◌<◌, ◌≤◌, false, List, [], ◌∷◌, Option, None, Some, refl, sym, ap, subst, arith}
 use Rattle.std.specs.Prelude.{IfSome, option_map, slice_get}
 use Rattle.bx_disk.specs.Disks.{Disks}
 use Rattle.bx_base.specs.declared.names.Point.{Point}
@@ -17,7 +17,7 @@ use Rattle.bx_plain.specs.contracts.register.PlainRegisterRegister.TheImpl as pl
 use Rattle.bx_plain_service.specs.Events.{doubt_at, doubt_by, doubts_at, taken_at, waits_of}
 use Rattle.bx_plain_service.specs.Seeing.{seen_at}
 use Rattle.bx_plain_service.specs.Showing.{doubt_waits, doubt_written, fits, nodes_stand, parts_are, seen_so, written_doubt}
-use Rattle.bx_plain_service.specs.Stages.{AreRising, IsHolding, IsLeftBy, IsOfShape, IsReady, IsUpOn, MayRun, PlainCluster, count_of, floor_below, latest_in, left_of, written_at}
+use Rattle.bx_plain_service.specs.Stages.{AreRising, IsHolding, IsLeftBy, IsOfShape, IsReady, IsUpOn, MayRun, PlainCluster, count_of, floor_below, is_up, latest_in, left_of, written_at}
 use Rattle.bx_plain_service.specs.declared.service.Stage.{Stage}
 use Rattle.bx_plain_service.specs.declared.service.Stage.TheVariants.{Up, Down, Returning}
 use Rattle.bx_plain_standing.specs.Doubts.{doubts_in}
@@ -133,3 +133,9 @@ crashes (Returning back) x y tree doubts one ready holds crashed = record {
   stopped = stopped.crashes back.left.volume back.left.floor tree holds.of x y crashed holds.stopped;
   old = λ of is. let old = holds.old of is in let most = up_to back.left.latest back.queue.items ready.0.rising in let same = ready.0.newest in omega (arith, old, most, same);
 }
+
+-- a node that is down holds what it left
+pub down_left : (stage : Stage) (disks : Disks) (tree : Tree) (doubts : ℕ → Option Doubt) → is_up stage ≡ false → IsHolding stage disks tree doubts → IsLeftBy (left_of stage) disks tree (doubts 0)
+down_left (Up cluster) disks tree doubts down holds = absurd cc
+down_left (Down left) disks tree doubts down holds = record { of = holds.of; is = holds.is; stopped = holds.stopped; old = holds.old }
+down_left (Returning back) disks tree doubts down holds = absurd cc

@@ -16,6 +16,7 @@ use Rattle.bx_node_tries.specs.Tries.{LeadsBack}
 use Rattle.bx_node_rounds.proofs.Machines.{there_is}
 use Rattle.bx_plain_service.specs.Events.{call_in, doubts_at, events_of, waits_of}
 use Rattle.bx_plain_service.specs.Stages.{IsUpOn, MayRun, PlainCluster, Stands}
+use Rattle.bx_plain_service.proofs.Openings.{keeps_session}
 use Rattle.bx_plain_service.proofs.Rounding.{round_says, turns_along}
 use Rattle.bx_service.specs.Rounds.{Doubt, SaysAll, doubts_but, unless_of}
 use Rattle.bx_service.specs.declared.event.Event.{Event}
@@ -87,19 +88,11 @@ bench_still volume x y sizes labels bench = record {
 module _ (moment : ℕ) (old new : PlainCluster) (told : List Told) (x y : Disks) (tree next : Tree) (doubts : ℕ → Option Doubt) (ready : MayRun old x.sizes) (holds : IsUpOn old x tree doubts)
     (leads : LeadsBack Step tree (reverse (all_said told)) next) (stands : Stands new y next) (labels : SameLabels x y) (sizes : y.sizes ≡ x.sizes) (engine : new.nodes.engine ≡ old.nodes.engine) (count : new.count ≡ old.count)
     (sessions : (node : ℕ) → session_at new.nodes.machines.items node ≡ session_at old.nodes.machines.items node) where
-  has_session : (node : ℕ) (session : Option ℕ) → HasSession old.nodes.machines.items node session → HasSession new.nodes.machines.items node session
-  has_session node session has = by (slice_get old.nodes.machines.items node) (slice_get new.nodes.machines.items node) (sessions node) has
-    where
-      by : (was is : Option Machine) → option_map (λ (m : Machine). m.session) is ≡ option_map (λ (m : Machine). m.session) was → IfSome was (λ m. m.session ≡ session) → IfSome is (λ m. m.session ≡ session)
-      by was None same had = tt
-      by None (Some now) same had = absurd (let e : Some now.session ≡ None = same in cc)
-      by (Some machine) (Some now) same had = (let e : now.session ≡ machine.session = cc in e) ∙ had
-
   up_on : IsUpOn new y next (doubts_at new.nodes.machines.items)
   up_on = record {
     stands = stands;
     bench = rw engine (bench_still old.nodes.engine.volume x y sizes labels holds.bench);
-    sessions = λ node less. has_session node (Some (node + 1)) (holds.sessions node (rw count at less));
+    sessions = λ node less. keeps_session old.nodes.machines.items new.nodes.machines.items node (Some (node + 1)) (sessions node) (holds.sessions node (rw count at less));
     doubted = λ node. refl;
   }
 

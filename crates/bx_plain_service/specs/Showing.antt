@@ -118,7 +118,7 @@ is_any is (first ∷ machines) (suc node) machine there one = by (is first) (is_
     by true rest = refl
     by false rest = rest
 
-below : (machines : List Machine) (node : ℕ) (machine : Machine) → slice_get machines node ≡ Some machine → node < length machines
+pub below : (machines : List Machine) (node : ℕ) (machine : Machine) → slice_get machines node ≡ Some machine → node < length machines
 below [] node machine there = absurd cc
 below (first ∷ machines) zero machine there = omega arith
 below (first ∷ machines) (suc node) machine there = let less = below machines node machine there in omega (arith, less)

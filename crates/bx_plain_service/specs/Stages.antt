@@ -1,6 +1,7 @@
 -- What a service is by its stage.
 use Rattle.std.specs.Prelude.{◌≡◌, ℕ, ◌+◌, ◌-◌, ◌≤◌, ◌<◌, nat_lt, Bool, true, false, ◌&&◌, ◌==◌, List, [], ◌∷◌, Contains, Option, Some, None, length, slice_get}
 use Rattle.bx_disk.specs.Disks.{Disks}
+use Rattle.bx_engine.specs.bx_clean.specs.Tidying.{IsClean}
 use Rattle.bx_engine.specs.contracts.engine.BoxFsEngine.TheImpl as box_fs
 use Rattle.bx_engine.specs.declared.engine.BoxFs.{BoxFs}
 use Rattle.bx_history.specs.Trace.{Taking}
@@ -186,3 +187,17 @@ abbrev pub IsHolding : Stage → Disks → Tree → (ℕ → Option Doubt) → T
 IsHolding (Up cluster) disks tree doubts = IsUpOn cluster disks tree doubts
 IsHolding (Down left) disks tree doubts = IsLeftBy left disks tree (doubts 0)
 IsHolding (Returning back) disks tree doubts = IsLeftBy back.left disks tree (doubts 0)
+
+-- ---- clean areas
+
+-- A cluster stands on disks whose one area has no dead file.
+pub record HoldsClean (cluster : PlainCluster) (disks : Disks) : Type 0 where
+  pub tree : Tree
+  pub stands : Stands cluster disks tree
+  pub clean : IsClean stands.course.truth 0
+
+-- nodes that are up do
+abbrev pub IsCleanOn : Stage → Disks → Type 0
+IsCleanOn (Up cluster) disks = HoldsClean cluster disks
+IsCleanOn (Down left) disks = ⊥
+IsCleanOn (Returning back) disks = ⊥

@@ -1,9 +1,10 @@
 //! Clusters of a volume of one device and one area.
 
-ghost use Rattle.std.specs.Prelude.{◌≡◌, ◌+◌, ◌<◌, ◌≤◌, ℕ, List, IfOk, Some};
+ghost use Rattle.std.specs.Prelude.{◌≡◌, ◌+◌, ◌<◌, ◌≤◌, ℕ, List, IfOk, Some, false};
 ghost use Rattle.bx_disk.specs.Disks.{Disks};
 ghost use Rattle.bx_lone_repair.specs.Bench.{AreLong};
 ghost use Rattle.bx_model.specs.declared.tree.Tree.{Tree};
+ghost use Rattle.bx_node_rounds.specs.Quiet.{tidies_in};
 ghost use Rattle.bx_node_rounds.specs.Rounds.{HasSession, NoneWaits};
 ghost use Rattle.bx_plain_service.specs.Beginning.{AreNewFor, RestsWith, shape_of};
 ghost use Rattle.bx_plain_service.specs.Stages.{IsOfShape, MayRun, Stands};
@@ -41,6 +42,7 @@ pub fn cluster_of(
     ensures shape { IfOk result IsOfShape }
     ensures stands { (disks : Disks) (tree : Tree) → RestsWith volume nodes disks tree → IfOk result (λ cluster. Stands cluster disks tree × ((node : ℕ) → node < nodes → HasSession cluster.nodes.machines.items node (Some (node + 1)))) }
     ensures none_wait { IfOk result (λ cluster. NoneWaits cluster.nodes.machines.items) }
+    ensures no_tidy { (node : ℕ) → IfOk result (λ cluster. tidies_in cluster.nodes.machines.items node ≡ false) }
     ensures same { IfOk result (λ cluster. (cluster.count ≡ nodes) × (cluster.latest ≡ latest) × (cluster.nodes.engine.volume ≡ volume)) }
 {
     let PlainParts {

@@ -2,12 +2,14 @@
 //! what disks show of them.
 #![tactic(auto)]
 
+mod at_once;
 mod beginning;
 mod events;
 mod returning;
 mod service;
 
+pub use at_once::act_at_once;
 pub use beginning::{cluster_of, shape_of};
 pub use events::events_of;
-pub use returning::{Back, Left, left_by, volume_of, waiting_of};
+pub use returning::{Back, Left, left_by, rejoin, volume_of, waiting_of};
 pub use service::{PlainCluster, Stage};

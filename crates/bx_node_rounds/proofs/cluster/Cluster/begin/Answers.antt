@@ -1,5 +1,7 @@
-use Rattle.std.proofs.Common.{[], arith, subst}
+use Rattle.std.proofs.Common.{[], ◌∙◌, arith, subst}
+use Rattle.std.specs.Prelude.{slice_get}
 use Rattle.bx_facts.proofs.Lists.{nothing}
+use Rattle.bx_node_rounds.proofs.Coming.{first_tidies}
 use Rattle.bx_node_rounds.specs.Rounds.{HasSession}
 use Rattle.bx_node_steps.specs.Seen.{seen}
 use Rattle.bx_volume.specs.Records.{Logged}
@@ -21,3 +23,6 @@ returns-clause-stands g c = λ x s held truth tree new rests stands.
       told = record { came = λ slot one has. absurd (nothing one has); none = λ slot one node call has waits. absurd (nothing one has) };
     }) in
     (renewed.0, λ node. subst (λ (o : g.row.O.Denot). HasSession c.renew_from.new.self.nodes.machines.items node (g.O.Owners.own o node)) parts.1 (renewed.1 node (omega arith)))
+
+pub returns-clause-no_tidy : goal.returns-clause-no_tidy
+returns-clause-no_tidy g c = λ node. c.in_ok-renew_from.ensures.tidies node ∙ rw c.new.ensures.machines (first_tidies c.args.shape.devices c.args.shape.areas (slice_get c.in_ok-machines.machines.items node) (c.in_ok-machines.ensures.first node))

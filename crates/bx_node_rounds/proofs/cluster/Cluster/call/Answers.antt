@@ -1,5 +1,5 @@
 use Rattle.bx_nodes.specs.bx_node_openings.specs.Opening.{opening_clocks}
-use Rattle.bx_node_rounds.proofs.Coming.{each_called, ready_call, still_called, told_call}
+use Rattle.bx_node_rounds.proofs.Coming.{each_called, ready_call, still_called, tidies_called, told_call}
 use Rattle.bx_node_rounds.proofs.cluster.Cluster.call.Goals as goal
 
 pub returns-clause-ready : goal.returns-clause-ready
@@ -31,3 +31,8 @@ pub returns-clause-still : goal.returns-clause-still
 returns-clause-still g c =
     let said = c.in_ok-call.ensures in
     still_called c.args.node c.args.call c.args.self.now.nodes c.call.new.self c.requires.there said.count said.waits said.others
+
+pub returns-clause-tidies : goal.returns-clause-tidies
+returns-clause-tidies g c =
+    let said = c.in_ok-call.ensures in
+    tidies_called c.args.node c.args.call c.args.self.now.nodes c.call.new.self c.requires.there said.count said.waits said.others

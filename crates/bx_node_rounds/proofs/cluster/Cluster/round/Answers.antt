@@ -1,5 +1,7 @@
-use Rattle.std.proofs.Common.{IfOk, subst}
+use Rattle.std.proofs.Common.{IfOk, ◌∙◌, subst}
 use Rattle.bx_node_rounds.specs.Rounds.{Rounded, Standing, all_said}
+use Rattle.bx_node_rounds.proofs.Coming.{on_ok_then}
+use Rattle.bx_node_rounds.proofs.Nodes.{clean_from, clean_left}
 use Rattle.bx_node_rounds.proofs.cluster.Cluster.round.Goals as goal
 
 pub returns-clause-stands : goal.returns-clause-stands
@@ -8,3 +10,15 @@ returns-clause-stands g c = λ tree tells standing.
     subst (λ (e : g.row.E.Denot). IfOk c.turn_all.result (λ told. Rounded g.E.Engine e (Standing g.G.Register g.O.Owners g.S.Store g.E.Engine c.turn_all.new.self (g.R.Rack.state c.sync_from.new.rack)) tree (all_said told.items)))
     synced.same.3
     (c.turn_all.ensures.stands (g.R.Rack.state c.sync_from.new.rack).sizes (g.R.Rack.state c.sync_from.new.rack) tree synced.ready (synced.stands tree tells standing))
+
+pub returns-clause-cleans : goal.returns-clause-cleans
+returns-clause-cleans g c = λ tree tells one standing.
+    let synced = c.in_ok-sync_from.ensures in
+    on_ok_then _ _ c.turn_all.result
+    (clean_from g.G.Register g.O.Owners g.S.Store g.E.Engine c.args.self.now c.sync_from.new.self c.turn_all.new.self 0 (g.R.Rack.state c.sync_from.new.rack) synced.machines synced.same.3 synced.parts.1)
+    (c.turn_all.ensures.cleans (g.R.Rack.state c.sync_from.new.rack).sizes (g.R.Rack.state c.sync_from.new.rack) tree (synced.same.0 ∙ one) synced.ready (synced.stands tree tells standing))
+
+pub returns-then-not-branch-clause-cleans : goal.returns-then-not-branch-clause-cleans
+returns-then-not-branch-clause-cleans g c = λ tree tells one standing.
+    let synced = c.in_ok-sync_from.ensures in
+    clean_left g.G.Register g.O.Owners g.S.Store g.E.Engine c.args.self.now c.sync_from.new.self 0 (g.R.Rack.state c.sync_from.new.rack) tree synced.machines (synced.stands tree tells standing)

@@ -1,7 +1,8 @@
 use Rattle.std.proofs.Common.{◌≡◌, List, ◌++◌, refl, sym, subst, arith, ap, ◌∙◌}
 use Rattle.std.proofs.lemmas.List.{append-nil}
 use Rattle.bx_nodes.specs.bx_node_openings.specs.Opening.{opening_clocks}
-use Rattle.bx_node_rounds.proofs.Nodes.{if_ok_both, if_ok_with, on_ok_pair, on_ok_with, sessions_turn, turn_of, turn_ready, turn_stands}
+use Rattle.bx_node_rounds.proofs.Coming.{on_ok_then}
+use Rattle.bx_node_rounds.proofs.Nodes.{if_ok_and, if_ok_both, if_ok_with, on_ok_by, on_ok_pair, on_ok_with, sessions_turn, turn_clean, turn_of, turn_ready, turn_stands}
 use Rattle.bx_nodes.specs.Standing.{Stand}
 use Rattle.bx_post.specs.declared.packets.Letter.{Letter}
 use Rattle.bx_node_rounds.proofs.cluster.Cluster.turn.Goals as goal
@@ -41,3 +42,14 @@ returns-clause-stands g c = λ sizes x tree is_ready standing.
     (said.stands x standing.letters opening_clocks standing.course tree refl (omega arith)
     (subst (λ (l : List Letter). Stand g.G.Register g.O.Owners g.S.Store g.E.Engine c.args.self.now.nodes x l opening_clocks standing.course tree) (sym none) standing.stands))
     (returns-clause-turns g c)
+
+pub returns-clause-cleans : goal.returns-clause-cleans
+returns-clause-cleans g c = λ sizes x tree is_ready standing.
+    let said = c.turn.ensures in
+    let none : standing.letters ++ c.new-out.result ≡ standing.letters = ap (λ (l : List Letter). standing.letters ++ l) c.new-out.ensures ∙ append-nil standing.letters in
+    let stands = subst (λ (l : List Letter). Stand g.G.Register g.O.Owners g.S.Store g.E.Engine c.args.self.now.nodes x l opening_clocks standing.course tree) (sym none) standing.stands in
+    on_ok_by _ _ c.turn.result (if_ok_and _ _ c.turn.result (said.stands x standing.letters opening_clocks standing.course tree refl (omega arith) stands) (returns-clause-turns g c))
+    (λ items both. on_ok_then _ _ c.turn.result
+    (turn_clean g.G.Register g.S.Store g.E.Engine c.args.self.now is_ready.nodes g.O.Owners c.args.moment c.args.node c.turn.new.self items.items both.1 c.requires.there x tree
+    (standing.letters ++ c.turn.new.out) standing.course standing.told both.0)
+    (said.cleans x standing.letters opening_clocks standing.course both.0.later tree both.0.next refl (omega arith) stands both.0.chain both.0.stands))

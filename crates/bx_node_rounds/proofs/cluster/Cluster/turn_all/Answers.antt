@@ -1,5 +1,5 @@
-use Rattle.std.proofs.Common.{refl, sym, subst, ◌∙◌}
-use Rattle.bx_node_rounds.specs.Rounds.{AreTurns, Standing}
+use Rattle.std.proofs.Common.{ℕ, ◌≡◌, refl, sym, subst, ◌∙◌, arith}
+use Rattle.bx_node_rounds.specs.Rounds.{AreTurns, Standing, StandsClean}
 use Rattle.bx_node_rounds.specs.Rounds.AreTurns.{NoTurns, OneMore}
 use Rattle.bx_node_rounds.proofs.Leading.{rounded_more}
 use Rattle.bx_node_rounds.proofs.cluster.Cluster.turn_all.Goals as goal
@@ -18,6 +18,8 @@ loop-node-init g c =
       store = refl;
       sessions = λ node. refl;
       engine = refl;
+      first = λ same. refl;
+      cleans = λ sizes x tree one ready stands less. absurd (omega (arith, less));
     }
 
 pub loop-node-preserved : goal.loop-node-preserved
@@ -38,4 +40,18 @@ loop-node-preserved g c =
       store = turned.parts.1 ∙ was.store;
       sessions = λ node. turned.sessions node ∙ was.sessions node;
       engine = turned.same.3 ∙ was.engine;
+      first = λ same. absurd (omega (arith, same));
+      cleans = λ sizes x tree one ready stands less.
+          let count = was.count in
+          let within = c.loop-node-test.true in
+          let node_is : c.loop-node.node ≡ 0 = omega (arith, within, count, one) in
+          let same = was.first node_is in
+          subst (λ (n : ℕ). StandsClean g.G.Register g.O.Owners g.S.Store g.E.Engine c.args.self.now c.turn.new.self n x) node_is
+          (rw same at (turned.cleans sizes x tree (was.ready sizes ready) (rw same stands)));
     }
+
+pub returns-clause-cleans : goal.returns-clause-cleans
+returns-clause-cleans g c = λ sizes x tree one ready stands.
+    let after = c.loop-node-test.false in
+    let count = c.loop-node.invariant.count in
+    c.loop-node.invariant.cleans sizes x tree one ready stands (omega (arith, after, count, one))

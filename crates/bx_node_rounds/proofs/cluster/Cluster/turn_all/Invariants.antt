@@ -1,6 +1,6 @@
-use Rattle.std.proofs.Common.{◌≡◌, ℕ, List}
+use Rattle.std.proofs.Common.{◌≡◌, ◌<◌, ℕ, List}
 use Rattle.bx_disk.specs.Disks.{Disks}
-use Rattle.bx_node_rounds.specs.Rounds.{AreTurns, IsReady, Rounded, Standing, all_said, session_at}
+use Rattle.bx_node_rounds.specs.Rounds.{AreTurns, IsReady, Rounded, Standing, StandsClean, all_said, session_at}
 use Rattle.bx_node_rounds.proofs.cluster.Cluster.turn_all.Given as goal
 
 abbrev pub invariant-loop-node : goal.invariant-loop-node
@@ -16,4 +16,7 @@ invariant-loop-node g l = record {
   store : g.S.Store.made l.self.nodes.store ≡ g.S.Store.made l.fn.self.nodes.store;
   sessions : (node : ℕ) → session_at l.self.nodes.machines.items node ≡ session_at l.fn.self.nodes.machines.items node;
   engine : l.self.nodes.engine ≡ l.fn.self.nodes.engine;
+  first : l.node ≡ 0 → l.self ≡ l.fn.self;
+  cleans : (sizes : List ℕ) (x : Disks) (tree : _) → l.fn.self.count ≡ 1 → IsReady g.G.Register g.S.Store g.E.Engine l.fn.self sizes → Standing g.G.Register g.O.Owners g.S.Store g.E.Engine l.fn.self x tree
+      → 0 < l.node → StandsClean g.G.Register g.O.Owners g.S.Store g.E.Engine l.fn.self l.self 0 x;
 }

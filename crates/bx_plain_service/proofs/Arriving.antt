@@ -1,6 +1,8 @@
 -- A call that comes.
-use Rattle.std.proofs.Common.{◌≡◌, ◌⊎◌, ⊎_elim, inl, inr, ◌∙◌, ℕ, ◌+◌, ◌<◌, true, List, [], ◌∷◌, ◌++◌, Contains, OnOk, Option, Some, length, refl, sym, ap, subst, arith}
+use Rattle.std.proofs.Common.{◌≡◌, ◌⊎◌, ⊎_elim, inl, inr, ◌∙◌, ℕ, ◌+◌, ◌<◌, ◌==◌, true, false, List, [], ◌∷◌, ◌++◌, Contains, OnOk, Option, Some, length, refl, sym, ap, subst, arith}
 use Rattle.std.specs.Prelude.{◌↔◌}
+use Rattle.std.proofs.lemmas.Bool.Decides.{nat_tests}
+use Rattle.bx_facts.proofs.Lists.{front}
 use Rattle.std.proofs.lemmas.List.Elements.{Contains-append_left, Contains-push, Contains-push_cases}
 use Rattle.bx_disk.specs.Disks.{Disks}
 use Rattle.bx_history.specs.Trace.{Taking}
@@ -76,3 +78,16 @@ waits_back old new call less is taking = (
   where
     this : queued_of call ≡ taking_of call
     this = ap (λ (n : ℕ). record { call = call.number; node = n; client = call.client; bytes = call.datagram }) (let first : 0 ≡ call.node = omega (arith, less) in first)
+
+-- none waits in an empty queue
+pub none_queued : (queue : List Call) (taking : Taking) → (length queue == 0) ≡ true → IsQueued queue taking → ⊥
+none_queued queue taking empty queued = let less = queued.there.1 in let none : length queue ≡ 0 = grind (arith, nat_tests, empty) in omega (arith, less, none)
+
+-- one waits in any other, at node 0
+pub some_queued : (queue : List Call) → (length queue == 0) ≡ false → (taking : Taking) × IsQueued queue taking × (taking.node ≡ 0)
+some_queued [] some = absurd (let none : (length {A = Call} [] == 0) ≡ true = grind (arith, nat_tests) in let e : true ≡ false = sym none ∙ some in cc)
+some_queued (call ∷ queue) some = (queued_of call, record { one = call; there = front call queue; same = refl }, refl)
+
+-- and there is no other node
+pub first_only : (node : ℕ) (taking : Taking) → taking.node ≡ 0 → node < 1 → taking.node ≡ node
+first_only node taking at less = omega (arith, at, less)

@@ -1,7 +1,8 @@
 -- What becomes of tidies in a round.
-use Rattle.std.proofs.Common.{◌≡◌, ◌≢◌, ◌⊎◌, ⊎_elim, inl, inr, ◌∙◌, ℕ, ◌+◌, ◌<◌, ◌≤◌, ◌%◌, Bool, true, false, List, [], IfSome, IsSomeAnd, Option, None, Some, length, refl, sym, ap, subst, arith}
-use Rattle.std.specs.Prelude.{is_some, option_map, slice_get}
+use Rattle.std.proofs.Common.{◌≡◌, ◌≢◌, ◌⊎◌, ⊎_elim, inl, inr, ◌∙◌, ℕ, zero, suc, ◌+◌, ◌<◌, ◌≤◌, ◌%◌, Bool, true, false, List, [], ◌∷◌, IfSome, IsSomeAnd, Option, None, Some, length, refl, sym, ap, subst, arith}
+use Rattle.std.specs.Prelude.{◌&&◌, ◌==◌, is_some, option_map, slice_get}
 use Rattle.std.proofs.Math.Nat.{mod-one}
+use Rattle.std.proofs.lemmas.Bool.Decides.{nat_tests}
 use Rattle.bx_disk.specs.Disks.{Disks}
 use Rattle.bx_engine.specs.bx_clean.specs.Tidying.{IsClean}
 use Rattle.bx_engine.specs.contracts.engine.BoxFsEngine.TheImpl as box_fs
@@ -125,3 +126,12 @@ module _ (moment : ℕ) (old new : PlainCluster) (told : List Told) (P Q : Type 
   -- no fault of a disk came where something was told
   pub told_well : (told ≢ []) → P
   told_well some = ⊎_elim (λ well. well.1) (λ failed. absurd (some failed.1)) turns
+
+-- ---- one node
+
+-- No node but the first has a tidy.
+pub only_first : (machines : List Machine) (tidies : Bool) → length machines ≡ 1 → tidies_in machines 0 ≡ tidies → (node : ℕ) → tidies_in machines node ≡ ((node == 0) && tidies)
+only_first [] tidies one first node = absurd (omega (arith, one))
+only_first (machine ∷ []) tidies one first zero = first
+only_first (machine ∷ []) tidies one first (suc node) = let other : (suc node == 0) ≡ false = grind (arith, nat_tests) in sym (ap (λ (t : Bool). t && tidies) other)
+only_first (machine ∷ other ∷ machines) tidies one first node = absurd (omega (arith, one))

@@ -156,7 +156,7 @@ pub trait Service: Drop {
             → IfOk result (λ events. events.items ≡ [] → returns self.new ≡ false) }
         ensures memory { OnErr result (B.faults bench.new ≡ B.faults bench.old) }
         ensures tidies { (node : ℕ) → tidies self.old node ≡ false → OnOk result (tidies self.new node ≡ false) }
-        ensures cleans { (tree : Tree) (doubts : ℕ → Option Doubt) (node : ℕ) → B.tells bench.old → holds self.old (B.state bench.old) tree doubts → tidies self.old node ≡ true
+        ensures cleans { (tree : Tree) (doubts : ℕ → Option Doubt) (node : ℕ) → nodes self.old ≡ 1 → B.tells bench.old → holds self.old (B.state bench.old) tree doubts → tidies self.old node ≡ true
             → OnOk result (tidies self.new node ≡ false → clean self.new (B.state bench.new)) }
         ensures tidies_on { (call : Taking) → OnOk result (waits self.new call → tidies self.new call.node ≡ tidies self.old call.node) }
         ensures rounds { (tree : Tree) (doubts : ℕ → Option Doubt) → B.tells bench.old → holds self.old (B.state bench.old) tree doubts

@@ -28,12 +28,12 @@ pub returns-clause-tidies : goal.returns-clause-tidies
 returns-clause-tidies g c = λ node. tidies_stay c.args.self.now.tidies c.advance.new.self.tidies c.in_ok-event.ensures.tidies node
 
 pub returns-in_default-clause-cleans : goal.returns-in_default-clause-cleans
-returns-in_default-clause-cleans g c = λ tree doubts node tells holds under over.
+returns-in_default-clause-cleans g c = λ tree doubts node one tells holds under over.
     let both = tidied c.args.self.now.tidies c.advance.new.self.tidies node under over in
     c.in_ok-event.ensures.cleans tree (doubts 0) tells holds both.0 both.1
 
 pub returns-clause-cleans : goal.returns-clause-cleans
-returns-clause-cleans g c = λ tree doubts node tells holds under over.
+returns-clause-cleans g c = λ tree doubts node one tells holds under over.
     let both = tidied c.args.self.now.tidies c.advance.new.self.tidies node under over in
     c.in_ok-event.ensures.cleans tree (doubts 0) tells holds both.0 both.1
 

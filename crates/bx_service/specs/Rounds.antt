@@ -15,7 +15,7 @@ use Rattle.bx_views.specs.Attempts.{Deed}
 
 -- the most nodes of a service: the code has this number as `MOST_NODES`
 abbrev pub most_nodes : ℕ
-most_nodes = 1
+most_nodes = 4
 
 -- a call that came, as one that was taken
 abbrev pub taking_of : Call → Taking

@@ -18,7 +18,7 @@ use bx_disk::{Rack, RackError};
 use std::alloc::Global;
 
 /// The most nodes of a service: contracts have this number as `most_nodes`.
-pub const MOST_NODES: u32 = 1;
+pub const MOST_NODES: u32 = 4;
 
 /// What takes calls at a few nodes, and answers them in rounds, one after the other. It is data, and the file tree is on the disks: those of
 /// a volume of one device and one area. Where it has one node it crashes with all its memory, and comes back with what the disks hold.

@@ -3,7 +3,7 @@ use Rattle.std.specs.Prelude.{◌≡◌, ◌≢◌, ◌⊎◌, ℕ, false, List,
 use Rattle.bx_base.specs.Faults.{Rose}
 use Rattle.bx_base.specs.Text.{lines_of}
 use Rattle.bx_disk.specs.declared.rack.Rack as racks
-use Rattle.bx_lone_service.specs.Services.{rests, returns, turns}
+use Rattle.bx_plain_service.specs.Services.{rests, returns, turns}
 use Rattle.bx_outside.specs.declared.sink.Sink as sinks
 use Rattle.bx_outside.specs.declared.source.Source as sources
 use Rattle.bx_replay.specs.Bench.{IsShownBy}

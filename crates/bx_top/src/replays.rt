@@ -7,7 +7,7 @@ ghost use Rattle.bx_script.specs.declared.line.Line.{Line};
 ghost use Rattle.bx_script.specs.Schedule.{IsSchedule};
 ghost use Rattle.bx_stops.specs.declared.stop.Reason.{Reason};
 ghost use Rattle.bx_stops.specs.declared.stop.Stop.TheVariants as stops;
-ghost use Rattle.bx_lone_service.specs.Services.{rests, returns, turns};
+ghost use Rattle.bx_plain_service.specs.Services.{rests, returns, turns};
 ghost use Rattle.bx_replay.specs.Bench.{IsShownBy};
 ghost use Rattle.bx_replay.specs.Course.{IsPlayed};
 ghost use Rattle.bx_replay.specs.Outcome.{AreDone, IsBroken, IsCut, IsCutOff, IsFirstRefused, IsPlayable, IsRefused, IsReplayed};
@@ -15,7 +15,7 @@ ghost use Rattle.bx_replay.specs.Replay.{IsDiskCause, Wrote};
 ghost use Rattle.bx_statuses.specs.Report.{IsAmong, IsTold, line_of, message};
 
 use bx_disk::CrashRack;
-use bx_lone_service::LoneService;
+use bx_plain_service::PlainService;
 use bx_outside::{Sink, Source};
 use bx_replay::replay;
 use bx_statuses::report;
@@ -73,7 +73,7 @@ pub(crate) fn replay_bench<S: Source, K: Sink, B: CrashRack>(
         → (Rose (S.faults input.old) (S.faults input.new) → ⊥) → (Rose (K.faults out.old) (K.faults out.new) → ⊥)
         → (result ≡ 0) ⊎ ((result ≡ 9) ⊎ (result ≡ 5)) }
 {
-    match replay::<LoneService, S, K, B>(alloc, input, out, bench) {
+    match replay::<PlainService, S, K, B>(alloc, input, out, bench) {
         Ok(()) => 0,
         Err(stop) => report(alloc, stop, err),
     }

@@ -1,4 +1,0 @@
-pub mod Drafts
-pub mod Calls
-pub mod Tried
-pub mod Turned

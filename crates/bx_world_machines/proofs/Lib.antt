@@ -1,3 +1,5 @@
 pub mod Answering
 pub mod Clocks
 pub mod Nodes
+pub mod Standing
+pub mod WhoIsUp

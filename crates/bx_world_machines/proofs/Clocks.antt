@@ -1,5 +1,5 @@
 -- Readings of the clock.
-use Rattle.std.proofs.Common.{ℕ, ◌+◌, ◌≤◌, max, arith}
+use Rattle.std.proofs.Common.{ℕ, arith}
 use Rattle.bx_facts.specs.Inputs.{IsSteady, greatest_with}
 use Rattle.bx_facts.specs.declared.input.Input.{Input}
 use Rattle.bx_facts.specs.declared.input.Input.TheVariants.{Packet, Synced, Tick}

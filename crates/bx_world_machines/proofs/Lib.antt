@@ -1,5 +1,6 @@
 pub mod Answering
 pub mod Clocks
 pub mod Nodes
+pub mod Reading
 pub mod Standing
 pub mod WhoIsUp

@@ -1,6 +1,7 @@
 -- What is left of all nodes where one of them does something.
-use Rattle.std.proofs.Common.{◌≡◌, ◌≢◌, ◌⊎◌, ⊎_elim, ◌∙◌, ℕ, ◌<◌, List, length, Option, Some, None, IfSome, sym, ap, subst, arith}
+use Rattle.std.proofs.Common.{◌≡◌, ◌≢◌, ◌⊎◌, ⊎_elim, ◌∙◌, ℕ, ◌<◌, List, length, Option, Some, IfSome, sym, ap, subst, arith}
 use Rattle.std.specs.Prelude.{slice_get}
+use Rattle.bx_base.specs.declared.names.Actor.{Actor}
 use Rattle.bx_facts.specs.declared.register.Register as register
 use Rattle.bx_facts.specs.declared.store.Store as store
 use Rattle.bx_facts.specs.Writes.{Made}
@@ -14,6 +15,7 @@ use Rattle.bx_node_steps.specs.Tidying.{Ticks}
 use Rattle.bx_node_steps.specs.declared.machine.Machine.{Machine}
 use Rattle.bx_node_tries.specs.declared.round.Said.{Said}
 use Rattle.bx_nodes.specs.Standing.{BeReady, OfBoth, OfNode}
+use Rattle.bx_nodes.specs.Stopping.{Empties}
 use Rattle.bx_nodes.specs.Turns.{OnlyMachine, OnlyStore}
 use Rattle.bx_nodes.specs.declared.nodes.Nodes.{Nodes}
 use Rattle.bx_nodes.proofs.Machines.{there_is}
@@ -73,3 +75,15 @@ module _ {G O S E T : Type 0} (g : register.Ghosts G) (o : owners.Ghosts O) (st 
 
       here : OfNode new node AreApart
       here = let now = there_then moment node 0 old.machines.items new.machines.items said its.0 its.1 turn in there_if AreApart (slice_get new.machines.items node) now.0 now.1 now.2.apart
+
+-- A machine stops.
+pub nodes_emptied : {G O S E T : Type 0} (g : register.Ghosts G) (o : owners.Ghosts O) (st : store.Ghosts S) (e : engine.Ghosts E T) (old new : Nodes G O S E T) → AreNodes g o st e old → (who : Actor) → Empties who old.machines.items new.machines.items
+    → ((node : ℕ) → BeReady st e old node → BeReady st e new node) → ((node : ℕ) → OfNode old node AreApart → OfNode new node AreApart)
+    → (g.nodes new.register ≡ g.nodes old.register) × (o.nodes new.owners ≡ o.nodes old.owners) × (st.made new.store ≡ st.made old.store) → AreNodes g o st e new
+nodes_emptied g o st e old new were who empties ready apart made = record {
+  registers = made.0 ∙ were.registers ∙ sym empties.count;
+  owners = made.1 ∙ were.owners ∙ sym empties.count;
+  stores = ap (λ (m : Made). m.nodes) made.2 ∙ were.stores ∙ sym empties.count;
+  ready = λ n. ready n (were.ready n);
+  apart = λ n. apart n (were.apart n);
+}

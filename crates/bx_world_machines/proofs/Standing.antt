@@ -1,7 +1,8 @@
 -- How the machines stand once one of them heard something.
-use Rattle.std.proofs.Common.{◌≡◌, ◌≢◌, ◌∙◌, ℕ, Bool, true, false, List, length, Option, Some, None, IfSome, IsSomeAnd, refl, sym, ap, subst}
+use Rattle.std.proofs.Common.{◌≡◌, ◌∙◌, ℕ, ◌<◌, true, List, length, Option, Some, None, IfSome, IsSomeAnd, refl, sym, ap, subst, arith}
 use Rattle.std.specs.Prelude.{max, not, slice_get}
 use Rattle.bx_base.specs.declared.names.Actor.{Actor}
+use Rattle.bx_base.specs.declared.names.Actor.TheVariants.{Node}
 use Rattle.bx_cluster.specs.Steps as steps
 use Rattle.bx_disk.specs.Disks.{Disks}
 use Rattle.bx_facts.specs.declared.input.Input.{Input}
@@ -11,30 +12,32 @@ use Rattle.bx_facts.specs.declared.store.Store as store
 use Rattle.bx_facts.specs.Inputs.{greatest_with}
 use Rattle.bx_facts.specs.Machines.{put_at}
 use Rattle.bx_node_rounds.specs.Rounds.{AreNumbered, AreTold, Rounded, Waits}
-use Rattle.bx_node_rounds.proofs.Coming.{numbered_on, told_on}
-use Rattle.bx_node_steps.specs.Calls.{CallOf, WaitsAt}
+use Rattle.bx_node_rounds.proofs.Coming.{Changed, apart_then, changed_at, each_called, if_there, newest, numbered_on, numbered_with, still_called, told_on, told_with}
+use Rattle.bx_node_rounds.proofs.Nodes.{both_there}
+use Rattle.bx_node_steps.specs.Calls.{AreApart, CallOf, WaitsAt}
 use Rattle.bx_node_steps.specs.declared.machine.Machine.{Machine}
 use Rattle.bx_node_tries.specs.declared.round.Said.{Said}
-use Rattle.bx_nodes.specs.Standing.{Stand}
-use Rattle.bx_nodes.specs.Stopping.{Empties, HasNothing, with_down}
+use Rattle.bx_node_tries.specs.declared.round.Waiting.{Waiting}
+use Rattle.bx_nodes.specs.Calls.{AddsCall, IsNewest, WaitsBehind}
+use Rattle.bx_nodes.specs.Standing.{BeReady, OfBoth, Stand}
+use Rattle.bx_nodes.specs.Stopping.{Empties, with_down}
 use Rattle.bx_nodes.specs.Taking.{Hears, with_reading}
-use Rattle.bx_nodes.specs.Turns.{IsOldOrTold, Turned}
+use Rattle.bx_nodes.specs.Turns.{IsOldOrTold, OnlyMachine, Turned}
 use Rattle.bx_nodes.specs.declared.nodes.Nodes.{Nodes}
 use Rattle.bx_nodes.proofs.Calling.{none_wait}
 use Rattle.bx_nodes.proofs.Emptied.{emptied}
 use Rattle.bx_owners.specs.declared.owners.Owners as owners
 use Rattle.bx_post.specs.declared.packets.Letter.{Letter}
 use Rattle.bx_views.specs.declared.engine.Engine as engine
-use Rattle.bx_world_machines.specs.Answering.{Answered, reading_in}
+use Rattle.bx_world_machines.specs.Answering.{Answered, Comes, reading_in}
 use Rattle.bx_world_machines.specs.Machines.{is_up, up_without}
-use Rattle.bx_world_machines.specs.Standing.{AreClocks, AreNodes, AreReady, HasMachine, IsReady, Standing}
+use Rattle.bx_world_machines.specs.Standing.{AreClocks, AreNodes, AreReady, IsReady, Standing}
 use Rattle.bx_world_machines.specs.declared.machines.Machines.{Machines}
 use Rattle.bx_world_machines.proofs.Answering.{numbers_then, told_answered}
+use Rattle.bx_world_machines.proofs.Nodes.{nodes_with}
 use Rattle.bx_world_machines.proofs.WhoIsUp.{down_without, was_up}
 use Rattle.bx_world_standing.specs.Parts.{Clocks}
-use Rattle.bx_world_standing.specs.Standing.{Course}
 use Rattle.bx_world_standing.specs.bx_volume.specs.Overlay.{Logs}
-use Rattle.bx_world_standing.specs.bx_volume.specs.Records.{Logged}
 
 -- the greatest reading then, in both words
 pub greatest_is : (input : Input) (greatest : ℕ) → greatest_with greatest input ≡ steps.greatest_with (reading_in input) greatest
@@ -66,7 +69,7 @@ waited_before who old new empties node call waits =
 -- ---- what stands then
 
 module _ {G O S E T : Type 0} (g : register.Ghosts G) (o : owners.Ghosts O) (st : store.Ghosts S) (e : engine.Ghosts E T) (old new : Machines G O S E T) (input : Input) (boots : new.boots ≡ old.boots) (count : new.count ≡ old.count) (devices : new.devices ≡ old.devices)
-    (latest : new.latest ≡ old.latest) (clock : new.clock ≡ steps.greatest_with (reading_in input) old.clock) (ready : AreReady g o st e old) where
+    (latest : new.latest ≡ old.latest) (clock : new.clock ≡ steps.greatest_with (reading_in input) old.clock) where
   module _ (up : new.up.items ≡ old.up.items) where
     clocks_then : (clocks : Clocks) → AreClocks g o st e old clocks → AreClocks g o st e new (with_reading clocks input)
     clocks_then clocks are = record {
@@ -76,9 +79,9 @@ module _ {G O S E T : Type 0} (g : register.Ghosts G) (o : owners.Ghosts O) (st 
     }
 
     -- it went on, and answered calls
-    pub stands_heard : (at : Actor) (letters letters_then : List Letter) (x y : Disks) (tree : T) (said : List Said) → Answered (reading_in input) at old.nodes.machines.items new.nodes.machines.items said → (standing : Standing g o st e old letters x tree)
+    pub stands_heard : AreReady g o st e old → (at : Actor) (letters letters_then : List Letter) (x y : Disks) (tree : T) (said : List Said) → Answered (reading_in input) at old.nodes.machines.items new.nodes.machines.items said → (standing : Standing g o st e old letters x tree)
         → Hears (λ later. Turned (e.step old.nodes.engine) (Stand g o st e new.nodes y letters_then (with_reading standing.clocks input)) later tree said) standing.course → Rounded e old.nodes.engine (Standing g o st e new letters_then y) tree said
-    stands_heard at letters letters_then x y tree said answers standing heard = record {
+    stands_heard ready at letters letters_then x y tree said answers standing heard = record {
       next = heard.stands.next;
       leads = heard.stands.leads;
       stands = record {
@@ -116,8 +119,8 @@ module _ {G O S E T : Type 0} (g : register.Ghosts G) (o : owners.Ghosts O) (st 
           (subst (λ (logs : Logs). AreTold old.latest old.nodes.machines.items logs) (sym heard.logs) standing.told));
     }
 
-    pub ready_stopped : (sizes : List ℕ) → IsReady g o st e old sizes → AreNodes g o st e new.nodes → st.made new.nodes.store ≡ st.made old.nodes.store → IsReady g o st e new sizes
-    ready_stopped sizes is nodes made = record {
+    pub ready_stopped : AreReady g o st e old → (sizes : List ℕ) → IsReady g o st e old sizes → AreNodes g o st e new.nodes → st.made new.nodes.store ≡ st.made old.nodes.store → IsReady g o st e new sizes
+    ready_stopped ready sizes is nodes made = record {
       are_ready = record {
         nodes = nodes;
         counted = empties.count ∙ ready.counted ∙ sym count;
@@ -126,6 +129,69 @@ module _ {G O S E T : Type 0} (g : register.Ghosts G) (o : owners.Ghosts O) (st 
         there = λ who is_up_then. rw (count, devices) (ready.there who (was_up at who old.up.items (subst (λ l. is_up l who ≡ true) up is_up_then)));
         numbered = subst (λ (n : ℕ). AreNumbered n new.nodes.machines.items) (sym latest)
             (numbered_on old.latest old.nodes.machines.items new.nodes.machines.items (waited_before at old.nodes.machines.items new.nodes.machines.items empties) ready.numbered);
+      };
+      replicas = is.replicas;
+      members = rw (devices, made) is.members;
+    }
+
+-- ---- a call comes
+
+-- A node that is up is there.
+pub node_there : {G O S E T : Type 0} (g : register.Ghosts G) (o : owners.Ghosts O) (st : store.Ghosts S) (e : engine.Ghosts E T) (machines : Machines G O S E T) (node : ℕ) → AreReady g o st e machines → is_up machines.up.items (Node node) ≡ true → node < length machines.nodes.machines.items
+node_there g o st e machines node ready up = let less = ready.there (Node node) up in let counted = ready.counted in omega (arith, less, counted)
+
+module _ {G O S E T : Type 0} (g : register.Ghosts G) (o : owners.Ghosts O) (st : store.Ghosts S) (e : engine.Ghosts E T) (old new : Machines G O S E T) (middle : Nodes G O S E T) (node reading : ℕ) (call : Waiting) (ready : AreReady g o st e old) (there : node < length old.nodes.machines.items)
+    (later : old.latest < call.number) (count : length middle.machines.items ≡ length old.nodes.machines.items) (behind : OfBoth old.nodes middle node (WaitsBehind call)) (others : OnlyMachine node old.nodes.machines.items middle.machines.items) where
+  pub comes_to : Comes node call old.nodes.machines.items middle.machines.items
+  comes_to = record { waits = each_called node call old.nodes middle there count behind others; acting = (still_called node call old.nodes middle there count behind others).acting }
+
+  pub numbers_with : AreNumbered call.number middle.machines.items
+  numbers_with = numbered_with old.latest node old.nodes.machines.items middle.machines.items call later (λ at other. (comes_to.waits at other).0) ready.numbered
+
+  pub nodes_called : (middle.register ≡ old.nodes.register) × (middle.owners ≡ old.nodes.owners) × (middle.store ≡ old.nodes.store) × (middle.engine ≡ old.nodes.engine) → BeReady st e middle node
+      → OfBoth old.nodes middle node (λ old new. IsNewest call old → AreApart old → AddsCall call old new) → AreNodes g o st e middle
+  nodes_called parts mine adds = nodes_with g o st e old.nodes middle ready.nodes node there count others mine parts
+      (apart_then node old.nodes.machines.items middle.machines.items pair.before pair.after pair.was pair.is others added.apart ready.nodes.apart)
+    where
+      pair : Changed node old.nodes middle (WaitsBehind call)
+      pair = changed_at node old.nodes middle (WaitsBehind call) there count behind
+
+      added : AddsCall call pair.before pair.after
+      added = both_there (λ old new. IsNewest call old → AreApart old → AddsCall call old new) old.nodes middle node pair.before pair.after pair.was pair.is adds
+          (newest node old.nodes.machines.items middle.machines.items pair.before pair.after pair.was pair.is others old.latest call ready.numbered later)
+          (if_there AreApart (slice_get old.nodes.machines.items node) pair.before pair.was (ready.nodes.apart node))
+
+  module _ (boots : new.boots ≡ old.boots) (same_count : new.count ≡ old.count) (devices : new.devices ≡ old.devices) (up : new.up.items ≡ old.up.items) (latest : new.latest ≡ call.number) (clock : new.clock ≡ max old.clock reading) where
+    pub stands_called : (letters letters_then : List Letter) (x : Disks) (tree : T) (said : List Said) → Answered (Some reading) (Node node) middle.machines.items new.nodes.machines.items said → (standing : Standing g o st e old letters x tree)
+        → Turned (e.step old.nodes.engine) (Stand g o st e new.nodes x letters_then (with_reading standing.clocks (Tick reading))) standing.course tree said → Rounded e old.nodes.engine (Standing g o st e new letters_then x) tree said
+    stands_called letters letters_then x tree said answers standing turned = record {
+      next = turned.next;
+      leads = turned.leads;
+      stands = record {
+        clocks = with_reading standing.clocks (Tick reading);
+        course = turned.later;
+        are_clocks = record {
+          down = λ who has. standing.are_clocks.down who (rw (sym same_count, sym devices) has) ∙ ap (λ l. not (is_up l who)) (sym up);
+          boots = standing.are_clocks.boots ∙ sym boots;
+          greatest = ap (λ n. max n reading) standing.are_clocks.greatest ∙ sym clock;
+        };
+        stands = turned.stands;
+        told = subst (λ (n : ℕ). AreTold n new.nodes.machines.items turned.later.logs) (sym latest)
+            (told_answered (Some reading) (Node node) call.number middle.machines.items new.nodes.machines.items said answers numbers_with standing.course.logs turned.later.logs
+            (told_with old.latest node old.nodes.machines.items middle.machines.items call later (λ at other. (comes_to.waits at other).0) standing.course.logs standing.told) turned.logged);
+      };
+    }
+
+    pub ready_called : (sizes : List ℕ) (said : List Said) → Answered (Some reading) (Node node) middle.machines.items new.nodes.machines.items said → IsReady g o st e old sizes → AreNodes g o st e new.nodes → st.made new.nodes.store ≡ st.made old.nodes.store
+        → length new.nodes.machines.items ≡ length old.nodes.machines.items → IsReady g o st e new sizes
+    ready_called sizes said answers is nodes made counts = record {
+      are_ready = record {
+        nodes = nodes;
+        counted = counts ∙ ready.counted ∙ sym same_count;
+        members = ap (λ m. m.devices) made ∙ ready.members ∙ sym devices;
+        few = rw devices ready.few;
+        there = λ who is_up_then. rw (same_count, devices) (ready.there who (subst (λ l. is_up l who ≡ true) up is_up_then));
+        numbered = subst (λ (n : ℕ). AreNumbered n new.nodes.machines.items) (sym latest) (numbers_then (Some reading) (Node node) call.number middle.machines.items new.nodes.machines.items said answers numbers_with);
       };
       replicas = is.replicas;
       members = rw (devices, made) is.members;

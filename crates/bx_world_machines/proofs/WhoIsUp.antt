@@ -1,9 +1,9 @@
 -- Which machines are up once one is left out, or one more is.
 use Rattle.std.proofs.Common.{◌≡◌, ◌∙◌, Bool, true, false, List, [], ◌∷◌, refl, sym, ap, subst}
-use Rattle.std.specs.Prelude.{◌||◌, not, filter, if◌then◌else◌}
+use Rattle.std.specs.Prelude.{◌||◌, not, if◌then◌else◌}
 use Rattle.bx_base.specs.declared.names.Actor.{Actor}
 use Rattle.bx_facts.specs.Machines.{put_at}
-use Rattle.bx_facts.proofs.Machines.{is_itself, is_one}
+use Rattle.bx_facts.proofs.Machines.{is_one}
 use Rattle.bx_post.specs.Machines.{is_same}
 use Rattle.bx_world_machines.specs.Machines.{is_up, up_without}
 

@@ -5,9 +5,10 @@ use Rattle.bx_base.specs.declared.names.Actor.TheVariants.{Node, Replica, Server
 use Rattle.bx_facts.specs.declared.input.Input.{Input}
 use Rattle.bx_facts.specs.declared.input.Input.TheVariants.{Packet, Tick, Synced}
 use Rattle.bx_node_rounds.specs.Rounds.{Waits, acting_at}
-use Rattle.bx_node_steps.specs.Calls.{Acting, AreToOthers, CallOf, IsAnswered, acting_said}
+use Rattle.bx_node_steps.specs.Calls.{Acting, AreToOthers, CallOf, IsAnswered, acting_said, call_of}
 use Rattle.bx_node_steps.specs.declared.machine.Machine.{Machine}
 use Rattle.bx_node_tries.specs.declared.round.Said.{Said}
+use Rattle.bx_node_tries.specs.declared.round.Waiting.{Waiting}
 
 -- the reading of the clock with which something comes
 abbrev pub reading_in : Input → Option ℕ
@@ -30,3 +31,14 @@ pub record Answered (reading : Option ℕ) (at : Actor) (old new : List Machine)
   pub once : AreToOthers said
   pub left : (node : ℕ) (call : CallOf) → Waits new node call ↔ (Waits old node call × (IsAnswered said call.number → ⊥))
   pub acting : (node : ℕ) (acts : Acting) → acting_at new node ≡ Some acts → (acting_at old node ≡ Some acts) ⊎ ((at ≡ Node node) × (reading ≡ Some acts.point.moment))
+
+-- A call comes to a node: it waits then, and so do those that waited; and each record is written on.
+pub record Comes (node : ℕ) (call : Waiting) (old new : List Machine) : Type 0 where
+  pub waits : (at : ℕ) (other : CallOf) → Waits new at other ↔ (Waits old at other ⊎ ((at ≡ node) × (call_of call ≡ other)))
+  pub acting : (at : ℕ) → acting_at new at ≡ acting_at old at
+
+-- And then the node answers calls.
+pub record Called (reading node : ℕ) (call : Waiting) (old new : List Machine) (said : List Said) : Type 0 where
+  pub middle : List Machine
+  pub comes : Comes node call old middle
+  pub answers : Answered (Some reading) (Node node) middle new said

@@ -1,6 +1,6 @@
 //! What a machine does when it hears something.
 
-ghost use Rattle.std.specs.Prelude.{◌≡◌, ◌++◌, ℕ, true, false, List, length, IfOk, IsErrOf, OnOk};
+ghost use Rattle.std.specs.Prelude.{◌≡◌, ◌+◌, ◌≤◌, ◌++◌, ℕ, max, true, false, List, length, IfOk, IsErrOf, OnOk};
 ghost use Rattle.bx_base.specs.declared.names.Actor.{Actor};
 ghost use Rattle.bx_cluster.specs.Steps.{IsTime, greatest_with};
 ghost use Rattle.bx_disk.specs.Kept.{Counted};
@@ -60,7 +60,7 @@ impl<G: Register, O: Owners, S: Store, E: Engine> Machines<G, O, S, E> {
         ensures same { (self.new.boots ≡ self.old.boots) × (self.new.count ≡ self.old.count) × (self.new.devices ≡ self.old.devices) × (self.new.latest ≡ self.old.latest) × (self.new.nodes.engine ≡ self.old.nodes.engine) }
         ensures rack { Counted R.Rack rack.old rack.new result DiskFails }
     {
-        self.read(input);
+        self.read_with(input);
         match hear(self.alloc, &mut self.nodes, rack, at, input, out) {
             Ok(said) => {
                 self.learn(at)?;
@@ -76,14 +76,22 @@ impl<G: Register, O: Owners, S: Store, E: Engine> Machines<G, O, S, E> {
     }
 
     /// Reads the clock, where that comes with an input.
-    fn read(&mut self, input: &Input)
+    fn read_with(&mut self, input: &Input)
         requires steady { IsSteady self.old.clock input.now }
         ensures { self.new ≡ record self.old { clock = greatest_with (reading_in input.now) self.old.clock } }
     {
         if let Input::Packet(_, reading) | Input::Tick(reading) = *input {
-            // Whoever has the machine hear it has seen that this isn't refused.
-            let _steady = self.clock.take(reading);
+            self.read(reading);
         }
+    }
+
+    /// Reads the clock.
+    pub(crate) fn read(&mut self, reading: u64)
+        requires steady { self.old.clock ≤ reading + 500 }
+        ensures { self.new ≡ record self.old { clock = max self.old.clock reading } }
+    {
+        // Whoever says that something comes has seen that its reading isn't refused.
+        let _steady = self.clock.take(reading);
     }
 }
 

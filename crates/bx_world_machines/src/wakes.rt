@@ -73,7 +73,7 @@ fn tick<G: Register, O: Owners, S: Store, E: Engine>(
 }
 
 /// A node has its turn.
-fn turn<G: Register, O: Owners, S: Store, E: Engine>(
+pub(crate) fn turn<G: Register, O: Owners, S: Store, E: Engine>(
     nodes: &mut Nodes<G, O, S, E>,
     node: u32,
     reading: u64,

@@ -1,5 +1,4 @@
-use Rattle.std.proofs.Common.{◌≡◌, ◌++◌, false, refl, sym, subst}
-use Rattle.bx_facts.specs.declared.input.Input.{Input}
+use Rattle.std.proofs.Common.{◌≡◌, false, refl, sym, subst}
 use Rattle.bx_nodes.proofs.Ending.{err_back}
 use Rattle.bx_nodes.proofs.Leading.{turned_none}
 use Rattle.bx_nodes.specs.Taking.{with_reading}

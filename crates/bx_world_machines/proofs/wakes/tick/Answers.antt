@@ -1,4 +1,3 @@
-use Rattle.std.proofs.Common.{arith}
 use Rattle.bx_nodes.proofs.Machines.{if_ok_so}
 use Rattle.bx_base.specs.declared.names.Actor.TheVariants.{Node}
 use Rattle.bx_node_rounds.proofs.Coming.{numbered_on}

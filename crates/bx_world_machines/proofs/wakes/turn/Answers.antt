@@ -1,4 +1,3 @@
-use Rattle.std.proofs.Common.{arith}
 use Rattle.bx_node_rounds.proofs.Nodes.{if_ok_with, on_ok_pair, on_ok_with, turn_of}
 use Rattle.bx_nodes.proofs.Machines.{there_is}
 use Rattle.bx_world_machines.proofs.Answering.{turn_answers}

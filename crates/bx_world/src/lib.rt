@@ -1,0 +1,9 @@
+//! A cluster, one event at a time: all of its machines, the packets between them, and the calls that its clients made.
+#![tactic(auto)]
+
+mod packets;
+mod shows;
+mod tells;
+mod world;
+
+pub use world::World;

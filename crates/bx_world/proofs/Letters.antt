@@ -1,8 +1,8 @@
 -- Letters under way, as packets come and go.
-use Rattle.std.proofs.Common.{◌≡◌, ◌∙◌, ⊎_elim, ℕ, ◌+◌, Bool, true, false, List, [], ◌∷◌, ◌++◌, Contains, Option, None, Some, filter, map, refl, sym, ap, subst}
+use Rattle.std.proofs.Common.{◌≡◌, ⊎_elim, ℕ, ◌+◌, Bool, true, false, List, [], ◌∷◌, ◌++◌, Contains, Some, filter, map, refl, ap, subst}
 use Rattle.std.specs.Prelude.{◌==◌, if◌then◌else◌}
 use Rattle.bx_disk.specs.Disks.{Disks}
-use Rattle.bx_facts.proofs.Lists.{behind, front, front_or_behind, nothing}
+use Rattle.bx_facts.proofs.Lists.{behind, front, front_or_behind}
 use Rattle.bx_facts.specs.declared.register.Register as register
 use Rattle.bx_facts.specs.declared.store.Store as store
 use Rattle.bx_node_steps.specs.Seen.{seen}

@@ -1,5 +1,5 @@
 -- What comes of an event in which calls are answered, or a machine stops.
-use Rattle.std.specs.Prelude.{◌≡◌, ◌⊎◌, ℕ, ◌<◌, List, [], ◌∷◌, map, slice_get, slice_set, Option, None, Some}
+use Rattle.std.specs.Prelude.{◌≡◌, ℕ, ◌<◌, List, [], ◌∷◌, ◌++◌, map, slice_get, slice_set, Option, None, Some}
 use Rattle.bx_base.specs.declared.names.Actor.{Actor}
 use Rattle.bx_base.specs.declared.names.Actor.TheVariants.{Node, Replica, Server, Member}
 use Rattle.bx_base.specs.declared.names.Point.{Point}
@@ -7,6 +7,8 @@ use Rattle.bx_cluster.specs.declared.outcome.Outcome.{Outcome}
 use Rattle.bx_cluster.specs.declared.outcome.ReplyOut.{ReplyOut}
 use Rattle.bx_desk.specs.Desks.{AtDesk, answered, empty_desk}
 use Rattle.bx_node_tries.specs.declared.round.Said.{Said}
+use Rattle.bx_post.specs.declared.packets.Letter.{Letter}
+use Rattle.bx_post.specs.Posts.{Posted, fresh}
 
 abbrev pub nothing : Outcome
 nothing = record { took = None; points = []; replies = []; again = None; stopped = None }
@@ -64,3 +66,14 @@ desks_without (Node n) desks = with_desk desks n (emptied (slice_get desks n))
 desks_without (Replica n) desks = desks
 desks_without (Server n) desks = desks
 desks_without (Member n) desks = desks
+
+-- An event ends at a machine that answered these calls and sends these letters; or at one that stopped, which sends none.
+pub record EndsSaid (at : Actor) (said : List Said) (out : List Letter) (old_post new_post : List Posted) (old_desks new_desks : List AtDesk) (outcome : Outcome) : Type 0 where
+  pub outcome_is : outcome ≡ outcome_said at said
+  pub post : new_post ≡ old_post ++ map fresh out
+  pub desks : new_desks ≡ desks_said at said old_desks
+
+pub record EndsStopped (at : Actor) (old_post new_post : List Posted) (old_desks new_desks : List AtDesk) (outcome : Outcome) : Type 0 where
+  pub outcome_is : outcome ≡ stopped_at at
+  pub post : new_post ≡ old_post
+  pub desks : new_desks ≡ desks_without at old_desks

@@ -1,5 +1,3 @@
-use Rattle.std.proofs.Common.{◌≡◌, ◌++◌, map}
-use Rattle.bx_world.specs.Outcomes.{all_answered, point_said, reply_said}
 use Rattle.bx_world.proofs.Telling.{IsToldSoFar}
 use Rattle.bx_world.proofs.tells.told_by.Given as goal
 

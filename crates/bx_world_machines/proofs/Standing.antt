@@ -1,5 +1,5 @@
 -- How the machines stand once one of them heard something.
-use Rattle.std.proofs.Common.{◌≡◌, ◌∙◌, ℕ, ◌<◌, true, List, length, Option, Some, None, IfSome, IsSomeAnd, refl, sym, ap, subst, arith}
+use Rattle.std.proofs.Common.{◌≡◌, ◌∙◌, ℕ, ◌<◌, true, List, length, Option, Some, None, IfSome, IsSomeAnd, inl, refl, sym, ap, subst, arith}
 use Rattle.std.specs.Prelude.{max, not, slice_get}
 use Rattle.bx_base.specs.declared.names.Actor.{Actor}
 use Rattle.bx_base.specs.declared.names.Actor.TheVariants.{Node}
@@ -196,3 +196,26 @@ module _ {G O S E T : Type 0} (g : register.Ghosts G) (o : owners.Ghosts O) (st 
       replicas = is.replicas;
       members = rw (devices, made) is.members;
     }
+
+-- ---- a node has its turn
+
+module _ {G O S E T : Type 0} (g : register.Ghosts G) (o : owners.Ghosts O) (st : store.Ghosts S) (e : engine.Ghosts E T) (old new : Machines G O S E T) (node reading : ℕ) (ready : AreReady g o st e old) (boots : new.boots ≡ old.boots) (count : new.count ≡ old.count)
+    (devices : new.devices ≡ old.devices) (up : new.up.items ≡ old.up.items) (latest : new.latest ≡ old.latest) (clock : new.clock ≡ max old.clock reading) (said : List Said) (answers : Answered (Some reading) (Node node) old.nodes.machines.items new.nodes.machines.items said) where
+  pub ready_turned : (sizes : List ℕ) → IsReady g o st e old sizes → AreNodes g o st e new.nodes → st.made new.nodes.store ≡ st.made old.nodes.store → length new.nodes.machines.items ≡ length old.nodes.machines.items → IsReady g o st e new sizes
+  ready_turned sizes is nodes made counts = record {
+    are_ready = record {
+      nodes = nodes;
+      counted = counts ∙ ready.counted ∙ sym count;
+      members = ap (λ m. m.devices) made ∙ ready.members ∙ sym devices;
+      few = rw devices ready.few;
+      there = λ who is_up_then. rw (count, devices) (ready.there who (subst (λ l. is_up l who ≡ true) up is_up_then));
+      numbered = subst (λ (n : ℕ). AreNumbered n new.nodes.machines.items) (sym latest) (numbers_then (Some reading) (Node node) old.latest old.nodes.machines.items new.nodes.machines.items said answers ready.numbered);
+    };
+    replicas = is.replicas;
+    members = rw (devices, made) is.members;
+  }
+
+  pub stands_turned : (letters letters_then : List Letter) (x : Disks) (tree : T) → (standing : Standing g o st e old letters x tree) → Turned (e.step old.nodes.engine) (Stand g o st e new.nodes x letters_then (with_reading standing.clocks (Tick reading))) standing.course tree said
+      → Rounded e old.nodes.engine (Standing g o st e new letters_then x) tree said
+  stands_turned letters letters_then x tree standing turned = stands_heard g o st e old new (Tick reading) boots count devices latest clock up ready (Node node) letters letters_then x x tree said answers standing
+      (record { later = standing.course; grows = inl refl; logs = refl; stands = turned })

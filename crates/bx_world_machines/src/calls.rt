@@ -5,7 +5,7 @@ ghost use Rattle.bx_base.specs.declared.names.Actor.TheVariants.{Node};
 ghost use Rattle.bx_disk.specs.Disks.{Disks};
 ghost use Rattle.bx_node_rounds.specs.Rounds.{Rounded};
 ghost use Rattle.bx_post.specs.declared.packets.Letter.{Letter};
-ghost use Rattle.bx_world_machines.specs.Answering.{Called};
+ghost use Rattle.bx_world_machines.specs.Answering.{Answered, Called};
 ghost use Rattle.bx_world_machines.specs.Machines.{is_up};
 ghost use Rattle.bx_world_machines.specs.Standing.{IsReady, Standing};
 
@@ -43,6 +43,28 @@ impl<G: Register, O: Owners, S: Store, E: Engine> Machines<G, O, S, E> {
         let number = call.number;
         self.nodes.call(node, call)?;
         self.latest = number;
+        turn(&mut self.nodes, node, reading, out)
+    }
+
+    /// A node that is up has its turn, at a reading of its clock. Says the answers, in the order in which the calls acted.
+    pub fn turn(
+        &mut self,
+        node: u32,
+        reading: u64,
+        out: &mut Outbox,
+    ) -> Result<Vec<Said>, OutOfMemory>
+        requires up { is_up self.old.up.items (Node node) ≡ true }
+        requires ready { (sizes : List ℕ) × IsReady G.Register O.Owners S.Store E.Engine self.old sizes }
+        requires steady { self.old.clock ≤ reading + 500 }
+        requires time { reading ≤ 4294967295999 }
+        ensures stands { (letters : List Letter) (x : Disks) (tree : E.Tree) → Standing G.Register O.Owners S.Store E.Engine self.old (letters ++ out.old) x tree
+            → IfOk result (λ said. Rounded E.Engine self.old.nodes.engine (Standing G.Register O.Owners S.Store E.Engine self.new (letters ++ out.new) x) tree said.items) }
+        ensures ready { (sizes : List ℕ) → IsReady G.Register O.Owners S.Store E.Engine self.old sizes → OnOk result (IsReady G.Register O.Owners S.Store E.Engine self.new sizes) }
+        ensures answers { IfOk result (λ said. Answered (Some reading) (Node node) self.old.nodes.machines.items self.new.nodes.machines.items said.items) }
+        ensures clock { self.new.clock ≡ max self.old.clock reading }
+        ensures same { (self.new.up ≡ self.old.up) × (self.new.state ≡ self.old.state) × (self.new.boots ≡ self.old.boots) × (self.new.count ≡ self.old.count) × (self.new.devices ≡ self.old.devices) × (self.new.latest ≡ self.old.latest) × (self.new.nodes.engine ≡ self.old.nodes.engine) }
+    {
+        self.read(reading);
         turn(&mut self.nodes, node, reading, out)
     }
 }

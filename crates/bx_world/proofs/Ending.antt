@@ -1,5 +1,5 @@
 -- What comes of an event at a machine that heard something.
-use Rattle.std.proofs.Common.{◌≡◌, ◌∙◌, ℕ, zero, suc, Bool, true, List, [], ◌∷◌, ◌++◌, length, map, Option, None, Some, IfOk, Result, Ok, Err, refl, sym, ap, subst, arith}
+use Rattle.std.proofs.Common.{◌≡◌, ◌≤◌, ◌∙◌, ℕ, zero, suc, Bool, true, List, [], ◌∷◌, ◌++◌, length, map, Option, None, Some, IfOk, Result, Ok, Err, refl, sym, ap, subst, arith}
 use Rattle.std.specs.Prelude.{IsErr, IsErrOf, not, slice_get, slice_set}
 use Rattle.std.proofs.lemmas.List.{append-nil}
 use Rattle.bx_base.specs.declared.names.Actor.{Actor}
@@ -53,7 +53,7 @@ ended (Err OutOfMemory) result S U G says stops memory by_said by_stop = none_ok
 
 -- ---- desks
 
-set_length : (items : List AtDesk) (i : ℕ) (after : AtDesk) → length (slice_set items i after) ≡ length items
+pub set_length : (items : List AtDesk) (i : ℕ) (after : AtDesk) → length (slice_set items i after) ≡ length items
 set_length [] i after = refl
 set_length (one ∷ items) zero after = refl
 set_length (one ∷ items) (suc i) after = ap suc (set_length items i after)
@@ -107,10 +107,11 @@ module _ {G O S E T : Type 0} (g : register.Ghosts G) (o : owners.Ghosts O) (st 
       dropped = λ some. absurd cc;
     })
 
-    pub ready_said : (sizes : List ℕ) → machines.IsReady g o st e heard sizes → heard.count ≡ old.machines.count → length old.desks.items ≡ old.machines.count → IsReady g o st e new sizes
-    ready_said sizes ready count desks = record {
+    pub ready_said : (sizes : List ℕ) → machines.IsReady g o st e heard sizes → heard.count ≡ old.machines.count → length old.desks.items ≡ old.machines.count → heard.latest ≤ new.events → IsReady g o st e new sizes
+    ready_said sizes ready count desks less = record {
       machines = subst (λ (m : Machines G O S E T). machines.IsReady g o st e m sizes) (sym same) ready;
       desks = ap length ends.desks ∙ said_length at said old.desks.items ∙ desks ∙ sym count ∙ sym (ap (λ (m : Machines G O S E T). m.count) same);
+      counted = subst (λ (m : Machines G O S E T). m.latest ≤ new.events) (sym same) less;
     }
 
     pub says_then : (reading : Option ℕ) (Tells : Type 0) (x y : Disks) (box : List Letter) → IsBy (length old.desks.items) at said → letters_in middle ≡ letters_in old.post → box ≡ []
@@ -147,10 +148,11 @@ module _ {G O S E T : Type 0} (g : register.Ghosts G) (o : owners.Ghosts O) (st 
       dropped = λ some. refl;
     })
 
-    pub ready_stopped : (sizes : List ℕ) → machines.IsReady g o st e heard sizes → heard.count ≡ old.machines.count → length old.desks.items ≡ old.machines.count → IsReady g o st e new sizes
-    ready_stopped sizes ready count desks = record {
+    pub ready_stopped : (sizes : List ℕ) → machines.IsReady g o st e heard sizes → heard.count ≡ old.machines.count → length old.desks.items ≡ old.machines.count → heard.latest ≤ new.events → IsReady g o st e new sizes
+    ready_stopped sizes ready count desks less = record {
       machines = subst (λ (m : Machines G O S E T). machines.IsReady g o st e m sizes) (sym same) ready;
       desks = ap length ends.desks ∙ without_length at old.desks.items ∙ desks ∙ sym count ∙ sym (ap (λ (m : Machines G O S E T). m.count) same);
+      counted = subst (λ (m : Machines G O S E T). m.latest ≤ new.events) (sym same) less;
     }
 
     pub stops_then : (Tells : Type 0) (x y : Disks) (box : List Letter) → letters_in middle ≡ letters_in old.post → box ≡ [] → Empties at old.machines.nodes.machines.items heard.nodes.machines.items

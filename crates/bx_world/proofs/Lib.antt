@@ -1,3 +1,4 @@
+pub mod CallsThen
 pub mod Ending
 pub mod Letters
 pub mod Telling

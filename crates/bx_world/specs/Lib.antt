@@ -1,3 +1,4 @@
+pub mod Calls
 pub mod Going
 pub mod Outcomes
 pub mod World

@@ -1,5 +1,5 @@
 -- What a world shows, and how it stands between two events.
-use Rattle.std.specs.Prelude.{◌≡◌, ℕ, not, List, length, map}
+use Rattle.std.specs.Prelude.{◌≡◌, ◌≤◌, ℕ, not, List, length, map}
 use Rattle.bx_disk.specs.Disks.{Disks}
 use Rattle.bx_facts.specs.declared.register.Register as register
 use Rattle.bx_facts.specs.declared.store.Store as store
@@ -29,10 +29,11 @@ abbrev pub letters_in : List Posted → List Letter
 letters_in post = map (λ posted. posted.letter) post
 
 module _ {G O S E T : Type 0} (g : register.Ghosts G) (o : owners.Ghosts O) (st : store.Ghosts S) (e : engine.Ghosts E T) where
-  -- Its machines are ready over disks of these sizes, and each node has a desk.
+  -- Its machines are ready over disks of these sizes; each node has a desk; and no more calls were taken than events started something.
   pub record IsReady (world : World G O S E T) (sizes : List ℕ) : Type 0 where
     pub machines : machines.IsReady g o st e world.machines sizes
     pub desks : length world.desks.items ≡ world.machines.count
+    pub counted : world.machines.latest ≤ world.events
 
   -- Its machines stand on disks for a tree, with all letters that were sent under way.
   abbrev pub Standing : World G O S E T → Disks → T → Type 0

@@ -112,7 +112,7 @@ impl<G: Register, O: Owners, S: Store, E: Engine> World<G, O, S, E> {
     }
 
     /// Ends an event at a machine that heard something: what it sends is posted, and what it answered is told; or it stopped, and its desk is cleared.
-    fn end(
+    pub(crate) fn end(
         &mut self,
         alloc: Global,
         at: Actor,

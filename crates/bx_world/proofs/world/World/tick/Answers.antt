@@ -1,4 +1,4 @@
-use Rattle.std.proofs.Common.{◌∙◌, Some, refl, sym, inl, inr}
+use Rattle.std.proofs.Common.{◌≤◌, ◌∙◌, Some, refl, sym, inl, inr}
 use Rattle.bx_nodes.proofs.Machines.{if_ok_so}
 use Rattle.bx_world.specs.World.{letters_in}
 use Rattle.bx_world_events.specs.declared.event.Event.TheVariants.{Tick}
@@ -33,9 +33,10 @@ returns-clause-ready g c = λ sizes is_ready.
     let heard = c.hear-heard.new.self in
     let said = c.hear-heard.ensures in
     let same = c.end.ensures.same.0 in
+    let less : heard.latest ≤ new.events = rw (said.same.3, c.end.ensures.same.1) is_ready.counted in
     ended c.hear-heard.result c.end.result _ _ _ c.end.ensures.said c.end.ensures.stopped c.end.ensures.memory
-    (λ items is outcome ends. ready_said g.G.Register g.O.Owners g.S.Store g.E.Engine old new heard same c.args.at old.post items.items _ outcome ends sizes (said.ready sizes is_ready.machines (λ fails. absurd (let wrong = sym is ∙ fails in cc))) said.same.1 is_ready.desks)
-    (λ fails outcome ends. ready_stopped g.G.Register g.O.Owners g.S.Store g.E.Engine old new heard same c.args.at old.post outcome ends sizes (said.ready sizes is_ready.machines (λ other. absurd (let wrong = sym fails ∙ other in cc))) said.same.1 is_ready.desks)
+    (λ items is outcome ends. ready_said g.G.Register g.O.Owners g.S.Store g.E.Engine old new heard same c.args.at old.post items.items _ outcome ends sizes (said.ready sizes is_ready.machines (λ fails. absurd (let wrong = sym is ∙ fails in cc))) said.same.1 is_ready.desks less)
+    (λ fails outcome ends. ready_stopped g.G.Register g.O.Owners g.S.Store g.E.Engine old new heard same c.args.at old.post outcome ends sizes (said.ready sizes is_ready.machines (λ other. absurd (let wrong = sym fails ∙ other in cc))) said.same.1 is_ready.desks less)
 
 pub returns-clause-went : goal.returns-clause-went
 returns-clause-went g c =

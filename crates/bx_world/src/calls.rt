@@ -145,12 +145,7 @@ impl<G: Register, O: Owners, S: Store, E: Engine> World<G, O, S, E> {
     }
 
     /// A node at which nothing was taken has its turn.
-    fn turn(
-        &mut self,
-        alloc: Global,
-        reading: u64,
-        node: u32,
-    ) -> Result<Outcome, EventError>
+    fn turn(&mut self, alloc: Global, reading: u64, node: u32) -> Result<Outcome, EventError>
         requires up { is_up self.old.machines.up.items (Node node) ≡ true }
         requires ready { (sizes : List ℕ) × IsReady G.Register O.Owners S.Store E.Engine self.old sizes }
         requires steady { self.old.machines.clock ≤ reading + 500 }

@@ -13,7 +13,7 @@ ghost use Rattle.bx_world_events.specs.declared.event.Event.TheVariants.{Deliver
 ghost use Rattle.bx_world_events.specs.declared.event.EventError.TheVariants.{OutOfMemory as NoMemory};
 ghost use Rattle.bx_world_machines.specs.Machines.{is_up};
 
-use crate::tells::{stopped, told};
+use crate::tells::{clear_at, stopped, told};
 use crate::world::World;
 use bx_base::Actor;
 use bx_cluster::{EventError, Outcome};
@@ -131,7 +131,10 @@ impl<G: Register, O: Owners, S: Store, E: Engine> World<G, O, S, E> {
                 self.post.send(alloc, out)?;
                 Ok(told(alloc, &mut self.desks, at, said)?)
             }
-            Err(FactError::Disk) => Ok(stopped(alloc, &mut self.desks, at)),
+            Err(FactError::Disk) => {
+                clear_at(&mut self.desks, at);
+                Ok(stopped(alloc, at))
+            }
             Err(FactError::OutOfMemory) => Err(EventError::OutOfMemory),
         }
     }

@@ -5,6 +5,7 @@ mod calls;
 mod events;
 mod packets;
 mod shows;
+mod stops;
 mod tells;
 mod world;
 

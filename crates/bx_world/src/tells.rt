@@ -22,16 +22,21 @@ fn nothing(alloc: Global) -> Outcome
     }
 }
 
-/// What comes of an event in which a disk failed: the machine stopped, and where it is a node its desk is cleared. It takes no memory.
-pub(crate) fn stopped(alloc: Global, desks: &mut Vec<Desk>, at: Actor) -> Outcome
-    ensures outcome { result ≡ stopped_at at }
-    ensures desks { desks.new.items ≡ desks_without at desks.old.items }
+/// Clears the desk of a machine, where that is a node. It takes no memory.
+pub(crate) fn clear_at(desks: &mut Vec<Desk>, at: Actor)
+    ensures { desks.new.items ≡ desks_without at desks.old.items }
 {
     if let Actor::Node(node) = at {
         if let Some(desk) = desks.get_mut(node as usize) {
             desk.clear();
         }
     }
+}
+
+/// What comes of an event in which a disk failed: the machine stopped. It takes no memory.
+pub(crate) fn stopped(alloc: Global, at: Actor) -> Outcome
+    ensures { result ≡ stopped_at at }
+{
     Outcome {
         stopped: Some(at),
         ..nothing(alloc)

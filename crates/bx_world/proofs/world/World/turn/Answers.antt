@@ -1,5 +1,4 @@
-use Rattle.std.proofs.Common.{◌≡◌, ◌≤◌, ◌∙◌, ◌+◌, refl, sym, ap, subst, arith}
-use Rattle.bx_base.specs.declared.names.Actor.TheVariants.{Node}
+use Rattle.std.proofs.Common.{arith}
 use Rattle.bx_nodes.proofs.Machines.{if_ok_so}
 use Rattle.bx_world.specs.World.{letters_in}
 use Rattle.bx_world.proofs.CallsThen.{ready_turn, turns_then}

@@ -1,4 +1,5 @@
 pub mod CallsThen
 pub mod Ending
+pub mod Leading
 pub mod Letters
 pub mod Telling

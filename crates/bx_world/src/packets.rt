@@ -2,7 +2,9 @@
 
 ghost use Rattle.std.specs.Prelude.{◌≡◌, filter, ℕ, List};
 ghost use Rattle.bx_disk.specs.Disks.{Disks};
+ghost use Rattle.bx_history.specs.Parts.{Part};
 ghost use Rattle.bx_post.specs.Posts.{is_waiting, next_from, passing_from, settled_from};
+ghost use Rattle.bx_world.specs.Led.{Led};
 ghost use Rattle.bx_world.specs.World.{IsReady, Standing, seen};
 
 use crate::world::World;
@@ -37,6 +39,7 @@ impl<G: Register, O: Owners, S: Store, E: Engine> World<G, O, S, E> {
     pub fn settle(&mut self, number: u64)
         ensures shows { seen S.Store self.new ≡ record (seen S.Store self.old) { post = settled_from 1 number (seen S.Store self.old).post } }
         ensures stands { (x : Disks) (tree : E.Tree) → Standing G.Register O.Owners S.Store E.Engine self.old x tree → Standing G.Register O.Owners S.Store E.Engine self.new x tree }
+        ensures led { (x : Disks) (first : E.Tree) (parts : List Part) → Led G.Register O.Owners S.Store E.Engine self.old x first parts → Led G.Register O.Owners S.Store E.Engine self.new x first parts }
         ensures ready { (sizes : List ℕ) → IsReady G.Register O.Owners S.Store E.Engine self.old sizes → IsReady G.Register O.Owners S.Store E.Engine self.new sizes }
         ensures same { self.new ≡ record self.old { post = self.new.post } }
     {
@@ -47,6 +50,7 @@ impl<G: Register, O: Owners, S: Store, E: Engine> World<G, O, S, E> {
     pub fn forget(&mut self)
         ensures shows { seen S.Store self.new ≡ record (seen S.Store self.old) { post = filter is_waiting (seen S.Store self.old).post } }
         ensures stands { (x : Disks) (tree : E.Tree) → Standing G.Register O.Owners S.Store E.Engine self.old x tree → Standing G.Register O.Owners S.Store E.Engine self.new x tree }
+        ensures led { (x : Disks) (first : E.Tree) (parts : List Part) → Led G.Register O.Owners S.Store E.Engine self.old x first parts → Led G.Register O.Owners S.Store E.Engine self.new x first parts }
         ensures ready { (sizes : List ℕ) → IsReady G.Register O.Owners S.Store E.Engine self.old sizes → IsReady G.Register O.Owners S.Store E.Engine self.new sizes }
         ensures same { self.new ≡ record self.old { post = self.new.post } }
     {

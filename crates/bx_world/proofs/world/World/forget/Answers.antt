@@ -27,3 +27,14 @@ returns-clause-stands g c = λ x tree standing.
     } in
     subst (λ letters. machines.Standing g.G.Register g.O.Owners g.S.Store g.E.Engine self.machines letters x tree) (sym (ap letters_in c.forget.ensures))
     (stands_fewer g.G.Register g.O.Owners g.S.Store g.E.Engine laws self.machines (letters_in self.post) (letters_in (filter is_waiting self.post)) x tree (letters_fewer self.post) standing)
+
+pub returns-clause-led : goal.returns-clause-led
+returns-clause-led g c = λ x first parts led. record {
+  tree = led.tree;
+  history = led.history;
+  accounts = led.accounts;
+  stands = returns-clause-stands g c x led.tree led.stands;
+  counted = led.counted;
+  desks = led.desks;
+  left = led.left;
+}

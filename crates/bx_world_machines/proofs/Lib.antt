@@ -1,4 +1,5 @@
 pub mod Answering
+pub mod Beginning
 pub mod Clocks
 pub mod Nodes
 pub mod Reading

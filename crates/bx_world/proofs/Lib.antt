@@ -1,3 +1,4 @@
+pub mod Beginning
 pub mod CallsThen
 pub mod Ending
 pub mod Leading

@@ -1,5 +1,5 @@
 -- What comes of an event in which calls are answered, or a machine stops.
-use Rattle.std.specs.Prelude.{◌≡◌, ℕ, ◌<◌, List, [], ◌∷◌, ◌++◌, map, slice_get, slice_set, Option, None, Some}
+use Rattle.std.specs.Prelude.{◌≡◌, ℕ, zero, suc, ◌<◌, List, [], ◌∷◌, ◌++◌, map, slice_get, slice_set, Option, None, Some}
 use Rattle.bx_base.specs.declared.names.Actor.{Actor}
 use Rattle.bx_base.specs.declared.names.Actor.TheVariants.{Node, Replica, Server, Member}
 use Rattle.bx_base.specs.declared.names.Point.{Point}
@@ -77,3 +77,8 @@ pub record EndsStopped (at : Actor) (old_post new_post : List Posted) (old_desks
   pub outcome_is : outcome ≡ stopped_at at
   pub post : new_post ≡ old_post
   pub desks : new_desks ≡ desks_without at old_desks
+
+-- the desks of so many nodes, with nothing on them
+abbrev pub empty_desks : ℕ → List AtDesk
+empty_desks zero = []
+empty_desks (suc n) = empty_desks n ++ empty_desk ∷ []

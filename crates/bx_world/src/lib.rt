@@ -1,6 +1,7 @@
 //! A cluster, one event at a time: all of its machines, the packets between them, and the calls that its clients made.
 #![tactic(auto)]
 
+mod begins;
 mod calls;
 mod events;
 mod packets;

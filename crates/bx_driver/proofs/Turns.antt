@@ -15,10 +15,11 @@ use Rattle.bx_post.specs.Posts.{Posted, numbered, packet_from, passing_from}
 use Rattle.bx_world_events.specs.Causes.{IsThere}
 use Rattle.bx_world_events.specs.Refusals.{Seen, clock_back, goes_to, is_there, refusal, told_of}
 use Rattle.bx_world_events.specs.declared.event.Event.{Event}
-use Rattle.bx_world_events.specs.declared.event.Event.TheVariants.{Deliver, Sync}
+use Rattle.bx_world_events.specs.declared.event.Event.TheVariants.{Crash, Deliver, Restart, Sync}
 use Rattle.bx_world_events.specs.declared.event.EventError.{EventError}
-use Rattle.bx_world_events.specs.declared.event.EventError.TheVariants.{NoSuchMachine, NoSuchPacket, Down, NothingToSync}
+use Rattle.bx_world_events.specs.declared.event.EventError.TheVariants.{NoSuchMachine, NoSuchPacket, Up, Down, NothingToSync}
 use Rattle.bx_driver.specs.Lanes.{lane_cmp, lane_of}
+use Rattle.bx_driver.specs.Machines.{IsDown, IsUp}
 use Rattle.bx_driver.specs.Pending.{IsLeast, IsPending}
 use Rattle.bx_driver.specs.Runs.{IsDue, IsLowest, MayArrive, MaySync, NoneMayArrive, NoneMaySync, is_open}
 use Rattle.bx_driver.specs.Runs.IsDue.{Arrives, Syncs, Rests}
@@ -69,7 +70,7 @@ one_lowest seen a b its others =
     let one = its.least b others.disk others.syncs in
     let two = others.least a its.disk its.syncs in
     let same : others.disk ≡ its.disk = omega (arith, one, two) in
-    same_disk seen a b its.disk its.syncs.0 (others.syncs.0 ∙ ap Some same) its.syncs.1 others.syncs.1
+    same_disk seen a b its.disk its.syncs.0 (others.syncs.0 ∙ ap Some same) its.syncs.1.0 others.syncs.1.0
 
 pub one_due : (seen : Seen) (held : set.FinSet lane_cmp) (reading : ℕ) (a b : Option Event) → IsDue seen held reading a → IsDue seen held reading b → a ≡ b
 one_due seen held reading a b (Arrives n its least) (Arrives m others most) = its ∙ ap (λ k. Some (Deliver reading k)) (one_least (MayArrive seen held) n m least most) ∙ sym others
@@ -107,11 +108,22 @@ there_is seen (Server n) is = grind (arith, nat_tests)
 there_is seen (Member n) is = grind (arith, nat_tests)
 
 pub syncs_allowed : (seen : Seen) (at : Actor) (disk : ℕ) → MaySync seen at disk → refusal seen (Sync at) ≡ None
-syncs_allowed seen at disk (has, there, up, waits) =
+syncs_allowed seen at disk (has, (there, up), waits) =
     let is = there_is seen at there in
     ap (λ b. option_or (then_some (not b) NoSuchMachine) (option_or (then_some (seen.down at) Down) (option_or (then_some (not (seen.waits at)) NothingToSync) None))) is
     ∙ ap (λ b. option_or (then_some b Down) (option_or (then_some (not (seen.waits at)) NothingToSync) None)) up
     ∙ ap (λ b. option_or (then_some (not b) NothingToSync) None) waits
+
+pub crash_allowed : (seen : Seen) (who : Actor) → IsUp seen who → refusal seen (Crash who) ≡ None
+crash_allowed seen who (there, up) =
+    ap (λ b. option_or (then_some (not b) NoSuchMachine) (option_or (then_some (seen.down who) Down) None)) (there_is seen who there)
+    ∙ ap (λ b. option_or (then_some b Down) None) up
+
+pub restart_allowed : (seen : Seen) (reading : ℕ) (who : Actor) → IsDown seen who → refusal seen (Restart reading who) ≡ clock_back seen (Restart reading who)
+restart_allowed seen reading who (there, down) =
+    ap (λ b. option_or (then_some (not b) NoSuchMachine) (option_or (clock_back seen (Restart reading who)) (option_or (then_some (not (seen.down who)) Up) None))) (there_is seen who there)
+    ∙ ap (λ b. option_or (clock_back seen (Restart reading who)) (option_or (then_some (not b) Up) None)) down
+    ∙ or_none (clock_back seen (Restart reading who))
 
 -- ---- the lowest disk, one by one
 
@@ -135,8 +147,8 @@ next_lowest seen at disk has there idle below other its may = elim (cases_lt dis
   | inr less ↦
       let above = below other its may in
       let same : its ≡ disk = omega (arith, above) in
-      let one : other ≡ at = same_disk seen other at disk (may.0 ∙ ap Some same) has may.1 there in
-      absurd (never one may.2 may.3)
+      let one : other ≡ at = same_disk seen other at disk (may.0 ∙ ap Some same) has may.1.0 there in
+      absurd (never one may.1.1 may.2)
 ]
   where
     never : other ≡ at → seen.down other ≡ false → seen.waits other ≡ true → ⊥
@@ -148,4 +160,4 @@ next_lowest seen at disk has there idle below other its may = elim (cases_lt dis
 pub lowest : (seen : Seen) (at : Actor) (disk : ℕ) → disk_of at ≡ Some disk → IsThere seen at → not (seen.down at) && seen.waits at ≡ true → ((other : Actor) (its : ℕ) → MaySync seen other its → disk ≤ its) → IsLowest seen at
 lowest seen at disk has there does below =
     let both = both_are (not (seen.down at)) (seen.waits at) does in
-    record { disk = disk; syncs = (has, there, is_off (seen.down at) both.0, both.1); least = below }
+    record { disk = disk; syncs = (has, (there, is_off (seen.down at) both.0), both.1); least = below }

@@ -1,24 +1,24 @@
 -- The machines of a cluster, in their order.
-use Rattle.std.specs.Prelude.{ℕ, zero, suc, ◌+◌, ◌*◌, ◌^◌, ◌<◌, List, [], ◌∷◌, ◌++◌}
+use Rattle.std.specs.Prelude.{◌≡◌, ◌+◌, ◌*◌, ◌^◌, ◌<◌, true, false, List}
+use Rattle.std.specs.List.{All, AllPairs, Contains}
+use Rattle.bx_base.specs.Actors.{ComesBefore}
 use Rattle.bx_base.specs.declared.names.Actor.{Actor}
-use Rattle.bx_base.specs.declared.names.Actor.TheVariants.{Node, Replica, Server, Member}
+use Rattle.bx_world_events.specs.Causes.{IsThere}
 use Rattle.bx_world_events.specs.Refusals.{Seen}
 
--- the numbers of its disks are numbers of 32 bits
+-- a machine is there and up; it is there and down
+abbrev pub IsUp : Seen → Actor → Type 0
+IsUp seen who = IsThere seen who × (seen.down who ≡ false)
+
+abbrev pub IsDown : Seen → Actor → Type 0
+IsDown seen who = IsThere seen who × (seen.down who ≡ true)
+
+-- These are the machines of which a fact stands, each once and no other, in the order of machines.
+pub record AreInTurn (Stands : Actor → Type 0) (these : List Actor) : Type 0 where
+  pub each : All Stands these
+  pub every : (who : Actor) → Stands who → Contains these who
+  pub rise : AllPairs ComesBefore these
+
+-- its disks have numbers of 32 bits
 abbrev pub HasNumbers : Seen → Type 0
 HasNumbers seen = 3 + 2 * seen.devices < 2 ^ 32
-
--- so many machines of one kind, by their numbers from 0 on
-abbrev pub first_ones : (ℕ → Actor) → ℕ → List Actor
-first_ones name zero = []
-first_ones name (suc n) = first_ones name n ++ name n ∷ []
-
-abbrev pub first_member : ℕ → Actor
-first_member device = Member (2 * device)
-
-abbrev pub second_member : ℕ → Actor
-second_member device = Member (2 * device + 1)
-
--- nodes, replicas, lock servers, members A of all devices, members B
-abbrev pub machines : Seen → List Actor
-machines seen = first_ones Node seen.nodes ++ first_ones Replica 3 ++ first_ones Server 2 ++ first_ones first_member seen.devices ++ first_ones second_member seen.devices

@@ -4,11 +4,11 @@ use Rattle.std.specs.FinSet as set
 use Rattle.bx_base.specs.declared.names.Actor.{Actor}
 use Rattle.bx_facts.specs.Machines.{disk_of}
 use Rattle.bx_post.specs.declared.packets.Letter.{Letter}
-use Rattle.bx_world_events.specs.Causes.{IsThere}
 use Rattle.bx_world_events.specs.Refusals.{Seen}
 use Rattle.bx_world_events.specs.declared.event.Event.{Event}
 use Rattle.bx_world_events.specs.declared.event.Event.TheVariants.{Deliver, Sync}
 use Rattle.bx_driver.specs.Lanes.{lane_cmp, lane_of}
+use Rattle.bx_driver.specs.Machines.{IsUp}
 use Rattle.bx_driver.specs.Pending.{IsLeast, IsPending}
 
 -- The packet with a number may arrive: it is pending, its receiver is up, and its lane isn't held.
@@ -20,7 +20,7 @@ NoneMayArrive seen held = (number : ℕ) → MayArrive seen held number → ⊥
 
 -- This disk of a machine may finish a sync: the machine is there and up, and a write waits.
 abbrev pub MaySync : Seen → Actor → ℕ → Type 0
-MaySync seen at disk = (disk_of at ≡ Some disk) × IsThere seen at × (seen.down at ≡ false) × (seen.waits at ≡ true)
+MaySync seen at disk = (disk_of at ≡ Some disk) × IsUp seen at × (seen.waits at ≡ true)
 
 abbrev pub NoneMaySync : Seen → Type 0
 NoneMaySync seen = (at : Actor) (disk : ℕ) → MaySync seen at disk → ⊥

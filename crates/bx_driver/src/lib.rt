@@ -4,6 +4,7 @@
 mod drops;
 mod held;
 mod lane;
+mod laws;
 mod machines;
 mod nexts;
 mod runs;
@@ -11,6 +12,7 @@ mod runs;
 pub use drops::drop_pending;
 pub use held::Held;
 pub use lane::{Lane, lane_refusal};
+pub use laws::each_may_go;
 pub use machines::{machines_down, machines_up};
 pub use nexts::delivery_between;
 pub use runs::due;

@@ -1,6 +1,6 @@
 use Rattle.std.proofs.Common.{◌≡◌, ◌++◌}
 use Rattle.bx_base.specs.declared.names.Actor.TheVariants.{Node, Replica, Server}
-use Rattle.bx_driver.specs.Machines.{first_member, first_ones, second_member}
+use Rattle.bx_driver.proofs.InTurn.{first_member, first_ones, second_member}
 use Rattle.bx_driver.proofs.machines.machines.Given as goal
 
 abbrev pub invariant-loop-node : goal.invariant-loop-node

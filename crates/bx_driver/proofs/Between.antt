@@ -1,5 +1,5 @@
 -- The next packet between two machines is the first that passes.
-use Rattle.std.proofs.Common.{◌≡◌, ℕ, List, true, false, ◌==◌, ◌&&◌, refl, arith, ap, sym, ◌∙◌, subst, Some, None}
+use Rattle.std.proofs.Common.{◌≡◌, ℕ, List, true, ◌&&◌, refl, arith, ap, sym, ◌∙◌, subst, Some, None}
 use Rattle.std.proofs.lemmas.Bool.Decides.{nat_tests}
 use Rattle.std.specs.Option.{option_or}
 use Rattle.bx_base.specs.declared.names.Actor.{Actor}
@@ -11,7 +11,6 @@ use Rattle.bx_world_events.specs.declared.event.Event.TheVariants.{Deliver}
 use Rattle.bx_world_events.specs.declared.event.EventError.TheVariants.{NoSuchPacket}
 use Rattle.bx_driver.specs.Nexts.{IsBetween, IsNext, NoneBetween, is_between, number_above}
 use Rattle.bx_driver.specs.Nexts.IsNext.{Arrives, Lacks}
-use Rattle.bx_driver.specs.Pending.{IsLeast}
 use Rattle.bx_driver.proofs.Least.{MayPass, both_are, least_as, least_passes, none_passes, one_least}
 use Rattle.bx_driver.proofs.Numbers.{none_has}
 use Rattle.bx_driver.proofs.Turns.{lacks_refused}

@@ -1,7 +1,7 @@
 -- Packets of a lane that are dropped one by one.
-use Rattle.std.proofs.Common.{◌≡◌, ℕ, zero, suc, ◌+◌, ◌<◌, ◌≤◌, List, [], ◌∷◌, map, true, false, ◌==◌, ◌&&◌, refl, arith, ap, sym, ◌∙◌, Some, None}
+use Rattle.std.proofs.Common.{◌≡◌, ℕ, ◌+◌, ◌<◌, List, [], ◌∷◌, true, false, ◌==◌, ◌&&◌, refl, arith, ap, sym, ◌∙◌, Some, None}
 use Rattle.std.proofs.lemmas.Bool.Decides.{nat_tests}
-use Rattle.std.specs.Prelude.{if◌then◌else◌, Bool, Option}
+use Rattle.std.specs.Prelude.{if◌then◌else◌, Bool}
 use Rattle.bx_post.specs.Posts.{Posted, passes, passing_from, settled_from}
 use Rattle.bx_driver.specs.Drops.{dropped, dropped_one}
 use Rattle.bx_driver.specs.Lanes.{is_on}

@@ -1,7 +1,7 @@
 -- The least pending packet that passes a test, found one by one.
-use Rattle.std.proofs.Common.{◌≡◌, ℕ, zero, suc, ◌+◌, ◌-◌, ◌<◌, ◌≤◌, ◌⊎◌, List, [], ◌∷◌, true, false, ◌&&◌, inl, inr, refl, arith, ap, sym, ◌∙◌, subst, Some, None}
+use Rattle.std.proofs.Common.{◌≡◌, ℕ, suc, ◌+◌, ◌-◌, ◌≤◌, List, [], ◌∷◌, true, false, ◌&&◌, inl, inr, refl, arith, ap, sym, ◌∙◌, Some, None}
 use Rattle.std.proofs.lemmas.Bool.{cases_lt}
-use Rattle.std.specs.Prelude.{if◌then◌else◌, Bool, slice_get, Option}
+use Rattle.std.specs.Prelude.{if◌then◌else◌, Bool, slice_get}
 use Rattle.bx_base.specs.declared.names.Actor.{Actor}
 use Rattle.bx_post.specs.declared.packets.Letter.{Letter}
 use Rattle.bx_post.specs.Posts.{Posted, fresh, passes, passing_from}

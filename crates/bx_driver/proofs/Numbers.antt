@@ -1,15 +1,12 @@
 -- Which numbers are those of packets.
-use Rattle.std.proofs.Common.{◌≡◌, ◌≢◌, ℕ, zero, suc, ◌+◌, ◌-◌, ◌^◌, ◌<◌, ◌≤◌, ◌⊎◌, List, [], ◌∷◌, length, true, false, ◌==◌, nat_lt, inl, inr, refl, arith, ap, sym, ◌∙◌, subst, Some, None}
+use Rattle.std.proofs.Common.{◌≡◌, ℕ, suc, ◌+◌, ◌-◌, ◌^◌, ◌<◌, ◌≤◌, List, [], ◌∷◌, length, true, false, ◌==◌, nat_lt, inl, inr, refl, arith, ap, sym, ◌∙◌, Some, None}
 use Rattle.std.proofs.lemmas.Bool.{cases_lt}
 use Rattle.std.proofs.lemmas.Bool.Decides.{nat_tests}
 use Rattle.std.specs.Prelude.{if◌then◌else◌, Bool, is_some, slice_get, Option}
 use Rattle.std.specs.Borrow.{Bor}
 use Rattle.std.specs.Option.{option_copied}
-use Rattle.bx_post.specs.declared.packets.Letter.{Letter}
-use Rattle.bx_post.specs.declared.packets.Packet.{Packet}
-use Rattle.bx_post.specs.Posts.{Posted, fresh, numbered, packet_from}
+use Rattle.bx_post.specs.Posts.{Posted, numbered, packet_from}
 use Rattle.bx_driver.specs.Nexts.{number_above}
-use Rattle.bx_driver.specs.Pending.{IsPending}
 
 pub packet_at : (first number : ℕ) (all : List Posted) (one : Posted) → first ≤ number → slice_get all (number - first) ≡ Some one → packet_from first number all ≡ Some (numbered number one.letter)
 packet_at first number [] one above there = cc

@@ -1,15 +1,14 @@
 -- Sets of lanes, as they are kept in order.
-use Rattle.std.proofs.Common.{◌≡◌, ℕ, ◌<◌, ◌⊎◌, List, true, false, ◌&&◌, ◌||◌, not, Bool, inl, inr, refl, arith, ap, sym, ◌∙◌}
+use Rattle.std.proofs.Common.{◌≡◌, List, true, false, ◌&&◌, ◌||◌, not, Bool, inl, inr, refl, arith, ap, sym, ◌∙◌}
 use Rattle.std.specs.Prelude.{cond}
 use Rattle.std.specs.Cmp.{IsTotalOrder, nat_cmp_total}
-use Rattle.std.specs.FinSet.{FinSet, IsAntisymmetric, contains, contains-from_list, contains-insert, contains-remove, from_list, insert, nat_cmp-IsAntisymmetric, remove, same_set}
+use Rattle.std.specs.FinSet.{IsAntisymmetric, contains-from_list, contains-insert, contains-remove, from_list, insert, nat_cmp-IsAntisymmetric, remove, same_set}
 use Rattle.std.specs.List.{list_any}
 use Rattle.std.specs.Ordering.{eq_by_cmp, nat_cmp, ordering_then}
 use Rattle.std.specs.declared.cmp.Ordering.{Ordering}
 use Rattle.std.specs.declared.cmp.Ordering.TheVariants.{Less, Equal, Greater}
 use Rattle.std.proofs.lemmas.Cmp.{eq_by_cmp_equiv, on_total, then_total}
-use Rattle.bx_base.specs.Actors.{ComesBefore, actor_cmp, kind_of, number_of}
-use Rattle.bx_base.specs.declared.names.Actor.{Actor}
+use Rattle.bx_base.specs.Actors.{actor_cmp, kind_of, number_of}
 use Rattle.bx_base.proofs.Machines.{one_before}
 use Rattle.bx_driver.specs.Lanes.{lane_cmp}
 use Rattle.bx_driver.specs.declared.lane.Lane.{Lane}

@@ -1,27 +1,24 @@
 -- What is due, and what is refused of it.
-use Rattle.std.proofs.Common.{◌≡◌, ◌≢◌, ℕ, zero, suc, ◌+◌, ◌-◌, ◌*◌, ◌/◌, ◌<◌, ◌≤◌, ◌⊎◌, List, [], ◌∷◌, true, false, ◌&&◌, not, nat_lt, inl, inr, refl, arith, ap, sym, ◌∙◌, subst, Some, None}
+use Rattle.std.proofs.Common.{◌≡◌, ℕ, ◌+◌, ◌*◌, ◌<◌, ◌≤◌, true, false, ◌&&◌, not, inl, inr, refl, arith, ap, sym, ◌∙◌, Some, None}
 use Rattle.std.proofs.lemmas.Bool.{cases_lt}
 use Rattle.std.proofs.lemmas.Bool.Decides.{nat_tests}
-use Rattle.std.specs.Prelude.{if◌then◌else◌, Bool, is_none, slice_get, Option}
+use Rattle.std.specs.Prelude.{Bool, is_none, Option}
 use Rattle.std.specs.Bool.{then_some}
 use Rattle.std.specs.Option.{option_map, option_or}
 use Rattle.std.specs.FinSet as set
 use Rattle.bx_base.specs.declared.names.Actor.{Actor}
 use Rattle.bx_base.specs.declared.names.Actor.TheVariants.{Node, Replica, Server, Member}
 use Rattle.bx_facts.specs.Machines.{disk_of}
-use Rattle.bx_post.specs.declared.packets.Letter.{Letter}
-use Rattle.bx_post.specs.declared.packets.Packet.{Packet}
-use Rattle.bx_post.specs.Posts.{Posted, numbered, packet_from, passing_from}
+use Rattle.bx_post.specs.Posts.{packet_from, passing_from}
 use Rattle.bx_world_events.specs.Causes.{IsThere}
 use Rattle.bx_world_events.specs.Refusals.{Seen, clock_back, goes_to, is_there, refusal, told_of}
 use Rattle.bx_world_events.specs.declared.event.Event.{Event}
 use Rattle.bx_world_events.specs.declared.event.Event.TheVariants.{Crash, Deliver, Restart, Sync}
-use Rattle.bx_world_events.specs.declared.event.EventError.{EventError}
 use Rattle.bx_world_events.specs.declared.event.EventError.TheVariants.{NoSuchMachine, NoSuchPacket, Up, Down, NothingToSync}
 use Rattle.bx_driver.specs.Lanes.{lane_cmp, lane_of}
 use Rattle.bx_driver.specs.Machines.{IsDown, IsUp}
-use Rattle.bx_driver.specs.Pending.{IsLeast, IsPending}
-use Rattle.bx_driver.specs.Runs.{IsDue, IsLowest, MayArrive, MaySync, NoneMayArrive, NoneMaySync, is_open}
+use Rattle.bx_driver.specs.Pending.{IsLeast}
+use Rattle.bx_driver.specs.Runs.{IsDue, IsLowest, MayArrive, MaySync, NoneMayArrive, passes_now}
 use Rattle.bx_driver.specs.Runs.IsDue.{Arrives, Syncs, Rests}
 use Rattle.bx_driver.proofs.Least.{MayPass, both_are, least_as, least_passes, none_passes, one_least}
 use Rattle.bx_driver.proofs.Numbers.{packet_at}
@@ -37,19 +34,19 @@ both_off true b one other = cc
 both_off false true one other = cc
 both_off false false one other = refl
 
-arrives_as : (seen : Seen) (held : set.FinSet lane_cmp) (n : ℕ) → MayPass (is_open seen held) seen.post n → MayArrive seen held n
+arrives_as : (seen : Seen) (held : set.FinSet lane_cmp) (n : ℕ) → MayPass (passes_now seen held) seen.post n → MayArrive seen held n
 arrives_as seen held n (letter, pending, pass) =
     let both = both_are (not (seen.down letter.to)) (not (set.contains held (lane_of letter))) pass in
     (letter, pending, is_off (seen.down letter.to) both.0, is_off (set.contains held (lane_of letter)) both.1)
 
-passes_as : (seen : Seen) (held : set.FinSet lane_cmp) (n : ℕ) → MayArrive seen held n → MayPass (is_open seen held) seen.post n
+passes_as : (seen : Seen) (held : set.FinSet lane_cmp) (n : ℕ) → MayArrive seen held n → MayPass (passes_now seen held) seen.post n
 passes_as seen held n (letter, pending, up, free) = (letter, pending, both_off (seen.down letter.to) (set.contains held (lane_of letter)) up free)
 
-pub least_arrives : (seen : Seen) (held : set.FinSet lane_cmp) (n : ℕ) → passing_from (is_open seen held) 1 seen.post ≡ Some n → IsLeast (MayArrive seen held) n
-least_arrives seen held n is = least_as (MayPass (is_open seen held) seen.post) (MayArrive seen held) n (arrives_as seen held) (passes_as seen held) (least_passes (is_open seen held) seen.post n is)
+pub least_arrives : (seen : Seen) (held : set.FinSet lane_cmp) (n : ℕ) → passing_from (passes_now seen held) 1 seen.post ≡ Some n → IsLeast (MayArrive seen held) n
+least_arrives seen held n is = least_as (MayPass (passes_now seen held) seen.post) (MayArrive seen held) n (arrives_as seen held) (passes_as seen held) (least_passes (passes_now seen held) seen.post n is)
 
-pub none_arrives : (seen : Seen) (held : set.FinSet lane_cmp) → passing_from (is_open seen held) 1 seen.post ≡ None → NoneMayArrive seen held
-none_arrives seen held is n may = none_passes (is_open seen held) seen.post is n (passes_as seen held n may)
+pub none_arrives : (seen : Seen) (held : set.FinSet lane_cmp) → passing_from (passes_now seen held) 1 seen.post ≡ None → NoneMayArrive seen held
+none_arrives seen held is n may = none_passes (passes_now seen held) seen.post is n (passes_as seen held n may)
 
 -- ---- one is due
 

@@ -38,5 +38,5 @@ pub data IsDue (seen : Seen) (held : set.FinSet lane_cmp) (reading : ℕ) (next 
   Rests : next ≡ None → NoneMayArrive seen held → NoneMaySync seen → IsDue seen held reading next
 
 -- a packet to a machine that is up, on a lane that isn't held
-abbrev pub is_open : Seen → set.FinSet lane_cmp → Actor → Actor → ℕ → Bool
-is_open seen held from to kind = not (seen.down to) && not (set.contains held (record { from = from; to = to; kind = kind }))
+abbrev pub passes_now : Seen → set.FinSet lane_cmp → Actor → Actor → ℕ → Bool
+passes_now seen held from to kind = not (seen.down to) && not (set.contains held (record { from = from; to = to; kind = kind }))

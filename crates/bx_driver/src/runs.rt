@@ -15,17 +15,17 @@ use bx_cluster::Cluster;
 use bx_post::Passes;
 use bx_world_events::{Event, REPLICAS, Shows};
 
-/// What may arrive in a run: packets to machines that are up, on lanes that aren't held.
+/// The packets that may arrive in a run: those to machines that are up, on lanes that aren't held.
 #[derive(Drop)]
-struct Open<'a, C> {
+struct Arrivals<'a, C> {
     cluster: &'a C,
     held: &'a Held,
 }
 
-impl<C: Shows> Passes for Open<'_, C> {
-    ghost use Rattle.bx_driver.specs.Runs.{is_open};
+impl<C: Shows> Passes for Arrivals<'_, C> {
+    ghost use Rattle.bx_driver.specs.Runs.{passes_now};
 
-    ghost passes = { λ gate. is_open (C.seen gate.cluster.now) gate.held.now };
+    ghost passes = { λ arrivals. passes_now (C.seen arrivals.cluster.now) arrivals.held.now };
 
     fn passes(&self, from: Actor, to: Actor, kind: u8) -> bool {
         let lane = Lane { from, to, kind };
@@ -75,8 +75,8 @@ pub fn due<C: Cluster>(cluster: &C, held: &Held, reading: u64) -> Option<Event<'
     ensures only { (other : Option Event) → IsDue (C.seen cluster.now) held.now reading other → other ≡ result }
     ensures allowed { IfSome result (λ event. refusal (C.seen cluster.now) event ≡ clock_back (C.seen cluster.now) event) }
 {
-    let open = Open { cluster, held };
-    if let Some(number) = cluster.next(&open) {
+    let arrivals = Arrivals { cluster, held };
+    if let Some(number) = cluster.next(&arrivals) {
         return Some(Event::Deliver { reading, number });
     }
     let at = lowest_waiting(cluster)?;

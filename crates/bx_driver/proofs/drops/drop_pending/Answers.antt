@@ -1,4 +1,4 @@
-use Rattle.std.proofs.Common.{List, ◌≡◌, ◌<◌, arith, ap, sym, ◌∙◌}
+use Rattle.std.proofs.Common.{List, ◌≡◌, arith, ap, sym, ◌∙◌}
 use Rattle.bx_post.specs.Posts.{Posted, settled_from}
 use Rattle.bx_world_events.specs.Refusals.{Seen}
 use Rattle.bx_driver.specs.Drops.{dropped}

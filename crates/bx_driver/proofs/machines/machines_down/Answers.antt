@@ -1,10 +1,9 @@
-use Rattle.std.proofs.Common.{Bool, ap, not, rules, filter, sym, subst, ◌∙◌}
+use Rattle.std.proofs.Common.{Bool, rules, sym, subst, ◌∙◌}
 use Rattle.std.proofs.lemmas.Fn.{filter_same}
 use Rattle.bx_base.specs.declared.names.Actor.{Actor}
 use Rattle.bx_world_events.specs.Causes.{IsThere}
 use Rattle.bx_driver.specs.Machines.{AreInTurn, IsDown}
 use Rattle.bx_driver.proofs.InTurn.{passed_in_turn}
-use Rattle.bx_driver.proofs.Turns.{is_off}
 use Rattle.bx_driver.proofs.machines.machines_down.Goals as goal
 
 pub returns : goal.returns

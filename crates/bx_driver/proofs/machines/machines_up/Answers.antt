@@ -1,4 +1,4 @@
-use Rattle.std.proofs.Common.{Bool, ap, not, rules, filter, sym, subst, ◌∙◌}
+use Rattle.std.proofs.Common.{Bool, ap, not, rules, sym, subst, ◌∙◌}
 use Rattle.std.proofs.lemmas.Fn.{filter_same}
 use Rattle.bx_base.specs.declared.names.Actor.{Actor}
 use Rattle.bx_world_events.specs.Causes.{IsThere}

@@ -1,4 +1,4 @@
-use Rattle.std.proofs.Common.{ℕ, ◌-◌, ◌^◌, ◌<◌, ◌≤◌, length}
+use Rattle.std.proofs.Common.{◌-◌, ◌^◌, ◌<◌, ◌≤◌, length}
 use Rattle.bx_driver.proofs.nexts.count_of.Given as goal
 
 abbrev pub invariant-loop-low : goal.invariant-loop-low

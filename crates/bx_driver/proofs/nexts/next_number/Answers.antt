@@ -1,4 +1,4 @@
-use Rattle.std.proofs.Common.{ap, sym, ◌∙◌, subst}
+use Rattle.std.proofs.Common.{sym, ◌∙◌, subst}
 use Rattle.bx_driver.specs.Nexts.{IsNext}
 use Rattle.bx_driver.proofs.Between.{next_found, next_lacks}
 use Rattle.bx_driver.proofs.nexts.next_number.Goals as goal

@@ -1,7 +1,5 @@
-use Rattle.std.proofs.Common.{◌≡◌, refl, ap, sym, ◌∙◌, subst, Some, None, Option}
-use Rattle.bx_world_events.specs.declared.event.Event.{Event}
+use Rattle.std.proofs.Common.{refl, sym, ◌∙◌, Some}
 use Rattle.bx_world_events.specs.declared.event.Event.TheVariants.{Deliver, Sync}
-use Rattle.bx_driver.specs.Runs.{IsDue}
 use Rattle.bx_driver.specs.Runs.IsDue.{Arrives, Syncs, Rests}
 use Rattle.bx_driver.proofs.Turns.{arrives_allowed, least_arrives, none_arrives, one_due, syncs_allowed}
 use Rattle.bx_driver.proofs.runs.due.Goals as goal

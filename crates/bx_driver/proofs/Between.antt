@@ -9,8 +9,8 @@ use Rattle.bx_post.specs.Posts.{Posted, passing_from}
 use Rattle.bx_world_events.specs.Refusals.{Seen, clock_back, refusal}
 use Rattle.bx_world_events.specs.declared.event.Event.TheVariants.{Deliver}
 use Rattle.bx_world_events.specs.declared.event.EventError.TheVariants.{NoSuchPacket}
-use Rattle.bx_driver.specs.Nexts.{IsBetween, IsNext, NoneBetween, is_between, number_above}
-use Rattle.bx_driver.specs.Nexts.IsNext.{Arrives, Lacks}
+use Rattle.bx_driver.specs.Nexts.{IsBetween, IsNextNumber, NoneBetween, is_between, number_above}
+use Rattle.bx_driver.specs.Nexts.IsNextNumber.{Arrives, Lacks}
 use Rattle.bx_driver.proofs.Least.{MayPass, both_are, least_as, least_passes, none_passes, one_least}
 use Rattle.bx_driver.proofs.Numbers.{none_has}
 use Rattle.bx_driver.proofs.Turns.{lacks_refused}
@@ -50,20 +50,20 @@ passes_as post from to n (letter, pending, sent, gets) =
     let receiver : is_same to letter.to ≡ true = ap (is_same to) gets ∙ same_self to in
     (letter, pending, ap (λ b. b && is_same to letter.to) sender ∙ receiver)
 
-pub next_found : (post : List Posted) (from to : Actor) (n : ℕ) → passing_from (is_between from to) 1 post ≡ Some n → IsNext post from to n
+pub next_found : (post : List Posted) (from to : Actor) (n : ℕ) → passing_from (is_between from to) 1 post ≡ Some n → IsNextNumber post from to n
 next_found post from to n is = Arrives (least_as (MayPass (is_between from to) post) (IsBetween post from to) n (between_as post from to) (passes_as post from to) (least_passes (is_between from to) post n is))
 
-pub next_lacks : (post : List Posted) (from to : Actor) → passing_from (is_between from to) 1 post ≡ None → IsNext post from to (number_above post)
+pub next_lacks : (post : List Posted) (from to : Actor) → passing_from (is_between from to) 1 post ≡ None → IsNextNumber post from to (number_above post)
 next_lacks post from to is = Lacks (λ n it. none_passes (is_between from to) post is n (passes_as post from to n it)) refl
 
-pub one_next : (post : List Posted) (from to : Actor) (n m : ℕ) → IsNext post from to n → IsNext post from to m → n ≡ m
+pub one_next : (post : List Posted) (from to : Actor) (n m : ℕ) → IsNextNumber post from to n → IsNextNumber post from to m → n ≡ m
 one_next post from to n m (Arrives least) (Arrives most) = one_least (IsBetween post from to) n m least most
 one_next post from to n m (Arrives least) (Lacks none is) = absurd (none n least.stands)
 one_next post from to n m (Lacks none is) (Arrives least) = absurd (none m least.stands)
 one_next post from to n m (Lacks none is) (Lacks empty other) = is ∙ sym other
 
 -- where none is between them, the event is refused
-pub next_refused : (seen : Seen) (from to : Actor) (reading n : ℕ) → IsNext seen.post from to n → NoneBetween seen.post from to
+pub next_refused : (seen : Seen) (from to : Actor) (reading n : ℕ) → IsNextNumber seen.post from to n → NoneBetween seen.post from to
     → refusal seen (Deliver reading n) ≡ option_or (clock_back seen (Deliver reading n)) (Some (NoSuchPacket (number_above seen.post)))
 next_refused seen from to reading n (Arrives least) none = absurd (none n least.stands)
 next_refused seen from to reading n (Lacks empty is) none =

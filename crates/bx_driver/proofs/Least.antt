@@ -5,11 +5,11 @@ use Rattle.std.specs.Prelude.{if◌then◌else◌, Bool, slice_get}
 use Rattle.bx_base.specs.declared.names.Actor.{Actor}
 use Rattle.bx_post.specs.declared.packets.Letter.{Letter}
 use Rattle.bx_post.specs.Posts.{Posted, fresh, passes, passing_from}
-use Rattle.bx_driver.specs.Pending.{IsLeast, IsPending}
+use Rattle.bx_driver.specs.Pending.{IsLeast, IsPendingAt}
 
 -- the packet with a number is pending and passes a test
 abbrev pub MayPass : (Actor → Actor → ℕ → Bool) → List Posted → ℕ → Type 0
-MayPass test post number = (letter : Letter) × IsPending post number letter × (passes test letter ≡ true)
+MayPass test post number = (letter : Letter) × IsPendingAt post number letter × (passes test letter ≡ true)
 
 -- the same of packets that are counted from a number on
 abbrev PassesAt : (Actor → Actor → ℕ → Bool) → ℕ → List Posted → ℕ → Letter → Type 0

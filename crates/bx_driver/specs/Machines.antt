@@ -20,5 +20,5 @@ pub record AreInTurn (Stands : Actor → Type 0) (these : List Actor) : Type 0 w
   pub rise : AllPairs ComesBefore these
 
 -- its disks have numbers of 32 bits
-abbrev pub HasNumbers : Seen → Type 0
-HasNumbers seen = 3 + 2 * seen.devices < 2 ^ 32
+abbrev pub HasDiskNumbers : Seen → Type 0
+HasDiskNumbers seen = 3 + 2 * seen.devices < 2 ^ 32

@@ -9,11 +9,11 @@ use Rattle.bx_world_events.specs.declared.event.Event.{Event}
 use Rattle.bx_world_events.specs.declared.event.Event.TheVariants.{Deliver, Sync}
 use Rattle.bx_driver.specs.Lanes.{lane_cmp, lane_of}
 use Rattle.bx_driver.specs.Machines.{IsUp}
-use Rattle.bx_driver.specs.Pending.{IsLeast, IsPending}
+use Rattle.bx_driver.specs.Pending.{IsLeast, IsPendingAt}
 
 -- The packet with a number may arrive: it is pending, its receiver is up, and its lane isn't held.
 abbrev pub MayArrive : Seen → set.FinSet lane_cmp → ℕ → Type 0
-MayArrive seen held number = (letter : Letter) × IsPending seen.post number letter × (seen.down letter.to ≡ false) × (set.contains held (lane_of letter) ≡ false)
+MayArrive seen held number = (letter : Letter) × IsPendingAt seen.post number letter × (seen.down letter.to ≡ false) × (set.contains held (lane_of letter) ≡ false)
 
 abbrev pub NoneMayArrive : Seen → set.FinSet lane_cmp → Type 0
 NoneMayArrive seen held = (number : ℕ) → MayArrive seen held number → ⊥

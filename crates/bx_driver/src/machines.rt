@@ -2,7 +2,7 @@
 
 ghost use Rattle.std.specs.Prelude.{IfOk};
 ghost use Rattle.bx_world_events.specs.Causes.{IsThere};
-ghost use Rattle.bx_driver.specs.Machines.{AreInTurn, HasNumbers, IsDown, IsUp};
+ghost use Rattle.bx_driver.specs.Machines.{AreInTurn, HasDiskNumbers, IsDown, IsUp};
 
 use bx_base::{Actor, List, OutOfMemory};
 use bx_world_events::{REPLICAS, SERVERS, Shows};
@@ -10,7 +10,7 @@ use std::alloc::Global;
 
 /// All machines, in their order: nodes, replicas, lock servers, members A of all devices, members B.
 fn machines<C: Shows>(alloc: Global, cluster: &C) -> Result<Vec<Actor>, OutOfMemory>
-    requires { HasNumbers (C.seen cluster.now) }
+    requires { HasDiskNumbers (C.seen cluster.now) }
     ensures { IfOk result (λ all. AreInTurn (IsThere (C.seen cluster.now)) all.items) }
 {
     let mut all = Vec::new(alloc);
@@ -34,7 +34,7 @@ fn machines<C: Shows>(alloc: Global, cluster: &C) -> Result<Vec<Actor>, OutOfMem
 
 /// The machines that are up, in their order: where all crash, these do, one after the other.
 pub fn machines_up<C: Shows>(alloc: Global, cluster: &C) -> Result<List<Actor>, OutOfMemory>
-    requires { HasNumbers (C.seen cluster.now) }
+    requires { HasDiskNumbers (C.seen cluster.now) }
     ensures { IfOk result (λ up. AreInTurn (IsUp (C.seen cluster.now)) up) }
 {
     let mut all = machines(alloc, cluster)?;
@@ -44,7 +44,7 @@ pub fn machines_up<C: Shows>(alloc: Global, cluster: &C) -> Result<List<Actor>, 
 
 /// The machines that are down, in their order: where all start again, these do, one after the other.
 pub fn machines_down<C: Shows>(alloc: Global, cluster: &C) -> Result<List<Actor>, OutOfMemory>
-    requires { HasNumbers (C.seen cluster.now) }
+    requires { HasDiskNumbers (C.seen cluster.now) }
     ensures { IfOk result (λ down. AreInTurn (IsDown (C.seen cluster.now)) down) }
 {
     let mut all = machines(alloc, cluster)?;

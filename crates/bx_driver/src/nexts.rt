@@ -5,7 +5,7 @@ ghost use Rattle.std.specs.Option.{option_or};
 ghost use Rattle.bx_world_events.specs.Refusals.{clock_back, refusal};
 ghost use Rattle.bx_world_events.specs.declared.event.EventError.TheVariants.{NoSuchPacket};
 ghost use Rattle.bx_world_events.specs.declared.event.Event.TheVariants.{Deliver};
-ghost use Rattle.bx_driver.specs.Nexts.{IsNext, NoneBetween, number_above};
+ghost use Rattle.bx_driver.specs.Nexts.{IsNextNumber, NoneBetween, number_above};
 
 use bx_base::Actor;
 use bx_cluster::Cluster;
@@ -55,7 +55,7 @@ fn number_above<C: Shows>(cluster: &C) -> u64
 
 /// The number of the next packet from one machine to another: the least that is pending; where none is, the number above those of all.
 fn next_number<C: Cluster>(cluster: &C, from: Actor, to: Actor) -> u64
-    ensures { IsNext (C.seen cluster.now).post from to result }
+    ensures { IsNextNumber (C.seen cluster.now).post from to result }
 {
     match cluster.next(&Between { from, to }) {
         Some(number) => number,
@@ -71,8 +71,8 @@ pub fn delivery_between<C: Cluster>(
     to: Actor,
     reading: u64,
 ) -> Event<'static>
-    ensures next { (number : ℕ) × (result ≡ Deliver reading number) × IsNext (C.seen cluster.now).post from to number }
-    ensures only { (number : ℕ) → IsNext (C.seen cluster.now).post from to number → result ≡ Deliver reading number }
+    ensures next { (number : ℕ) × (result ≡ Deliver reading number) × IsNextNumber (C.seen cluster.now).post from to number }
+    ensures only { (number : ℕ) → IsNextNumber (C.seen cluster.now).post from to number → result ≡ Deliver reading number }
     ensures refused { NoneBetween (C.seen cluster.now).post from to → refusal (C.seen cluster.now) result ≡ option_or (clock_back (C.seen cluster.now) result) (Some (NoSuchPacket (number_above (C.seen cluster.now).post))) }
 {
     Event::Deliver {

@@ -5,7 +5,7 @@ ghost use Rattle.bx_base.specs.declared.names.Actor.TheVariants.{Replica};
 ghost use Rattle.bx_facts.specs.Machines.{disk_of};
 ghost use Rattle.bx_world_events.specs.Refusals.{clock_back, refusal};
 ghost use Rattle.bx_world_events.specs.declared.event.Event.{Event};
-ghost use Rattle.bx_driver.specs.Machines.{HasNumbers};
+ghost use Rattle.bx_driver.specs.Machines.{HasDiskNumbers};
 ghost use Rattle.bx_driver.specs.Runs.{IsDue, IsLowest, NoneMaySync};
 
 use crate::held::Held;
@@ -54,7 +54,7 @@ fn may_sync<C: Shows>(cluster: &C, at: Actor) -> bool
 
 /// The machine with the lowest disk that has a write waiting, of those that are up; `None` exactly where there is none.
 fn lowest_waiting<C: Shows>(cluster: &C) -> Option<Actor>
-    requires { HasNumbers (C.seen cluster.now) }
+    requires { HasDiskNumbers (C.seen cluster.now) }
     ensures some { IfSome result (λ at. IsLowest (C.seen cluster.now) at) }
     ensures none { result ≡ None → NoneMaySync (C.seen cluster.now) }
 {
@@ -70,7 +70,7 @@ fn lowest_waiting<C: Shows>(cluster: &C) -> Option<Actor>
 /// What a run does next: the least packet that may arrive does; where there is none, the lowest disk that waits finishes a sync; `None` exactly where there is none
 /// either. What is due is refused for nothing but its reading. It takes no memory.
 pub fn due<C: Cluster>(cluster: &C, held: &Held, reading: u64) -> Option<Event<'static>>
-    requires { HasNumbers (C.seen cluster.now) }
+    requires { HasDiskNumbers (C.seen cluster.now) }
     ensures due { IsDue (C.seen cluster.now) held.now reading result }
     ensures only { (other : Option Event) → IsDue (C.seen cluster.now) held.now reading other → other ≡ result }
     ensures allowed { IfSome result (λ event. refusal (C.seen cluster.now) event ≡ clock_back (C.seen cluster.now) event) }

@@ -13,7 +13,7 @@ use Rattle.bx_nodes.specs.Asks.{KeepsUnwanted}
 use Rattle.bx_views.specs.Attempts.{IsFairNeed}
 use Rattle.bx_views.specs.declared.engine.Engine as engine
 
--- Where a tidy was under way and none is any more, its area is clean.
+-- Where there was a tidy and there is none any more, its area is clean.
 abbrev pub CleansArea : (ℕ → Type 0) → ℕ → Option Tidy → Option Tidy → Type 0
 CleansArea IsClean areas None then_is = Unit {0}
 CleansArea IsClean areas (Some tidy) None = IsClean (area_of areas tidy)

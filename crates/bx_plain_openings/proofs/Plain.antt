@@ -5,7 +5,7 @@ use Rattle.std.proofs.lemmas.Bool.Decides.{nat_tests}
 use Rattle.bx_facts.specs.Writes.{NamesUpTo}
 use Rattle.bx_global.specs.Opening.{first_device}
 use Rattle.bx_global.specs.declared.state.GlobalState.{GlobalState}
-use Rattle.bx_lone_store.specs.Fits.{HasSessionsOf}
+use Rattle.bx_plain_store.specs.Fits.{HasSessionsOf}
 use Rattle.bx_plain.specs.Begin.{plain_state}
 use Rattle.bx_plain.specs.Fits.{own_in}
 use Rattle.bx_plain_store.specs.Out.{at}

@@ -8,7 +8,7 @@ use Rattle.bx_disk.specs.Disks.{Disks}
 use Rattle.bx_engine.specs.contracts.engine.BoxFsEngine.TheImpl as box_fs
 use Rattle.bx_facts.specs.Writes.{Asked, Made}
 use Rattle.bx_history.specs.Trace.{Taking}
-use Rattle.bx_lone_store.specs.contracts.store.PlainStoreStore.TheImpl as plain_store
+use Rattle.bx_plain_store.specs.contracts.store.PlainStoreStore.TheImpl as plain_store
 use Rattle.bx_model.specs.declared.tree.Tree.{Tree}
 use Rattle.bx_node_machines.specs.Machines.{IsOfRecord}
 use Rattle.bx_node_machines.specs.Nodes.{NodesStand}

@@ -9,11 +9,11 @@ use Rattle.bx_facts.specs.Writes.{IsSettled}
 use Rattle.bx_global.specs.Opening.{opening_state}
 use Rattle.bx_layout.specs.Labels.{SpellsLabel}
 use Rattle.bx_logs.specs.Bodies.{point_of}
-use Rattle.bx_lone_repair.proofs.Showing.{left_shows}
-use Rattle.bx_lone_repair.specs.Bench.{first_label}
-use Rattle.bx_lone_repair.specs.Left as lefts
-use Rattle.bx_lone_repair.specs.Left.{IsLeft, IsOfDoubt}
-use Rattle.bx_lone_repair.specs.Shown as lefts_shown
+use Rattle.bx_plain_repair.proofs.Showing.{left_shows}
+use Rattle.bx_plain_repair.specs.Bench.{first_label}
+use Rattle.bx_plain_repair.specs.Left as lefts
+use Rattle.bx_plain_repair.specs.Left.{IsLeft, IsOfDoubt}
+use Rattle.bx_plain_repair.specs.Shown as lefts_shown
 use Rattle.bx_model.specs.declared.tree.Tree.{Tree}
 use Rattle.bx_places.specs.Places.{disk_sectors}
 use Rattle.bx_plain_standing.proofs.Open.{all_first, are_read, are_sources, each_first, open_points}

@@ -2,9 +2,9 @@
 
 ghost use Rattle.std.specs.Prelude.{◌≡◌, ◌≤◌, ℕ, Bool, List, Option};
 ghost use Rattle.bx_disk.specs.Disks.{Disks};
-ghost use Rattle.bx_lone_repair.specs.Bench.{IsBench};
-ghost use Rattle.bx_lone_repair.specs.Left.{Doubt, IsClosed, IsLeft};
-ghost use Rattle.bx_lone_repair.specs.Spared.{SparesOthers};
+ghost use Rattle.bx_plain_repair.specs.Bench.{IsBench};
+ghost use Rattle.bx_plain_repair.specs.Left.{Doubt, IsClosed, IsLeft};
+ghost use Rattle.bx_plain_repair.specs.Spared.{SparesOthers};
 ghost use Rattle.bx_model.specs.declared.tree.Tree.{Tree};
 ghost use Rattle.bx_node_machines.specs.Machines.{MachineView};
 ghost use Rattle.bx_node_machines.specs.Nodes.{NodesStand};
@@ -18,7 +18,7 @@ ghost use Rattle.bx_world_standing.specs.Parts.{Clocks};
 ghost use Rattle.bx_world_standing.specs.Standing.{Course};
 
 use bx_facts::{Register, Store};
-use bx_lone_store::PlainStore;
+use bx_plain_store::PlainStore;
 use bx_owners::Owners;
 use bx_plain::{PlainOwners, PlainRegister};
 

@@ -15,7 +15,7 @@ use bx_layout::Label;
 use bx_members::has_bytes;
 
 /// Makes a member's disk sure, and labels it where it has another label or none.
-pub fn label_member<R: Rack>(rack: &mut R, disk: u32, label: &Label) -> Result<(), RackError>
+pub(crate) fn label_member<R: Rack>(rack: &mut R, disk: u32, label: &Label) -> Result<(), RackError>
     requires member { 3 ≤ disk }
     requires disk { disk < length (R.state rack.old).sizes }
     requires room { 1 ≤ slice_index (R.state rack.old).sizes disk }

@@ -1,6 +1,6 @@
 //! What is read of the open records.
 
-ghost use Rattle.std.specs.Prelude.{◌≡◌, ◌⊎◌, ℕ, ◌<◌, ◌≤◌, Contains, List, IfOk, IfSome, IfNone};
+ghost use Rattle.std.specs.Prelude.{◌≡◌, ◌<◌, ◌≤◌, Contains, List, IfOk, IfSome, IfNone};
 ghost use Rattle.bx_base.specs.declared.names.Point.{Point};
 ghost use Rattle.bx_disk.specs.Disks.{Image};
 ghost use Rattle.bx_disk.specs.Kept.{Fails};

@@ -1,12 +1,7 @@
 //! A store on one machine.
 
-ghost use Rattle.std.specs.Prelude.{◌≡◌, ◌≢◌, ◌⊎◌, ℕ, ◌*◌, ◌<◌, ◌≤◌, IfOk, List, None, Option, Some, false, slice_get};
+ghost use Rattle.std.specs.Prelude.{◌≡◌, ℕ, ◌*◌, ◌<◌, ◌≤◌, IfOk, None, Option, Some, false, slice_get};
 ghost use Rattle.bx_base.specs.declared.names.Actor.TheVariants.{Node};
-ghost use Rattle.bx_disk.specs.Disks.{Disks};
-ghost use Rattle.bx_facts.specs.Chains.{IsPlace, any_session_of};
-ghost use Rattle.bx_facts.specs.declared.input.Input.TheVariants.{Tick};
-ghost use Rattle.bx_post.specs.declared.packets.Letter.{Letter};
-ghost use Rattle.bx_facts.specs.Writes.{Made, StorePast, store_heard, store_with};
 ghost use Rattle.bx_plain_store.specs.Fits.{HasSessionsOf, IsNew};
 ghost use Rattle.bx_plain_store.specs.Out.{at};
 ghost use Rattle.bx_plain_store.specs.Parts.{IsShape, made_of};
@@ -84,14 +79,12 @@ impl PlainStore {
 }
 
 impl Store for PlainStore {
-    ghost use Rattle.std.specs.Prelude.{◌+◌, ◌≢◌, true, refl};
-    ghost use Rattle.std.proofs.Common.{sym, subst};
+    ghost use Rattle.std.specs.Prelude.{◌+◌, true};
     ghost use Rattle.bx_base.specs.declared.names.Actor.TheVariants.{Member, Node};
-    ghost use Rattle.bx_disk.specs.Disks.{Disks, blanked};
-    ghost use Rattle.bx_facts.specs.Disks.{NeedsNoMore};
+    ghost use Rattle.bx_disk.specs.Disks.{blanked};
     ghost use Rattle.bx_global.specs.declared.change.Change.{Change};
     ghost use Rattle.bx_facts.specs.Chains.{last};
-    ghost use Rattle.bx_facts.specs.Writes.{IsSettled, StorePast, member_disk, store_crashed};
+    ghost use Rattle.bx_facts.specs.Writes.{IsSettled, member_disk};
     ghost use Rattle.bx_plain_store.specs.Out.{out_at};
     ghost use Rattle.bx_plain_store.specs.Fits.{Keeps, WillRead};
     ghost use Rattle.bx_plain_store.specs.Growing.{idle_new, keeps_grown, keeps_letters, keeps_new, keeps_sure, keeps_without};

@@ -6,8 +6,8 @@ ghost use Rattle.bx_plain_repair.specs.Bench.{AreLong};
 
 use bx_base::{CallNo, OutOfMemory};
 use bx_disk::{Noise, Rack, RackError};
-use bx_plain_repair::{Recovery, recover};
 use bx_memory_rack::MemRack;
+use bx_plain_repair::{Recovery, recover};
 use bx_records::DraftError;
 use bx_redo::Log;
 use bx_stop_rack::StopRack;

@@ -10,6 +10,4 @@ pub mod Fits
 pub mod Results
 pub mod Finding
 pub mod Crashing
-pub mod Images
-pub mod Showing
 pub mod Sparing

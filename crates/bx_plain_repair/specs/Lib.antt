@@ -3,6 +3,5 @@ pub mod HomesOf
 pub mod Left
 pub mod Recovering
 pub mod Resting
-pub mod Shown
 pub mod Spared
 pub mod Through

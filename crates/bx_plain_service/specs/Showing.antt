@@ -231,5 +231,5 @@ module _ (cluster : PlainCluster) (x : Disks) (tree : Tree) (doubts : ℕ → Op
 
 pub shows : (stage : Stage) (x y : Disks) (tree : Tree) (doubts : ℕ → Option Doubt) → IsReady stage x.sizes → IsHolding stage x tree doubts → IsCrashed x y → Shows (lacks_of stage) (count_of stage) y tree doubts
 shows (Up cluster) x y tree doubts ready holds crashed = up_shows cluster x tree doubts ready.0 ready.1 holds y crashed
-shows (Down left) x y tree doubts ready holds crashed = left_is_shown left.volume left.floor tree holds.of x y holds.stopped.left crashed doubts holds.is
-shows (Returning back) x y tree doubts ready holds crashed = left_is_shown back.left.volume back.left.floor tree holds.of x y holds.stopped.left crashed doubts holds.is
+shows (Down left) x y tree doubts ready holds crashed = left_is_shown left.volume left.floor tree holds.of x y holds.stopped crashed doubts holds.is
+shows (Returning back) x y tree doubts ready holds crashed = left_is_shown back.left.volume back.left.floor tree holds.of x y holds.stopped crashed doubts holds.is

@@ -5,11 +5,11 @@ use Rattle.bx_disk.specs.Disks.{Disks}
 use Rattle.bx_facts.proofs.Lists.{behind, front, front_or_behind, nothing}
 use Rattle.bx_history.specs.Trace.{Taking}
 use Rattle.bx_layout.specs.bx_places.specs.Places.{disk_sectors}
-use Rattle.bx_lone_repair.specs.Bench.{AreLong}
+use Rattle.bx_plain_repair.specs.Bench.{AreLong}
 use Rattle.bx_model.specs.declared.tree.Tree.{Tree}
 use Rattle.bx_node_rounds.specs.Quiet.{tidies_in}
 use Rattle.bx_node_rounds.specs.Rounds.{AreReady, HasSession, HaveStill, NoneWaits, Waits, acting_in}
-use Rattle.bx_lone_store.specs.contracts.store.PlainStoreStore.TheImpl as plain_store
+use Rattle.bx_plain_store.specs.contracts.store.PlainStoreStore.TheImpl as plain_store
 use Rattle.bx_engine.specs.contracts.engine.BoxFsEngine.TheImpl as box_fs
 use Rattle.bx_node_steps.specs.Calls.{CallOf, call_of}
 use Rattle.bx_node_steps.specs.declared.machine.Machine.{Machine}

@@ -8,7 +8,7 @@ use Rattle.bx_engine.specs.bx_clean.specs.Tidying.{IsClean}
 use Rattle.bx_engine.specs.contracts.engine.BoxFsEngine.TheImpl as box_fs
 use Rattle.bx_facts.specs.Holds.{first_of}
 use Rattle.bx_history.specs.Trace.{Taking}
-use Rattle.bx_lone_store.specs.contracts.store.PlainStoreStore.TheImpl as plain_store
+use Rattle.bx_plain_store.specs.contracts.store.PlainStoreStore.TheImpl as plain_store
 use Rattle.bx_node_rounds.specs.Quiet.{tidies_at, tidies_in}
 use Rattle.bx_node_rounds.specs.Rounds.{AreTurns, StandsClean, session_at}
 use Rattle.bx_node_rounds.specs.Rounds.AreTurns.{NoTurns, OneMore}

@@ -5,7 +5,7 @@ use Rattle.bx_disk.specs.Disks.{Disks}
 use Rattle.bx_facts.specs.Disks.{SameLabels}
 use Rattle.bx_history.specs.Trace.{Taking}
 use Rattle.bx_layout.specs.Labels.{SpellsLabel}
-use Rattle.bx_lone_repair.specs.Bench.{IsBench, first_label}
+use Rattle.bx_plain_repair.specs.Bench.{IsBench, first_label}
 use Rattle.bx_model.specs.declared.tree.Tree.{Tree}
 use Rattle.bx_node_rounds.specs.Rounds.{AreTurns, IsTurn, all_said, session_at}
 use Rattle.bx_node_rounds.specs.Rounds.AreTurns.{NoTurns, OneMore}

@@ -1,6 +1,5 @@
 use Rattle.std.proofs.Common.{◌≡◌, ⊎_elim, ℕ, true, false, [], ◌∷◌, refl, sym, ap, ◌∙◌, subst}
 use Rattle.bx_plain.specs.Begin.{plain_state}
-use Rattle.bx_plain_repair.proofs.Results.{on_err}
 use Rattle.bx_plain_service.specs.Events as up
 use Rattle.bx_plain_service.specs.Stages.{IsHolding, IsUpOn, waits_of}
 use Rattle.bx_plain_service.proofs.Openings.{if_ok_map, on_err_then, on_ok_is, shaped_by}

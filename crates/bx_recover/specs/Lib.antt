@@ -1,0 +1,4 @@
+pub mod Bodies
+pub mod Gates
+pub mod HomesOf
+pub mod Recovering

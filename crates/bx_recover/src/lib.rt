@@ -1,0 +1,17 @@
+//! The recovery of the log of a session that is dead, as a machine over data: it asks for what is to be read and written, and is told what came and what is
+//! done. It has no disk and no store. What it does at each stage is one exact relation.
+#![tactic(auto)]
+
+mod bodies;
+mod closing;
+mod gates;
+mod homes;
+mod moves;
+mod record;
+mod recovery;
+mod stage;
+
+pub use moves::Move;
+pub use record::Record;
+pub use recovery::Recovery;
+pub use stage::Stage;

@@ -1,3 +1,4 @@
 pub mod Slices
 pub mod Newest
 pub mod Taken
+pub mod Done

@@ -10,7 +10,7 @@ use Rattle.bx_records.specs.Drafts.{Changed, block_in}
 use Rattle.bx_records.specs.Runs.{KindAndRuns}
 use Rattle.bx_records.specs.declared.runs.Run.{Run}
 use Rattle.bx_redo.specs.Homes.{home_run}
-use Rattle.bx_volume.specs.Records.{IsLogged, Logged, newest_in, or_older}
+use Rattle.bx_redo.specs.bx_volume.specs.Records.{IsLogged, Logged, newest_in, or_older}
 use Rattle.bx_recover.specs.HomesOf.{home_runs}
 
 -- ---- blocks of the volume

@@ -5,8 +5,8 @@ use Rattle.bx_disk.specs.Disks.{sector_of}
 use Rattle.bx_logs.specs.bx_homes.specs.Standing.{StandsAt}
 use Rattle.bx_layout.specs.declared.block.Block.{Block}
 use Rattle.bx_layout.specs.Blocks.{SpellsBlock, block_text}
-use Rattle.bx_volume.proofs.OneTruth.{same_sectors}
-use Rattle.bx_volume.proofs.Sizes.{block_bytes}
+use Rattle.bx_redo.specs.bx_volume.proofs.OneTruth.{same_sectors}
+use Rattle.bx_redo.specs.bx_volume.proofs.Sizes.{block_bytes}
 use Rattle.bx_recover.specs.Bodies.{held_in}
 
 pub first_sector : (bytes : List ℕ) → sector_of bytes 0 ≡ take 512 bytes

@@ -2,7 +2,7 @@
 use Rattle.std.proofs.Common.{◌≡◌, ℕ, ◌+◌, ◌<◌, ◌≤◌, ◌⊎◌, inl, inr, arith, List, [], ◌∷◌, ◌++◌, length, map, subst, Ok, Err}
 use Rattle.std.specs.Prelude.{IfOk, Result}
 use Rattle.bx_logs.specs.Bodies.{point_of}
-use Rattle.bx_volume.specs.Records.{Logged}
+use Rattle.bx_redo.specs.bx_volume.specs.Records.{Logged}
 use Rattle.bx_recover.specs.Bodies.{IsRecordIn}
 use Rattle.bx_recover.specs.Recovering.{Adds, AsksNext, FitsStage, RecoveryView, TakesBody, TellsAll, reads_body}
 use Rattle.bx_recover.specs.declared.moves.Move.{Move}

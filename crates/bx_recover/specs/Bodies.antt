@@ -2,7 +2,7 @@
 use Rattle.std.specs.Prelude.{ℕ, List}
 use Rattle.bx_disk.specs.Disks.{Image, sector_of}
 use Rattle.bx_logs.specs.Bodies.{IsRecordAt}
-use Rattle.bx_volume.specs.Records.{Logged}
+use Rattle.bx_redo.specs.bx_volume.specs.Records.{Logged}
 
 -- what disks hold whose sectors are these bytes
 abbrev pub held_in : List ℕ → Image

@@ -8,7 +8,7 @@ use Rattle.bx_layout.specs.declared.block.Block.{Block}
 use Rattle.bx_records.specs.Drafts.{Changed}
 use Rattle.bx_records.specs.declared.runs.Run.{Run}
 use Rattle.bx_redo.specs.Homes.{home_run}
-use Rattle.bx_volume.specs.Records.{Logged, newest_in}
+use Rattle.bx_redo.specs.bx_volume.specs.Records.{Logged, newest_in}
 
 -- the block with a number among others
 abbrev pub numbered_in : List Changed → ℕ → Option Block

@@ -2,3 +2,4 @@ pub mod Bodies
 pub mod Gates
 pub mod HomesOf
 pub mod Recovering
+pub mod Done

@@ -7,7 +7,7 @@ use Rattle.bx_records.specs.Drafts.{Changed}
 use Rattle.bx_redo.specs.Steps.{one_run, writes}
 use Rattle.bx_redo.specs.declared.work.Work.{Work}
 use Rattle.bx_redo.specs.declared.work.Work.TheVariants as works
-use Rattle.bx_volume.specs.Records.{IsLogged, Logged}
+use Rattle.bx_redo.specs.bx_volume.specs.Records.{IsLogged, Logged}
 use Rattle.bx_recover.specs.Bodies.{HasNoRecord, IsRecordIn}
 use Rattle.bx_recover.specs.Gates.{IsOpenRun}
 use Rattle.bx_recover.specs.HomesOf.{AreNewestOf, home_runs}

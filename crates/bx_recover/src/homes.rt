@@ -10,7 +10,7 @@ ghost use Rattle.bx_logs.specs.Newest.{newest_at};
 ghost use Rattle.bx_places.specs.Places.{IsBlock, IsVolume};
 ghost use Rattle.bx_records.specs.Drafts.{Changed, block_in};
 ghost use Rattle.bx_redo.specs.Homes.{home_run};
-ghost use Rattle.bx_volume.specs.Records.{IsLogged, newest_in, or_older};
+ghost use Rattle.bx_redo.specs.bx_volume.specs.Records.{IsLogged, newest_in, or_older};
 ghost use Rattle.bx_recover.specs.HomesOf.{AreNewestOf, home_runs};
 
 use crate::record::Record;

@@ -6,11 +6,13 @@ mod bodies;
 mod closing;
 mod gates;
 mod homes;
+mod laws;
 mod moves;
 mod record;
 mod recovery;
 mod stage;
 
+pub use laws::what_a_recovery_did;
 pub use moves::Move;
 pub use record::Record;
 pub use recovery::Recovery;

@@ -17,7 +17,7 @@ pub struct Record {
 }
 
 impl Model for Record {
-    ghost use Rattle.bx_volume.specs.Records.{Logged};
+    ghost use Rattle.bx_redo.specs.bx_volume.specs.Records.{Logged};
 
     ghost Value = { Logged };
 

@@ -60,7 +60,7 @@ impl Recovery {
     ghost use Rattle.bx_recover.specs.Recovering.{Adds, Comes, IsOut, IsWriting, SendsHomes, Settled, Steps, TakesBody, TakesGates, closes, first_recovery, reads_body, reads_gates};
     ghost use Rattle.bx_redo.specs.Steps.{one_run};
     ghost use Rattle.bx_redo.specs.declared.work.Work.TheVariants as works;
-    ghost use Rattle.bx_volume.specs.Records.{IsLogged};
+    ghost use Rattle.bx_redo.specs.bx_volume.specs.Records.{IsLogged};
 
     /// The recovery of the log in a slot, from 0 to 7, of a volume of so many devices and areas. It takes no memory.
     pub fn new(alloc: Global, slot: u32, devices: u32, areas: u16) -> Recovery

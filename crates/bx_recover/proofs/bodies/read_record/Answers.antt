@@ -5,7 +5,7 @@ use Rattle.bx_records.specs.Records.{SpellsHead}
 use Rattle.bx_logs.specs.bx_homes.proofs.Sectors.{not_both, of_none, of_some}
 use Rattle.bx_logs.specs.Bodies.{AreNumbers, StandOn}
 use Rattle.bx_logs.proofs.Pieces.{blocks_there, head_there, numbers_there, record_there}
-use Rattle.bx_volume.specs.Records.{Logged}
+use Rattle.bx_redo.specs.bx_volume.specs.Records.{Logged}
 use Rattle.bx_recover.specs.Bodies.{IsRecordIn, held_in}
 use Rattle.bx_recover.proofs.Slices.{first_sector}
 use Rattle.bx_recover.proofs.bodies.read_record.Goals as goal

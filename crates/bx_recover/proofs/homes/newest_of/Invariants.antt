@@ -1,6 +1,6 @@
 use Rattle.std.proofs.Common.{◌≡◌, ℕ, reverse, take}
 use Rattle.bx_logs.specs.Newest.{newest_at}
-use Rattle.bx_volume.specs.Records.{newest_in}
+use Rattle.bx_redo.specs.bx_volume.specs.Records.{newest_in}
 use Rattle.bx_recover.proofs.homes.newest_of.Given as goal
 
 abbrev pub invariant-loop-record : goal.invariant-loop-record

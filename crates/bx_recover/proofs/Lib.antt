@@ -2,3 +2,5 @@ pub mod Slices
 pub mod Newest
 pub mod Taken
 pub mod Done
+pub mod Logs
+pub mod HomesOf

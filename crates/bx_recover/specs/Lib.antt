@@ -3,3 +3,4 @@ pub mod Gates
 pub mod HomesOf
 pub mod Recovering
 pub mod Done
+pub mod Reading

@@ -12,7 +12,9 @@ mod record;
 mod recovery;
 mod stage;
 
-pub use laws::what_a_recovery_did;
+pub use laws::{
+    what_a_recovery_did, what_goes_home_is_the_logs, what_was_read_is_a_log,
+};
 pub use moves::Move;
 pub use record::Record;
 pub use recovery::Recovery;

@@ -4,3 +4,5 @@ pub mod Taken
 pub mod Done
 pub mod Logs
 pub mod HomesOf
+pub mod Waiting
+pub mod Orders

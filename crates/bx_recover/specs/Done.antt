@@ -3,11 +3,12 @@ use Rattle.std.specs.Prelude.{◌≡◌, ◌⊎◌, ℕ, ◌<◌, Bool, true, Li
 use Rattle.bx_base.specs.declared.names.Point.{Point}
 use Rattle.bx_logs.specs.Bodies.{point_of}
 use Rattle.bx_records.specs.Drafts.{Changed}
+use Rattle.bx_records.specs.declared.runs.Run.{Run}
 use Rattle.bx_redo.specs.declared.work.Work.TheVariants as works
 use Rattle.bx_redo.specs.bx_volume.specs.Records.{Logged}
 use Rattle.bx_recover.specs.Bodies.{HasNoRecord, IsRecordIn}
 use Rattle.bx_recover.specs.Gates.{IsOpenRun}
-use Rattle.bx_recover.specs.HomesOf.{AreNewestOf}
+use Rattle.bx_recover.specs.HomesOf.{AreNewestOf, home_runs}
 use Rattle.bx_recover.specs.Recovering.{RecoveryView, Steps, brings_home, closes, first_recovery, reads_body, reads_gates, settles}
 use Rattle.bx_recover.specs.declared.moves.Move.{Move}
 use Rattle.bx_recover.specs.declared.moves.Move.TheVariants.{Write, Read, Acked, Closed as Ended, Wait}
@@ -101,6 +102,14 @@ module _ (recovery : RecoveryView) (steps : List Step) where
     pub run : HasRun
     pub points : HasTold
     pub home : (recovery.records ≡ []) ⊎ ((blocks : List Changed) × AreNewestOf recovery.records blocks × WasDone steps (brings_home recovery blocks))
+
+  -- These runs write the newest block of each number of the run's records home, which were all read, and whose points were told.
+  pub record BringsHome (runs : List Run) : Type 0 where
+    pub run : HasRun
+    pub points : HasTold
+    pub blocks : List Changed
+    pub newest : AreNewestOf recovery.records blocks
+    pub runs_are : runs ≡ home_runs recovery.devices blocks
 
   -- Gate 0 isn't open: it was so when it was read, or it was closed, and that is done.
   abbrev pub IsFirstClosed : Type 0

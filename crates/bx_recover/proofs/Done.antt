@@ -1,5 +1,5 @@
 -- What a recovery did is done at each stage.
-use Rattle.std.proofs.Common.{◌≡◌, ◌⊎◌, ⊎_elim, inl, inr, ◌∙◌, ℕ, zero, suc, ◌+◌, ◌<◌, arith, Bool, true, false, List, [], ◌∷◌, ◌++◌, length, map, Option, Some, None, refl, sym, ap, subst}
+use Rattle.std.proofs.Common.{◌≡◌, ◌⊎◌, ⊎_elim, inl, inr, ◌∙◌, ℕ, zero, suc, ◌+◌, arith, Bool, true, false, List, [], ◌∷◌, ◌++◌, length, map, Option, Some, None, refl, sym, ap, subst}
 use Rattle.std.specs.Prelude.{slice_get}
 use Rattle.std.proofs.lemmas.List.{append-nil, length-append}
 use Rattle.bx_base.specs.declared.names.Point.{Point}
@@ -7,8 +7,8 @@ use Rattle.bx_logs.specs.Bodies.{point_of}
 use Rattle.bx_redo.specs.declared.work.Work.TheVariants as works
 use Rattle.bx_redo.specs.bx_volume.specs.Records.{Logged}
 use Rattle.bx_recover.specs.Bodies.{HasNoRecord, IsRecordIn}
-use Rattle.bx_recover.specs.Done.{AreHome, AreRead, HasDone, HasGates, HasRun, HasSettled, HasTold, IsFirstClosed, IsLast, IsReadIn, Leads, Step, WasDone, WasRead, points_in, told}
-use Rattle.bx_recover.specs.Recovering.{Adds, AsksBodyAgain, AsksFirst, AsksGatesAgain, AsksNext, Comes, FindsClosed, FindsNone, GoesOn, RecoveryView, SendsHomes, Settled, Stays, Steps, TakesBody, TakesGates, TellsAll, TellsThose, WritesBack, brings_home, closes, reads_body, reads_gates, settles}
+use Rattle.bx_recover.specs.Done.{AreHome, AreRead, HasDone, HasGates, HasRun, HasSettled, IsFirstClosed, IsLast, IsReadIn, Leads, Step, points_in, told}
+use Rattle.bx_recover.specs.Recovering.{Adds, AsksBodyAgain, AsksFirst, AsksGatesAgain, AsksNext, Comes, FindsClosed, FindsNone, GoesOn, RecoveryView, SendsHomes, Settled, Stays, TakesBody, TakesGates, TellsAll, TellsThose, WritesBack, brings_home, closes, reads_body, reads_gates, settles}
 use Rattle.bx_recover.specs.declared.moves.Move.{Move}
 use Rattle.bx_recover.specs.declared.moves.Move.TheVariants.{Acked, Closed as Ended, Wait}
 use Rattle.bx_recover.specs.declared.stage.Stage.{Stage}

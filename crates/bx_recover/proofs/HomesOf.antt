@@ -1,6 +1,6 @@
 -- The homes of the newest blocks of records are those of the log's blocks.
-use Rattle.std.proofs.Common.{◌≡◌, ◌∙◌, ℕ, zero, suc, ◌<◌, arith, List, [], ◌∷◌, Contains, length, map, reverse, Option, Some, refl, sym, ap, subst}
-use Rattle.std.specs.Prelude.{IfSome, slice_get, slice_index_or}
+use Rattle.std.proofs.Common.{◌≡◌, ◌∙◌, ℕ, zero, suc, ◌<◌, arith, List, [], ◌∷◌, Contains, length, map, reverse, Some, refl, sym, ap, subst}
+use Rattle.std.specs.Prelude.{slice_get, slice_index_or}
 use Rattle.std.specs.BTreeMap.{is_at}
 use Rattle.std.specs.Cmp.{eq_by_cmp_equiv, nat_cmp_total}
 use Rattle.std.specs.List.{AllByRecursion}
@@ -13,7 +13,6 @@ use Rattle.bx_layout.specs.Blocks.{HasParts}
 use Rattle.bx_logs.specs.bx_homes.proofs.Sectors.{of_some}
 use Rattle.bx_places.specs.Places.{IsBlock}
 use Rattle.bx_records.specs.Drafts.{Changed}
-use Rattle.bx_records.specs.declared.runs.Run.{Run}
 use Rattle.bx_redo.specs.Homes.{AreItsHomes, home_run}
 use Rattle.bx_redo.specs.bx_volume.specs.Overlay.{Logs}
 use Rattle.bx_redo.specs.bx_volume.specs.Records.{IsLogged, Logged, newest_in}

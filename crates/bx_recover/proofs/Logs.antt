@@ -1,11 +1,10 @@
 -- What was read is what stands in the log.
-use Rattle.std.proofs.Common.{◌≡◌, ◌∙◌, ℕ, zero, suc, ◌+◌, ◌/◌, ◌<◌, arith, List, [], ◌∷◌, ◌++◌, length, reverse, Some, refl, sym, ap, subst}
+use Rattle.std.proofs.Common.{◌≡◌, ◌∙◌, ℕ, suc, ◌+◌, ◌<◌, arith, List, [], ◌∷◌, ◌++◌, length, reverse, Some, refl, sym, ap, subst}
 use Rattle.std.specs.Prelude.{slice_get}
 use Rattle.std.proofs.lemmas.List.{append-nil, append_assoc, length-append, length-reverse}
 use Rattle.bx_disk.specs.Disks.{Image, sector_of}
 use Rattle.bx_layout.specs.Labels.{IsOpenGate}
 use Rattle.bx_logs.proofs.LogRuns.{one_more}
-use Rattle.bx_places.specs.Places.{body_place}
 use Rattle.bx_redo.specs.bx_volume.specs.Records.{IsInBody, IsLog, Logged, StandOpen, gate_of, logged_text}
 use Rattle.bx_recover.specs.Bodies.{IsRecordIn}
 use Rattle.bx_recover.specs.Gates.{IsOpenRun}

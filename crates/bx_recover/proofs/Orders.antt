@@ -1,11 +1,10 @@
 -- What was done before homes are written, and before gates are closed.
-use Rattle.std.proofs.Common.{◌≡◌, ◌∙◌, ℕ, arith, Bool, true, false, List, ◌∷◌, Option, Some, None, refl, sym, ap, subst}
+use Rattle.std.proofs.Common.{◌≡◌, ◌∙◌, ℕ, arith, Bool, true, false, List, Option, Some, None, refl, sym, ap, subst}
 use Rattle.std.specs.Prelude.{◌==◌}
 use Rattle.std.proofs.lemmas.Bool.Decides.{nat_tests}
 use Rattle.bx_records.specs.Runs.{KindAndRuns}
-use Rattle.bx_records.specs.declared.runs.Run.{Run}
 use Rattle.bx_recover.specs.Done.{AreHome, BringsHome, HasDone, Step}
-use Rattle.bx_recover.specs.Recovering.{AsksBodyAgain, AsksFirst, AsksGatesAgain, AsksNext, Comes, FindsClosed, FindsNone, GoesOn, RecoveryView, SendsHomes, Settled, TakesBody, TakesGates, TellsAll, TellsThose, WritesBack, brings_home}
+use Rattle.bx_recover.specs.Recovering.{AsksBodyAgain, AsksFirst, AsksGatesAgain, AsksNext, Comes, FindsClosed, FindsNone, GoesOn, RecoveryView, Settled, TakesBody, TakesGates, TellsAll, TellsThose, WritesBack}
 use Rattle.bx_recover.specs.declared.moves.Move.{Move}
 use Rattle.bx_recover.specs.declared.moves.Move.TheVariants.{Acked, Closed as Ended, Read, Wait, Write}
 use Rattle.bx_recover.specs.declared.stage.Stage.{Stage}

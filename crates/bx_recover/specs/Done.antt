@@ -9,7 +9,7 @@ use Rattle.bx_redo.specs.bx_volume.specs.Records.{Logged}
 use Rattle.bx_recover.specs.Bodies.{HasNoRecord, IsRecordIn}
 use Rattle.bx_recover.specs.Gates.{IsOpenRun}
 use Rattle.bx_recover.specs.HomesOf.{AreNewestOf, home_runs}
-use Rattle.bx_recover.specs.Recovering.{RecoveryView, Steps, brings_home, closes, first_recovery, reads_body, reads_gates, settles}
+use Rattle.bx_recover.specs.Recovering.{RecoveryView, Steps, brings_home, closes, reads_body, reads_gates, settles}
 use Rattle.bx_recover.specs.declared.moves.Move.{Move}
 use Rattle.bx_recover.specs.declared.moves.Move.TheVariants.{Write, Read, Acked, Closed as Ended, Wait}
 use Rattle.bx_recover.specs.declared.stage.Stage.{Stage}

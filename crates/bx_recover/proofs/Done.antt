@@ -1,5 +1,5 @@
 -- What a recovery did is done at each stage.
-use Rattle.std.proofs.Common.{◌≡◌, ◌⊎◌, ⊎_elim, inl, inr, ◌∙◌, ℕ, zero, suc, ◌+◌, arith, Bool, true, false, List, [], ◌∷◌, ◌++◌, length, map, Option, Some, None, refl, sym, ap, subst}
+use Rattle.std.proofs.Common.{◌≡◌, ◌⊎◌, ⊎_elim, inl, inr, ◌∙◌, ℕ, ◌+◌, arith, Bool, true, false, List, [], ◌∷◌, ◌++◌, length, map, Option, Some, None, refl, sym, ap, subst}
 use Rattle.std.specs.Prelude.{slice_get}
 use Rattle.std.proofs.lemmas.List.{append-nil, length-append}
 use Rattle.bx_base.specs.declared.names.Point.{Point}
@@ -12,13 +12,8 @@ use Rattle.bx_recover.specs.Recovering.{Adds, AsksBodyAgain, AsksFirst, AsksGate
 use Rattle.bx_recover.specs.declared.moves.Move.{Move}
 use Rattle.bx_recover.specs.declared.moves.Move.TheVariants.{Acked, Closed as Ended, Wait}
 use Rattle.bx_recover.specs.declared.stage.Stage.{Stage}
+use Rattle.bx_recover.proofs.Lists.{split_last}
 use Rattle.bx_recover.specs.declared.stage.Stage.TheVariants.{Begins, Gates, Settles, Bodies, Told, Homes, Closes, Shuts, Closed}
-
-split_last : (records : List Logged) (logged : Logged) (body : ℕ) (other : Logged) → slice_get (records ++ logged ∷ []) body ≡ Some other → (slice_get records body ≡ Some other) ⊎ ((body ≡ length records) × (logged ≡ other))
-split_last [] logged zero other there = inr (refl, cc)
-split_last [] logged (suc body) other there = absurd cc
-split_last (first ∷ records) logged zero other there = inl there
-split_last (first ∷ records) logged (suc body) other there = ⊎_elim inl (λ last. inr (ap suc last.0, last.1)) (split_last records logged body other there)
 
 module _ (old : RecoveryView) (steps : List Step) (step : Step) where
   -- ---- what was done before is done

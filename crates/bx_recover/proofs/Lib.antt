@@ -2,6 +2,7 @@ pub mod Slices
 pub mod Newest
 pub mod Taken
 pub mod Done
+pub mod Lists
 pub mod Logs
 pub mod HomesOf
 pub mod Waiting

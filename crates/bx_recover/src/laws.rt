@@ -1,18 +1,16 @@
 //! Laws of recoveries.
 
-ghost use Rattle.std.specs.Prelude.{◌≡◌, ◌↔◌, ℕ, Bool, List, ◌∷◌, length, reverse, Option};
+ghost use Rattle.std.specs.Prelude.{◌≡◌, ◌↔◌, ℕ, Bool, List, ◌∷◌, reverse, Option};
 ghost use Rattle.std.specs.List.{AllByRecursion};
 ghost use Rattle.bx_disk.specs.Disks.{Image};
 ghost use Rattle.bx_records.specs.Drafts.{Changed};
 ghost use Rattle.bx_records.specs.Runs.{KindAndRuns};
 ghost use Rattle.bx_redo.specs.Homes.{AreItsHomes};
 ghost use Rattle.bx_redo.specs.bx_volume.specs.Overlay.{Logs};
-ghost use Rattle.bx_redo.specs.bx_volume.specs.Records.{IsInBody, IsLog, IsLogged, Logged, logged_text};
-ghost use Rattle.bx_recover.specs.Bodies.{HasNoRecord, IsRecordIn};
-ghost use Rattle.bx_recover.specs.Done.{AreHome, BringsHome, HasDone, Leads, Step};
-ghost use Rattle.bx_recover.specs.Gates.{IsOpenRun};
+ghost use Rattle.bx_redo.specs.bx_volume.specs.Records.{IsLog, IsLogged, Logged};
+ghost use Rattle.bx_recover.specs.Done.{AreHome, BringsHome, HasDone, HasRun, Leads, Step};
 ghost use Rattle.bx_recover.specs.HomesOf.{AreNewestOf, home_runs};
-ghost use Rattle.bx_recover.specs.Reading.{AreGates, AreRecordsIn, IsBody};
+ghost use Rattle.bx_recover.specs.Reading.{AreBodies, AreGates};
 ghost use Rattle.bx_recover.specs.Recovering.{IsOut, RecoveryView, Steps, first_recovery};
 ghost use Rattle.bx_recover.specs.declared.moves.Move.{Move};
 ghost use Rattle.bx_recover.specs.declared.moves.Move.TheVariants.{Wait, Write};
@@ -35,12 +33,10 @@ pub fn what_a_recovery_waits_for()
     ensures { (old new : RecoveryView) (arrived : Option (List ℕ)) (done : Bool) (move : Move) → Steps old arrived done new move → (move ≡ Wait) ↔ IsOut old.stage arrived done }
 {}
 
-/// Where the gates and bodies of a log stand as they were read, the records that were read are the log's, whose run ends where theirs does.
-pub fn what_was_read_is_a_log()
-    ensures stands { (held : Image) (devices areas slot body : ℕ) (bytes : List ℕ) (logged : Logged) → IsBody held devices slot body (logged_text logged) bytes → IsRecordIn areas bytes logged → IsInBody held devices areas slot body logged }
-    ensures none { (held : Image) (devices areas slot body : ℕ) (bytes : List ℕ) (logged : Logged) → IsBody held devices slot body (logged_text logged) bytes → HasNoRecord areas bytes → IsInBody held devices areas slot body logged → ⊥ }
-    ensures log { (held : Image) (devices areas slot opened : ℕ) (gates : List ℕ) (records : List Logged)
-        → AreGates held devices slot gates → IsOpenRun gates opened → length records ≡ opened → AreRecordsIn held devices areas slot records → IsLog held devices areas slot (reverse records) }
+/// Where the gates stand as they were written back, and bodies as they were read, the records that were read are those of the log that stands there.
+pub fn what_was_read_is_the_log()
+    ensures { (held : Image) (recovery : RecoveryView) (steps : List Step) (records : List Logged) (is : HasRun recovery steps)
+        → AreGates held recovery.devices recovery.slot is.settled.gates → AreBodies held recovery steps records → IsLog held recovery.devices recovery.areas recovery.slot records → recovery.records ≡ reverse records }
 {}
 
 /// What a recovery writes home are the homes of a log's blocks, where its records are the log's.

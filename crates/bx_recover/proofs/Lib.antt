@@ -7,3 +7,5 @@ pub mod Logs
 pub mod HomesOf
 pub mod Waiting
 pub mod Orders
+pub mod Sorted
+pub mod Exact

@@ -15,6 +15,11 @@ ghost use Rattle.bx_recover.specs.Recovering.{IsOut, RecoveryView, Steps, first_
 ghost use Rattle.bx_recover.specs.declared.moves.Move.{Move};
 ghost use Rattle.bx_recover.specs.declared.moves.Move.TheVariants.{Wait, Write};
 
+/// A step is one: what a recovery is, and what comes, say what it is then and what it asks for or tells.
+pub fn a_step_is_one()
+    ensures { (old new other : RecoveryView) (arrived : Option (List ℕ)) (done : Bool) (move another : Move) → Steps old arrived done new move → Steps old arrived done other another → (new ≡ other) × (move ≡ another) }
+{}
+
 /// Whatever came, a recovery did all that is to be done before the stage that it is at.
 pub fn what_a_recovery_did()
     ensures { (slot devices areas : ℕ) (steps : List Step) (recovery : RecoveryView) → Leads (first_recovery slot devices areas) steps recovery → HasDone recovery steps recovery.stage }

@@ -13,7 +13,7 @@ mod recovery;
 mod stage;
 
 pub use laws::{
-    what_a_recovery_did, what_a_recovery_waits_for, what_comes_before_a_write,
+    a_step_is_one, what_a_recovery_did, what_a_recovery_waits_for, what_comes_before_a_write,
     what_goes_home_is_the_logs, what_was_read_is_the_log,
 };
 pub use moves::Move;

@@ -1,5 +1,5 @@
 -- What a tidy does to its node.
-use Rattle.std.proofs.Common.{◌≡◌, ◌∙◌, ⊎_elim, inl, inr, ℕ, All, List, [], ◌∷◌, Option, None, Some, IfSome, refl, sym, ap, subst}
+use Rattle.std.proofs.Common.{◌≡◌, ◌∙◌, ⊎_elim, inl, inr, ℕ, All, List, [], ◌∷◌, Option, None, Some, IfSome, IsSome, refl, sym, ap, subst}
 use Rattle.std.specs.Prelude.{option_map, true}
 use Rattle.std.specs.List.{AllByRecursion}
 use Rattle.std.proofs.lemmas.List.Elements.{All-weaker}
@@ -9,8 +9,9 @@ use Rattle.bx_facts.specs.Writes.{Sent}
 use Rattle.bx_node_cache.specs.Kept.{held_in, hint_in}
 use Rattle.bx_node_steps.proofs.Answering.{fits_numbered, idle_numbered, same_calls}
 use Rattle.bx_node_steps.specs.Calls.{acting_of, call_written, point_in, under_way}
+use Rattle.bx_node_steps.specs.Gives.{marked}
 use Rattle.bx_node_steps.specs.Logging.{FitsStage}
-use Rattle.bx_node_steps.specs.Tidying.{Ends, GoesOn, NoTidy, TidyGoes, area_of, tidying}
+use Rattle.bx_node_steps.specs.Tidying.{Ends, GoesOn, IsToClean, NoTidy, Rests, TidyGoes, area_of, tidying}
 use Rattle.bx_node_steps.specs.declared.machine.Machine.{Machine}
 use Rattle.bx_node_steps.specs.declared.machine.Mark.{Mark}
 use Rattle.bx_node_steps.specs.declared.machine.Stage.{Stage}
@@ -18,9 +19,9 @@ use Rattle.bx_node_steps.specs.declared.machine.Stage.TheVariants as stages
 use Rattle.bx_node_steps.specs.declared.machine.Tidy.{Tidy}
 use Rattle.bx_node_tries.specs.declared.round.Waiting.{Waiting}
 use Rattle.bx_nodes.proofs.Calling.{AnswersWell}
-use Rattle.bx_nodes.proofs.Machines.{if_between, if_both, of_there, was_there}
+use Rattle.bx_nodes.proofs.Machines.{if_between, if_both, if_some, of_there, was_there}
 use Rattle.bx_nodes.proofs.Noting.{each_on}
-use Rattle.bx_nodes.proofs.Tidying.{SameTidy}
+use Rattle.bx_nodes.proofs.Tidying.{GoesBy, LeavesTidy, SameTidy}
 use Rattle.bx_nodes.specs.Asks.{KeepsUnneeded, KeepsUnwanted, OnlyHolds}
 use Rattle.bx_nodes.specs.Cleaning.{CleansArea}
 use Rattle.bx_nodes.specs.Sending.{SendsBody, WorksOver}
@@ -40,24 +41,33 @@ use Rattle.bx_views.specs.declared.engine.Engine as engine
 abbrev pub resting : Option Tidy → Option Tidy
 resting = option_map (λ tidy. record { tick = tidy.tick; rests = true })
 
-pub rest_goes : (a : Machine) → TidyGoes a (record a { tidy = resting a.tidy })
-rest_goes a = by a.tidy refl
-  where
-    by : (found : Option Tidy) → a.tidy ≡ found → TidyGoes a (record a { tidy = resting a.tidy })
-    by None is = NoTidy is (ap resting is)
-    by (Some tidy) is = GoesOn tidy (record { tick = tidy.tick; rests = true }) is (ap resting is) refl
+pub rest_goes : (a : Machine) (area : ℕ) → IsToClean a area → IsSome a.mark → GoesBy a (record a { tidy = resting a.tidy })
+rest_goes a area is asked = Rests is.tidy is.is is.awake (ap resting is.is) asked (λ call waits. is.none_wait call waits)
 
 -- it stays before it goes on
-pub same_goes : (a b c : Machine) → SameTidy a b → TidyGoes b c → TidyGoes a c
-same_goes a b c same (NoTidy is is_then) = NoTidy (sym same ∙ is) is_then
-same_goes a b c same (GoesOn before then_is is now tick) = GoesOn before then_is (sym same ∙ is) now tick
-same_goes a b c same (Ends before is now none) = Ends before (sym same ∙ is) now none
+pub same_goes : (a b c : Machine) → LeavesTidy a b → GoesBy b c → GoesBy a c
+same_goes a b c same (NoTidy is is_then) = NoTidy (sym same.0 ∙ is) is_then
+same_goes a b c same (GoesOn tidy is now) = GoesOn tidy (sym same.0 ∙ is) now
+same_goes a b c same (Rests before is awake now asked none) = Rests before (sym same.0 ∙ is) awake now (subst (λ (m : Option Mark). IsSome m) same.1 asked) none
+same_goes a b c same (Ends before is now none) = Ends before (sym same.0 ∙ is) now none
 
 -- or behind that, and so do the calls
-pub goes_same : (a b : Machine) (mark : Option Mark) → TidyGoes a b → TidyGoes a (record b { mark = mark })
+pub goes_same : {Asked : Type 0} (a b : Machine) (mark : Option Mark) → TidyGoes Asked a b → TidyGoes Asked a (record b { mark = mark })
 goes_same a b mark (NoTidy is is_then) = NoTidy is is_then
-goes_same a b mark (GoesOn before then_is is now tick) = GoesOn before then_is is now tick
-goes_same a b mark (Ends before is now none) = Ends before is now none
+goes_same a b mark (GoesOn tidy is now) = GoesOn tidy is now
+goes_same a b mark (Rests before is awake now asked none) = Rests before is awake now asked (λ call waits. none call waits)
+goes_same a b mark (Ends before is now none) = Ends before is now (λ call waits. none call waits)
+
+-- What is noted is what the node is asked for.
+noted_some : (asked : Option (ℕ × ℕ)) (a : Machine) → IsSome (marked asked a) → IsSome asked
+noted_some None a some = some
+noted_some (Some one) a some = refl
+
+pub noted_goes : (asked : Option (ℕ × ℕ)) (a c : Machine) → GoesBy (record a { mark = marked asked a }) c → TidyGoes (IsSome asked) a c
+noted_goes asked a c (NoTidy is now) = NoTidy is now
+noted_goes asked a c (GoesOn tidy is now) = GoesOn tidy is now
+noted_goes asked a c (Rests before is awake now some none) = Rests before is awake now (noted_some asked a some) none
+noted_goes asked a c (Ends before is now none) = Ends before is now none
 
 -- ---- what it cleans
 
@@ -126,12 +136,18 @@ module _ {O E T : Type 0} (o : owners.Ghosts O) (e : engine.Ghosts E T) (engine_
 
 -- ---- nodes in their list
 
-pub goes_there : (old middle new : Option Machine) → (middle ≡ None → ⊥) → IfSome old (λ a. IfSome middle (SameTidy a)) → IfSome middle (λ a. IfSome new (TidyGoes a)) → IfSome old (λ a. IfSome new (TidyGoes a))
-goes_there old middle new some same goes = if_between old middle new SameTidy TidyGoes TidyGoes some same_goes same goes
+pub goes_there : (old middle new : Option Machine) → (middle ≡ None → ⊥) → IfSome old (λ a. IfSome middle (LeavesTidy a)) → IfSome middle (λ a. IfSome new (GoesBy a)) → IfSome old (λ a. IfSome new (GoesBy a))
+goes_there old middle new some same goes = if_between old middle new LeavesTidy GoesBy GoesBy some same_goes same goes
 
-pub goes_noted : (old middle new : Option Machine) (b : Machine) (mark : Option Mark) → (middle ≡ None → ⊥) → middle ≡ Some b → new ≡ Some (record b { mark = mark }) → IfSome old (λ a. IfSome middle (TidyGoes a)) → IfSome old (λ a. IfSome new (TidyGoes a))
-goes_noted None middle new b mark some was is goes = tt
-goes_noted (Some a) middle new b mark some was is goes = was_there (TidyGoes a) new (record b { mark = mark }) is (goes_same a b mark (of_there (TidyGoes a) middle b was goes))
+-- .. of a node that notes what it is asked for, before and after
+pub goes_asked : (asked : Option (ℕ × ℕ)) (old noted new : Option Machine) (a : Machine) → old ≡ Some a → noted ≡ Some (record a { mark = marked asked a }) → IfSome noted (λ b. IfSome new (GoesBy b)) → IfSome old (λ b. IfSome new (TidyGoes (IsSome asked) b))
+goes_asked asked old noted new a was is goes =
+    was_there (λ (m : Machine). IfSome new (TidyGoes (IsSome asked) m)) old a was
+    (if_some new (GoesBy (record a { mark = marked asked a })) (TidyGoes (IsSome asked) a) (λ c. noted_goes asked a c) (of_there (λ (m : Machine). IfSome new (GoesBy m)) noted (record a { mark = marked asked a }) is goes))
+
+pub goes_noted : (Asked : Type 0) (old middle new : Option Machine) (b : Machine) (mark : Option Mark) → middle ≡ Some b → new ≡ Some (record b { mark = mark }) → IfSome old (λ a. IfSome middle (TidyGoes Asked a)) → IfSome old (λ a. IfSome new (TidyGoes Asked a))
+goes_noted Asked None middle new b mark was is goes = tt
+goes_noted Asked (Some a) middle new b mark was is goes = was_there (TidyGoes Asked a) new (record b { mark = mark }) is (goes_same a b mark (of_there (TidyGoes Asked a) middle b was goes))
 
 module _ (IsClean : ℕ → Type 0) (areas : ℕ) where
   -- what a tidy cleaned from one turn of its node to another

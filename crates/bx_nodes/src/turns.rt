@@ -53,7 +53,7 @@ impl<G: Register, O: Owners, S: Store, E: Engine> Nodes<G, O, S, E> {
         ensures answers { IfOk result (λ said. OfBoth self.old self.new node (λ old new. AreApart old → AnswersCalls reading old new said.items)) }
         ensures notes { OnOk result (OfNode self.new node (λ machine. machine.mark ≡ marked (first_of (O.asks self.new.owners node)) machine)) }
         ensures session { OnOk result (OfBoth self.old self.new node (λ old new. new.session ≡ old.session)) }
-        ensures tidies { OnOk result (OfBoth self.old self.new node TidyGoes) }
+        ensures tidies { OnOk result (OfBoth self.old self.new node (TidyGoes (IsSome (first_of (O.asks self.old.owners node))))) }
         ensures cleans { (x : Disks) (letters : List Letter) (clocks : Clocks) (c later : Course) (tree next : E.Tree) → clocks.down (Node node) ≡ false → clocks.greatest ≤ reading + 500
             → Stand G.Register O.Owners S.Store E.Engine self.old x (letters ++ out.old) clocks c tree → later.register.chain ≡ c.register.chain → Stand G.Register O.Owners S.Store E.Engine self.new x (letters ++ out.new) clocks later next
             → OnOk result (OfBoth self.old self.new node (λ old new. CleansArea (E.is_clean self.old.engine later.truth) (S.made self.old.store).areas old.tidy new.tidy)) }
@@ -84,7 +84,7 @@ impl<G: Register, O: Owners, S: Store, E: Engine> Nodes<G, O, S, E> {
         ensures waits { (lease : Lease) → HasLease O.Owners S.Store self.old node reading lease → OnOk result (OfNode self.new node (Waits O.Owners E.Engine self.new.engine node reading lease.session (S.out_of self.new.store node) (Asking G.Register O.Owners self.new node))) }
         ensures answers { IfOk result (λ said. OfBoth self.old self.new node (λ old new. AreApart old → AnswersCalls reading old new said.items)) }
         ensures session { OnOk result (OfBoth self.old self.new node (λ old new. new.session ≡ old.session)) }
-        ensures tidies { OnOk result (OfBoth self.old self.new node TidyGoes) }
+        ensures tidies { OnOk result (OfBoth self.old self.new node (λ old new. TidyGoes (IsSome old.mark) old new)) }
         ensures cleans { (x : Disks) (letters : List Letter) (clocks : Clocks) (c later : Course) (tree next : E.Tree) → clocks.down (Node node) ≡ false → clocks.greatest ≤ reading + 500
             → Stand G.Register O.Owners S.Store E.Engine self.old x (letters ++ out.old) clocks c tree → later.register.chain ≡ c.register.chain → Stand G.Register O.Owners S.Store E.Engine self.new x (letters ++ out.new) clocks later next
             → OnOk result (OfBoth self.old self.new node (λ old new. CleansArea (E.is_clean self.old.engine later.truth) (S.made self.old.store).areas old.tidy new.tidy)) }
@@ -126,7 +126,7 @@ impl<G: Register, O: Owners, S: Store, E: Engine> Nodes<G, O, S, E> {
         ensures waits { OnOk result (OfNode self.new node (Waits O.Owners E.Engine self.new.engine node reading lease.session (S.out_of self.new.store node) (Asking G.Register O.Owners self.new node))) }
         ensures answers { IfOk result (λ said. OfBoth self.old self.new node (λ old new. AreApart old → AnswersCalls reading old new said.items)) }
         ensures session { OnOk result (OfBoth self.old self.new node (λ old new. new.session ≡ old.session)) }
-        ensures tidies { OnOk result (OfBoth self.old self.new node TidyGoes) }
+        ensures tidies { OnOk result (OfBoth self.old self.new node (λ old new. TidyGoes (IsSome old.mark) old new)) }
         ensures cleans { (x : Disks) (letters : List Letter) (clocks : Clocks) (c : Course) (tree : E.Tree) (session : ℕ) → clocks.down (Node node) ≡ false → Stand G.Register O.Owners S.Store E.Engine self.new x letters clocks c tree
             → O.own self.old.owners node ≡ Some session → LivesIn (last c.register.chain) session → IsUnder self.old node session
             → OnOk result (OfBoth self.old self.new node (λ old new. CleansArea (E.is_clean self.old.engine c.truth) (S.made self.old.store).areas old.tidy new.tidy)) }
@@ -170,7 +170,7 @@ impl<G: Register, O: Owners, S: Store, E: Engine> Nodes<G, O, S, E> {
         ensures waits { OnOk result (OfNode self.new node (Waits O.Owners E.Engine self.new.engine node reading lease.session (S.out_of self.new.store node) (Asking G.Register O.Owners self.new node))) }
         ensures answers { IfOk result (λ said. OfBoth self.old self.new node (λ old new. AreApart old → AnswersCalls reading old new said.items)) }
         ensures session { OnOk result (OfBoth self.old self.new node (λ old new. new.session ≡ old.session)) }
-        ensures tidy { OnOk result (OfBoth self.old self.new node (λ old new. new.tidy ≡ old.tidy)) }
+        ensures tidy { OnOk result (OfBoth self.old self.new node (λ old new. (new.tidy ≡ old.tidy) × (new.mark ≡ old.mark))) }
         ensures store { S.own self.new.store node ≡ S.own self.old.store node }
         ensures own { (other : ℕ) → (O.own self.new.owners other ≡ O.own self.old.owners other) × (O.end_of self.new.owners other ≡ O.end_of self.old.owners other) }
         ensures elsewhere { OnlyStore S.Store node self.old.store self.new.store }

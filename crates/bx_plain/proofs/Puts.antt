@@ -92,10 +92,6 @@ lets (row ∷ rows) session other block mode hold all ne held = (elim (is_row ot
 
 -- ---- floors
 
--- what a row says of a block
-part : Row → ℕ → ℕ
-part row block = cond (eqb row.block block) row.given 0
-
 pub keys_of_row : (rows : List Row) (session block : ℕ) → ((row_in rows session block).session ≡ session) × ((row_in rows session block).block ≡ block)
 keys_of_row [] session block = (refl, refl)
 keys_of_row (row ∷ rows) session block = (elim (is_row session block row) as (λ b. is_row session block row ≡ b → ((row_in (row ∷ rows) session block).session ≡ session) × ((row_in (row ∷ rows) session block).block ≡ block)) [

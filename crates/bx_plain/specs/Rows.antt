@@ -1,5 +1,5 @@
 -- Rows of holds and wants: at most one counts for a session and a block, the first.
-use Rattle.std.specs.Prelude.{◌≡◌, ◌≢◌, ℕ, suc, ◌≤◌, ◌⊎◌, max, Bool, false, ◌==◌, ◌&&◌, if◌then◌else◌, List, [], ◌∷◌, Option, Some, None, option_map}
+use Rattle.std.specs.Prelude.{◌≡◌, ◌≢◌, ℕ, suc, ◌⊎◌, max, Bool, false, ◌==◌, ◌&&◌, if◌then◌else◌, List, [], ◌∷◌, Option, Some, None, option_map}
 use Rattle.bx_base.specs.declared.names.Mode.{Mode}
 use Rattle.bx_base.specs.declared.names.Mode.TheVariants.{Shared}
 use Rattle.bx_facts.specs.Holds.{Hold}
@@ -39,16 +39,6 @@ Lets session block mode row = (row.is_held ≡ false) ⊎ (row.session ≡ sessi
 abbrev pub AllLet : ℕ → ℕ → Mode → List Row → Type 0
 AllLet session block mode [] = Unit {0}
 AllLet session block mode (row ∷ rows) = Lets session block mode row × AllLet session block mode rows
-
--- one row is set: what it holds, and what all others do
-pub record Sets (session block : ℕ) (held : Option Hold) (old new : List Row) : Type 0 where
-  pub here : hold_in new session block ≡ held
-  pub other_sessions : (s b : ℕ) → s ≢ session → hold_in new s b ≡ hold_in old s b
-  pub other_blocks : (b : ℕ) → b ≢ block → hold_in new session b ≡ hold_in old session b
-
--- floors don't fall
-pub record Rises (old new : List Row) : Type 0 where
-  pub each : (block : ℕ) → floor_in old block ≤ floor_in new block
 
 -- a row that stands for nothing yet
 abbrev pub idle : ℕ → ℕ → Row

@@ -1,7 +1,7 @@
 //! Owners on one machine.
 
 ghost use Rattle.std.specs.Prelude.{◌≡◌, ◌≢◌, ◌+◌, ◌<◌, ◌≤◌, ◌⊎◌, ℕ, [], OnOk, Some, None, IsSome, IsSomeAnd};
-ghost use Rattle.bx_base.specs.declared.names.Mode.TheVariants.{Shared, Exclusive};
+ghost use Rattle.bx_base.specs.declared.names.Mode.TheVariants.{Exclusive};
 ghost use Rattle.bx_facts.specs.Holds.{KeepsHolds, KeepsOthers};
 ghost use Rattle.bx_plain.specs.Asks.{AlikeBut};
 ghost use Rattle.bx_plain.specs.Fits.{IsPlainState, RowsStand};
@@ -150,7 +150,7 @@ impl PlainOwners {
 }
 
 impl Owners for PlainOwners {
-    ghost use Rattle.std.specs.Prelude.{⊤, false, None};
+    ghost use Rattle.std.specs.Prelude.{false, None};
     ghost use Rattle.std.proofs.Common.{sym, subst};
     ghost use Rattle.bx_facts.specs.Chains.{last};
     ghost use Rattle.bx_facts.specs.Holds.{hold_of};

@@ -1,6 +1,6 @@
 //! Who holds what.
 
-ghost use Rattle.std.specs.Prelude.{◌≡◌, ◌+◌, ◌<◌, ◌≤◌, ◌↔◌, List, [], ◌++◌, ◌∷◌, length, IsTrue, Option, Some, None, IsSome, OnOk, IfOk};
+ghost use Rattle.std.specs.Prelude.{◌≡◌, ◌<◌, ◌≤◌, ◌↔◌, List, IsTrue, Option, Some, None, OnOk};
 ghost use Rattle.bx_base.specs.declared.names.Mode.TheVariants.{Shared, Exclusive};
 ghost use Rattle.bx_plain.specs.Grants.{session_in};
 ghost use Rattle.bx_plain.specs.Rows.{AllLet, floor_in, hold_in, place_in, row_in, want_in, with_row};

@@ -10,7 +10,7 @@ use Rattle.bx_nodes.proofs.Calling.{AnswersThere, answers_then, is_fits, receive
 use Rattle.bx_nodes.proofs.Machines.{if_ok_so, is_some_there, ok_so}
 use Rattle.bx_nodes.proofs.Turning.{rest_there, taken_under, under_there}
 use Rattle.bx_nodes.proofs.Cleaning.{Cleans, cleans_then, goes_there}
-use Rattle.bx_nodes.proofs.Tidying.{tidy_received, tidy_same, tidy_stepped, tidy_then}
+use Rattle.bx_nodes.proofs.Tidying.{tidy_left, tidy_received, tidy_same, tidy_stepped, tidy_then}
 use Rattle.bx_nodes.proofs.nodes.Nodes.act.Goals as goal
 
 pub attempt_turn-requires-clause-busy : goal.attempt_turn-requires-clause-busy
@@ -150,7 +150,7 @@ returns-clause-cleans g c = λ x letters clocks course later tree next up steady
     c.in_ok-acked.ensures.steps in
     ok_so _ c.together.result
     (cleans_then (e.is_clean old.engine later.truth) (g.S.Store.made old.store).areas (slice_get old.machines.items node) (slice_get stepped.machines.items node) (slice_get new.machines.items node) some_stepped
-    (tidy_then (slice_get old.machines.items node) (slice_get middle.machines.items node) (slice_get stepped.machines.items node) some_middle one two)
+    (tidy_left (slice_get old.machines.items node) (slice_get stepped.machines.items node) (tidy_then (slice_get old.machines.items node) (slice_get middle.machines.items node) (slice_get stepped.machines.items node) some_middle one two))
     (subst (λ en. IfSome (slice_get stepped.machines.items node) (λ a. IfSome (slice_get new.machines.items node) (Cleans (e.is_clean en later.truth) (g.S.Store.made old.store).areas a))) engine
     (subst (λ (n : ℕ). IfSome (slice_get stepped.machines.items node) (λ a. IfSome (slice_get new.machines.items node) (Cleans (e.is_clean stepped.engine later.truth) n a))) areas cleaned)))
 

@@ -9,7 +9,7 @@ use Rattle.bx_nodes.proofs.Cleaning.{Cleans, cleans_kept, cleans_then, goes_ther
 use Rattle.bx_nodes.proofs.HoldingUp.{held_by_write, some_out}
 use Rattle.bx_nodes.proofs.Leading.{turned_still}
 use Rattle.bx_nodes.proofs.Machines.{if_all, is_some_there}
-use Rattle.bx_nodes.proofs.Tidying.{tidy_stays, tidy_tried}
+use Rattle.bx_nodes.proofs.Tidying.{tidy_left, tidy_stays, tidy_tried}
 use Rattle.bx_nodes.proofs.nodes.Nodes.attempt_turn.Goals as goal
 
 pub returns-then-not-done-clause-answers : goal.returns-then-not-done-clause-answers
@@ -36,7 +36,7 @@ pub returns-then-not-done-clause-cleans : goal.returns-then-not-done-clause-clea
 returns-then-not-done-clause-cleans g c = λ x letters clocks course tree session up stands own live mine.
     let old = slice_get c.args.self.now.machines.items c.args.node in
     let new = slice_get c.attempt.new.self.machines.items c.args.node in
-    cleans_kept (g.E.Engine.is_clean c.args.self.now.engine course.truth) (g.S.Store.made c.args.self.now.store).areas old new (tidy_tried old new c.in_ok-attempted.ensures.only)
+    cleans_kept (g.E.Engine.is_clean c.args.self.now.engine course.truth) (g.S.Store.made c.args.self.now.store).areas old new (tidy_left old new (tidy_tried old new c.in_ok-attempted.ensures.only))
 
 pub returns-then-not-done-clause-own : goal.returns-then-not-done-clause-own
 returns-then-not-done-clause-own g c = λ other. (ap (λ w. g.O.Owners.own w other) c.in_ok-attempted.ensures.parts.1, ap (λ w. g.O.Owners.end_of w other) c.in_ok-attempted.ensures.parts.1)
@@ -109,7 +109,7 @@ returns-clause-cleans g c = λ x letters clocks course tree session up stands ow
     let mine_last = session_under (slice_get tried.machines.items node) (slice_get new.machines.items node) session some_then c.in_ok-tidy.ensures.session mine_then in
     let cleaned = c.in_ok-tidy.ensures.cleans x letters clocks course tree session up stands own_then live mine_last in
     let areas = ap (λ m. m.areas) c.in_ok-said.ensures.parts.2 in
-    cleans_then (e.is_clean old.engine course.truth) (g.S.Store.made old.store).areas (slice_get old.machines.items node) (slice_get tried.machines.items node) (slice_get new.machines.items node) some_then c.in_ok-said.ensures.tidy
+    cleans_then (e.is_clean old.engine course.truth) (g.S.Store.made old.store).areas (slice_get old.machines.items node) (slice_get tried.machines.items node) (slice_get new.machines.items node) some_then (tidy_left (slice_get old.machines.items node) (slice_get tried.machines.items node) c.in_ok-said.ensures.tidy)
     (subst (λ en. IfSome (slice_get tried.machines.items node) (λ a. IfSome (slice_get new.machines.items node) (Cleans (e.is_clean en course.truth) (g.S.Store.made old.store).areas a))) c.in_ok-said.ensures.parts.1
     (subst (λ (n : ℕ). IfSome (slice_get tried.machines.items node) (λ a. IfSome (slice_get new.machines.items node) (Cleans (e.is_clean tried.engine course.truth) n a))) areas cleaned))
 

@@ -1,4 +1,4 @@
-use Rattle.std.proofs.Common.{◌≡◌, ◌∙◌, ℕ, ◌<◌, ◌++◌, [], List, Option, Some, None, IfSome, refl, sym, ap, subst, arith}
+use Rattle.std.proofs.Common.{◌≡◌, ◌∙◌, ℕ, ◌<◌, ◌++◌, [], List, Option, Some, None, IfSome, IsSome, refl, sym, ap, subst, arith}
 use Rattle.std.specs.Prelude.{OnOk, slice_get, slice_set}
 use Rattle.std.specs.List.{AllByRecursion}
 use Rattle.std.specs.Vec.{with_item}
@@ -11,7 +11,7 @@ use Rattle.bx_node_cache.specs.Kept.{held_in, hint_in}
 use Rattle.bx_node_machines.proofs.Showing.{sees_truth}
 use Rattle.bx_node_steps.specs.Ready.{IsReady}
 use Rattle.bx_node_steps.specs.Seen.{seen, view_of}
-use Rattle.bx_node_steps.specs.Tidying.{Ends, IsToClean, TidyGoes, area_of, tidying}
+use Rattle.bx_node_steps.specs.Tidying.{Ends, IsToClean, area_of, tidying}
 use Rattle.bx_node_steps.specs.declared.machine.Machine.{Machine}
 use Rattle.bx_node_steps.specs.declared.machine.Stage.TheVariants.{Idle}
 use Rattle.bx_node_steps.specs.declared.machine.Tidy.{Tidy}
@@ -27,7 +27,7 @@ use Rattle.bx_nodes.proofs.HoldingUp.{held_by_none, held_by_rest, held_by_wants,
 use Rattle.bx_nodes.proofs.Leading.{later_turned, turned_none}
 use Rattle.bx_nodes.proofs.Machines.{both_ok, both_there, each_ok, if_and, if_both, if_later, if_new, if_then, if_two, is_some_there, of_there, on_each, seen_same, seen_there, set_here, set_there, was_there}
 use Rattle.bx_nodes.proofs.Noting.{able_as, stands_noted, waits_noted}
-use Rattle.bx_nodes.proofs.Tidying.{SameTidy, tidy_held, tidy_same, tidy_stays}
+use Rattle.bx_nodes.proofs.Tidying.{GoesBy, LeavesTidy, tidy_held, tidy_same, tidy_stays}
 use Rattle.bx_nodes.proofs.Turning.{busy, one_needs, some_sent}
 use Rattle.bx_places.specs.Places.{IsBlock}
 use Rattle.bx_views.specs.Attempts.{IsFair, IsFairNeed, IsHeldDraft, Tidies}
@@ -92,8 +92,14 @@ returns-then-is_some-clause-goes g c =
     let only : after ≡ record before { tidy = tidy } = c.rest.ensures in
     let was : slice_get items node ≡ Some before = slice_get-get_or items node before c.requires.there.0 ∙ ap (λ (m : Machine). Some m) (sym c.index_mut.ensures.value) in
     let is : slice_get (slice_set items node after) node ≡ Some (record before { tidy = tidy }) = set_here items node after before was ∙ ap (λ (m : Machine). Some m) only in
-    both_there TidyGoes (slice_get items node) (slice_get (slice_set items node after) node) before (record before { tidy = tidy }) was is
-    (rest_goes before)
+    let one = c.index.result.now in
+    let was_one : slice_get items node ≡ Some one = slice_get-get_or items node one c.requires.there.0 ∙ ap (λ (m : Machine). Some m) (sym c.index.ensures) in
+    let two = c.index-2.result.now in
+    let was_two : slice_get items node ≡ Some two = slice_get-get_or items node two c.requires.there.0 ∙ ap (λ (m : Machine). Some m) (sym c.index-2.ensures) in
+    let cleaning = of_there (λ (m : Machine). IsToClean m c.in-Some.area) (slice_get items node) before was (was_there (λ (m : Machine). IsToClean m c.in-Some.area) (slice_get items node) one was_one c.in-Some.ensures.some) in
+    let asked = of_there (λ (m : Machine). IsSome m.mark) (slice_get items node) before was (was_there (λ (m : Machine). IsSome m.mark) (slice_get items node) two was_two (sym c.is_some.ensures ∙ c.if-is_some.true)) in
+    both_there GoesBy (slice_get items node) (slice_get (slice_set items node after) node) before (record before { tidy = tidy }) was is
+    (rest_goes before c.in-Some.area cleaning asked)
 
 pub returns-then-is_some-clause-cleans : goal.returns-then-is_some-clause-cleans
 returns-then-is_some-clause-cleans g c = λ x letters clocks course tree session up stands own live mine.
@@ -160,8 +166,8 @@ tidy-requires g c =
     let self = c.args.self.now in
     let items = self.machines.items in
     let node = c.args.node in
-    let two = c.index-2.result.now in
-    let was_two : slice_get items node ≡ Some two = slice_get-get_or items node two c.requires.there.0 ∙ ap (λ (m : Machine). Some m) (sym c.index-2.ensures) in
+    let two = c.index.result.now in
+    let was_two : slice_get items node ≡ Some two = slice_get-get_or items node two c.requires.there.0 ∙ ap (λ (m : Machine). Some m) (sym c.index.ensures) in
     let made = g.S.Store.made self.store in
     let ready = of_there (IsReady made (g.E.Engine.areas self.engine) (g.S.Store.asked self.store node)) (slice_get items node) two was_two c.requires.ready in
     let cleaning = c.in-Some.ensures.some in
@@ -174,8 +180,8 @@ ask_each-requires-clause-rests g c =
     let self = c.args.self.now in
     let items = self.machines.items in
     let node = c.args.node in
-    let two = c.index-2.result.now in
-    let was_two : slice_get items node ≡ Some two = slice_get-get_or items node two c.requires.there.0 ∙ ap (λ (m : Machine). Some m) (sym c.index-2.ensures) in
+    let two = c.index.result.now in
+    let was_two : slice_get items node ≡ Some two = slice_get-get_or items node two c.requires.there.0 ∙ ap (λ (m : Machine). Some m) (sym c.index.ensures) in
     was_there (λ (m : Machine). m.stage ≡ Idle) (slice_get items node) two was_two c.in-Some.ensures.some.idle
 
 pub ask_each-requires-clause-blocks : goal.ask_each-requires-clause-blocks
@@ -183,8 +189,8 @@ ask_each-requires-clause-blocks g c =
     let self = c.args.self.now in
     let items = self.machines.items in
     let node = c.args.node in
-    let two = c.index-2.result.now in
-    let was_two : slice_get items node ≡ Some two = slice_get-get_or items node two c.requires.there.0 ∙ ap (λ (m : Machine). Some m) (sym c.index-2.ensures) in
+    let two = c.index.result.now in
+    let was_two : slice_get items node ≡ Some two = slice_get-get_or items node two c.requires.there.0 ∙ ap (λ (m : Machine). Some m) (sym c.index.ensures) in
     let e = g.E.Engine in
     let made = g.S.Store.made self.store in
     let cache = c.index-3.result.now.cache in
@@ -240,8 +246,8 @@ send-requires-clause-idle g c =
     let self = c.args.self.now in
     let items = self.machines.items in
     let node = c.args.node in
-    let two = c.index-2.result.now in
-    let was_two : slice_get items node ≡ Some two = slice_get-get_or items node two c.requires.there.0 ∙ ap (λ (m : Machine). Some m) (sym c.index-2.ensures) in
+    let two = c.index.result.now in
+    let was_two : slice_get items node ≡ Some two = slice_get-get_or items node two c.requires.there.0 ∙ ap (λ (m : Machine). Some m) (sym c.index.ensures) in
     was_there (λ (m : Machine). m.stage ≡ Idle) (slice_get items node) two was_two c.in-Some.ensures.some.idle
 
 pub send-requires-clause-held : goal.send-requires-clause-held
@@ -289,8 +295,8 @@ returns-in-Inner-clause-answers g c =
     let self = c.args.self.now in
     let items = self.machines.items in
     let node = c.args.node in
-    let two = c.index-2.result.now in
-    let was_two : slice_get items node ≡ Some two = slice_get-get_or items node two c.requires.there.0 ∙ ap (λ (m : Machine). Some m) (sym c.index-2.ensures) in
+    let two = c.index.result.now in
+    let was_two : slice_get items node ≡ Some two = slice_get-get_or items node two c.requires.there.0 ∙ ap (λ (m : Machine). Some m) (sym c.index.ensures) in
     let new = c.send.new.self in
     let own = g.S.Store.own self.store node in
     let out = g.S.Store.out_of new.store node in
@@ -308,7 +314,7 @@ returns-in-Inner-clause-goes g c =
     let old_is = slice_get self.machines.items c.args.node in
     let new_is = slice_get new.machines.items c.args.node in
     on_ok_weaker c.send.result
-    (λ sends. tidy_stays old_is new_is (if_both old_is new_is (SendsBody c.tidying.result (g.S.Store.own self.store c.args.node) c.args.lease.until (g.S.Store.out_of new.store c.args.node)) SameTidy (λ a b sent. ap (λ (m : Machine). m.tidy) sent.begins.only) sends))
+    (λ sends. tidy_stays old_is new_is (if_both old_is new_is (SendsBody c.tidying.result (g.S.Store.own self.store c.args.node) c.args.lease.until (g.S.Store.out_of new.store c.args.node)) LeavesTidy (λ a b sent. (ap (λ (m : Machine). m.tidy) sent.begins.only, ap (λ (m : Machine). m.mark) sent.begins.only)) sends))
     c.send.ensures.sends
 
 -- ---- it ends
@@ -368,10 +374,10 @@ returns-in-Answer-clause-goes g c =
     let only : after ≡ record before { tidy = tidy } = refl in
     let was : slice_get items node ≡ Some before = slice_get-get_or items node before c.requires.there.0 ∙ ap (λ (m : Machine). Some m) (sym c.index_mut-in-Answer.ensures.value) in
     let is : slice_get (slice_set items node after) node ≡ Some (record before { tidy = tidy }) = set_here items node after before was ∙ ap (λ (m : Machine). Some m) only in
-    let two = c.index-2.result.now in
-    let was_two : slice_get items node ≡ Some two = slice_get-get_or items node two c.requires.there.0 ∙ ap (λ (m : Machine). Some m) (sym c.index-2.ensures) in
+    let two = c.index.result.now in
+    let was_two : slice_get items node ≡ Some two = slice_get-get_or items node two c.requires.there.0 ∙ ap (λ (m : Machine). Some m) (sym c.index.ensures) in
     let cleaning = of_there (λ (m : Machine). IsToClean m c.in-Some.area) (slice_get items node) before was (was_there (λ (m : Machine). IsToClean m c.in-Some.area) (slice_get items node) two was_two c.in-Some.ensures.some) in
-    both_there TidyGoes (slice_get items node) (slice_get (slice_set items node after) node) before (record before { tidy = tidy }) was is
+    both_there GoesBy (slice_get items node) (slice_get (slice_set items node after) node) before (record before { tidy = tidy }) was is
     (Ends cleaning.tidy cleaning.is refl (λ call waits. cleaning.none_wait call waits))
 
 pub returns-in-Answer-clause-cleans : goal.returns-in-Answer-clause-cleans
@@ -385,8 +391,8 @@ returns-in-Answer-clause-cleans g c = λ x letters clocks course tree session up
     let only : after ≡ record before { tidy = tidy } = refl in
     let was : slice_get items node ≡ Some before = slice_get-get_or items node before c.requires.there.0 ∙ ap (λ (m : Machine). Some m) (sym c.index_mut-in-Answer.ensures.value) in
     let is : slice_get (slice_set items node after) node ≡ Some (record before { tidy = tidy }) = set_here items node after before was ∙ ap (λ (m : Machine). Some m) only in
-    let two = c.index-2.result.now in
-    let was_two : slice_get items node ≡ Some two = slice_get-get_or items node two c.requires.there.0 ∙ ap (λ (m : Machine). Some m) (sym c.index-2.ensures) in
+    let two = c.index.result.now in
+    let was_two : slice_get items node ≡ Some two = slice_get-get_or items node two c.requires.there.0 ∙ ap (λ (m : Machine). Some m) (sym c.index.ensures) in
     let cleaning = of_there (λ (m : Machine). IsToClean m c.in-Some.area) (slice_get items node) before was (was_there (λ (m : Machine). IsToClean m c.in-Some.area) (slice_get items node) two was_two c.in-Some.ensures.some) in
     let e = g.E.Engine in
     let made = g.S.Store.made self.store in
@@ -460,8 +466,8 @@ returns-in_default-clause-held_up g c = λ x letters clocks course tree session 
     let self = c.args.self.now in
     let items = self.machines.items in
     let node = c.args.node in
-    let two = c.index-2.result.now in
-    let was_two : slice_get items node ≡ Some two = slice_get-get_or items node two c.requires.there.0 ∙ ap (λ (m : Machine). Some m) (sym c.index-2.ensures) in
+    let two = c.index.result.now in
+    let was_two : slice_get items node ≡ Some two = slice_get-get_or items node two c.requires.there.0 ∙ ap (λ (m : Machine). Some m) (sym c.index.ensures) in
     let out = g.S.Store.out_of self.store node in
     let Asks : ℕ → Type 0 = λ at. Asking g.G.Register g.O.Owners self node at in
     was_there (IsHeldUp g.E.Engine self.engine out Asks) (slice_get items node) two was_two (held_by_none g.E.Engine self.engine out Asks two (λ area is. c.in_default.ensures.none refl area is))
@@ -471,8 +477,8 @@ returns-then-not-done-clause-held_up g c = λ x letters clocks course tree sessi
     let self = c.args.self.now in
     let items = self.machines.items in
     let node = c.args.node in
-    let two = c.index-2.result.now in
-    let was_two : slice_get items node ≡ Some two = slice_get-get_or items node two c.requires.there.0 ∙ ap (λ (m : Machine). Some m) (sym c.index-2.ensures) in
+    let two = c.index.result.now in
+    let was_two : slice_get items node ≡ Some two = slice_get-get_or items node two c.requires.there.0 ∙ ap (λ (m : Machine). Some m) (sym c.index.ensures) in
     let out = g.S.Store.out_of self.store node in
     let Asks : ℕ → Type 0 = λ at. Asking g.G.Register g.O.Owners self node at in
     was_there (IsHeldUp g.E.Engine self.engine out Asks) (slice_get items node) two was_two
@@ -483,8 +489,8 @@ returns-in-Need-clause-held_up g c = λ x letters clocks course tree session up 
     let self = c.args.self.now in
     let items = self.machines.items in
     let node = c.args.node in
-    let two = c.index-2.result.now in
-    let was_two : slice_get items node ≡ Some two = slice_get-get_or items node two c.requires.there.0 ∙ ap (λ (m : Machine). Some m) (sym c.index-2.ensures) in
+    let two = c.index.result.now in
+    let was_two : slice_get items node ≡ Some two = slice_get-get_or items node two c.requires.there.0 ∙ ap (λ (m : Machine). Some m) (sym c.index.ensures) in
     let e = g.E.Engine in
     let new = c.ask_each.new.self in
     let made = g.S.Store.made self.store in

@@ -1,4 +1,4 @@
-use Rattle.std.proofs.Common.{◌≡◌, ◌∙◌, ℕ, ◌<◌, ◌++◌, [], Bool, true, Option, Some, None, IfSome, refl, sym, ap, subst, arith}
+use Rattle.std.proofs.Common.{◌≡◌, ◌∙◌, ℕ, ◌<◌, ◌++◌, [], Bool, true, Option, Some, None, IfSome, IsSome, refl, sym, ap, subst, arith}
 use Rattle.std.specs.Prelude.{◌==◌, ◌&&◌, if◌then◌else◌, slice_get}
 use Rattle.std.proofs.lemmas.Bool.Decides.{nat_tests}
 use Rattle.bx_facts.specs.Holds.{first_of}
@@ -12,7 +12,7 @@ use Rattle.bx_nodes.proofs.Calling.{answers_still, answers_then, noted_there, se
 use Rattle.bx_nodes.proofs.HoldingUp.{held_noted}
 use Rattle.bx_nodes.proofs.Machines.{is_some_there, of_there, there_is, was_there}
 use Rattle.bx_nodes.proofs.Noting.{asking_noted, lease_noted, ready_noted, stands_noted, waits_noted}
-use Rattle.bx_nodes.proofs.Cleaning.{Cleans, cleans_then, goes_noted, goes_there, then_cleans}
+use Rattle.bx_nodes.proofs.Cleaning.{Cleans, cleans_then, goes_asked, goes_noted, then_cleans}
 use Rattle.bx_nodes.proofs.Tidying.{tidy_noted}
 use Rattle.bx_nodes.proofs.nodes.Nodes.turn.Goals as goal
 
@@ -121,18 +121,14 @@ returns-clause-tidies g c =
     let acted = c.act.new.self in
     let new = c.note_asked-2.new.self in
     let found = there_is old.machines.items node c.requires.there.0 in
-    let mark = marked (first_of (g.O.Owners.asks old.owners node)) found.0 in
+    let asked = first_of (g.O.Owners.asks old.owners node) in
     let is = of_there (λ (m : Machine). slice_get noted.machines.items node ≡ Some (record m { mark = marked (first_of (g.O.Owners.asks old.owners node)) m })) (slice_get old.machines.items node) found.0 found.1 c.note_asked.ensures.noted in
-    let less_noted = subst (λ (n : ℕ). node < n) (sym c.note_asked.ensures.count) c.requires.there.0 in
     let less = subst (λ (n : ℕ). node < n) (sym (c.in_ok-said.ensures.count ∙ c.note_asked.ensures.count)) c.requires.there.0 in
     let its = there_is acted.machines.items node less in
     let mark_then = marked (first_of (g.O.Owners.asks acted.owners node)) its.0 in
     let is_then = of_there (λ (m : Machine). slice_get new.machines.items node ≡ Some (record m { mark = marked (first_of (g.O.Owners.asks acted.owners node)) m })) (slice_get acted.machines.items node) its.0 its.1 c.note_asked-2.ensures.noted in
-    let some_noted = is_some_there noted.machines.items node less_noted in
-    let some_acted = is_some_there acted.machines.items node less in
-    goes_noted (slice_get old.machines.items node) (slice_get acted.machines.items node) (slice_get new.machines.items node) its.0 mark_then some_acted its.1 is_then
-    (goes_there (slice_get old.machines.items node) (slice_get noted.machines.items node) (slice_get acted.machines.items node) some_noted
-    (tidy_noted (slice_get old.machines.items node) (slice_get noted.machines.items node) found.0 mark found.1 is) c.in_ok-said.ensures.tidies)
+    goes_noted (IsSome asked) (slice_get old.machines.items node) (slice_get acted.machines.items node) (slice_get new.machines.items node) its.0 mark_then its.1 is_then
+    (goes_asked asked (slice_get old.machines.items node) (slice_get noted.machines.items node) (slice_get acted.machines.items node) found.0 found.1 is c.in_ok-said.ensures.tidies)
 
 pub returns-clause-cleans : goal.returns-clause-cleans
 returns-clause-cleans g c = λ x letters clocks course later tree next up steady stands chain stands_then.

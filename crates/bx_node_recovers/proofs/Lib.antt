@@ -1,3 +1,4 @@
 pub mod Found
 pub mod Landed
 pub mod Read
+pub mod Told

@@ -2,3 +2,4 @@ pub mod Found
 pub mod Landed
 pub mod Read
 pub mod Told
+pub mod Sending

@@ -43,7 +43,7 @@ module _ {G O S T : Type 0} (g : register.Ghosts G) (o : owners.Ghosts O) (st : 
     (at : StandsAt g o st Stands Step register_is owners_are store_is x known c tree)
     (allowed : IsAllowed (last c.register.chain)) (entitled : IsEntitled (last c.register.chain) gone slot session)
     (none_sent : (write : Sent) → Contains c.store.writes write → write.session ≢ session) (unproposed : Contains c.register.proposed (Close gone session) → ⊥) where
-  low : slot < 8
+  pub low : slot < 8
   low = subst (λ (n : ℕ). n < 8) entitled.at ((all_row (IsSession (last c.register.chain).term_end) (last c.register.chain).sessions gone entitled.row allowed.each_session entitled.is).slot)
 
   taken : is_taken (last c.register.chain).sessions slot ≡ true

@@ -3,3 +3,4 @@ pub mod Landed
 pub mod Read
 pub mod Told
 pub mod Sending
+pub mod Homed

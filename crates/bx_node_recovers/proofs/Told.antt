@@ -14,14 +14,15 @@ use Rattle.bx_redo.proofs.Within.{part, within_is, within_it}
 use Rattle.bx_rows.specs.Words.{is_taken}
 use Rattle.bx_views.specs.Attempts.{Deed}
 use Rattle.bx_views.specs.Truths.{Hints, Truth}
-use Rattle.bx_volume.specs.Overlay.{filled_of, with_log}
+use Rattle.bx_volume.specs.Overlay.{with_log}
 use Rattle.bx_volume.specs.Records.{IsLog, LogWhere, Logged, gate_of}
 use Rattle.bx_volume.proofs.Overlay.{log_here}
 use Rattle.bx_world_chains.specs.Entitled.{IsEntitled}
-use Rattle.bx_world_standing.specs.bx_world_logs.specs.Logs.{Slot, writes_in}
+use Rattle.bx_world_chains.proofs.Rows.{taken_of}
+use Rattle.bx_world_standing.specs.bx_world_logs.specs.Logs.{IsLogOf, Slot, SlotStands, writes_in}
 use Rattle.bx_world_standing.specs.bx_world_logs.specs.Shown.{IsRun, ShowsSlot}
 use Rattle.bx_world_standing.specs.Standing.{Course, Known, StandsAt, SureOf}
-use Rattle.bx_world_volumes.proofs.Recovered.{IsSettledTo, after, recovered, settled, taken}
+use Rattle.bx_world_volumes.proofs.Recovered.{IsSettledTo, after, recovered, settled}
 use Rattle.bx_recover.specs.Done.{HasRun, Step, WasRead}
 use Rattle.bx_recover.specs.Reading.{AreGates}
 use Rattle.bx_recover.specs.Recovering.{reads_body}
@@ -51,13 +52,20 @@ module _ {G O S T : Type 0} (g : register.Ghosts G) (o : owners.Ghosts O) (st : 
     (unproposed : Contains c.register.proposed (Close gone session) → ⊥)
     (stage : Stage) (records : List Logged) (steps : List Step)
     (has : HasRun (recovery_of slot (st.made store_is).devices (st.made store_is).areas stage records) steps)
-    (as_read : (gate : ℕ) → gate < 8 → writes_in (st.made store_is).devices slot (length (c.logs slot)) (c.slots slot).activity (gate_place slot gate (st.made store_is).devices).0 (gate_place slot gate (st.made store_is).devices).1 ≡ false
-        → sector_of has.settled.gates gate ≡ gate_of c.before (st.made store_is).devices slot gate)
+    (as_read : (gate : ℕ) (content : List ℕ) → gate < 8 → SureOf g o st Stands Step_is register_is owners_are store_is x known c (gate_place slot gate (st.made store_is).devices).0 (gate_place slot gate (st.made store_is).devices).1 content
+        → sector_of has.settled.gates gate ≡ content)
     (sure : (gate : ℕ) → gate < 8 → SureOf g o st Stands Step_is register_is owners_are store_is x known c (gate_place slot gate (st.made store_is).devices).0 (gate_place slot gate (st.made store_is).devices).1 (sector_of has.settled.gates gate))
-    (bodies : (body i : ℕ) (bytes : List ℕ) → WasRead steps (reads_body (recovery_of slot (st.made store_is).devices (st.made store_is).areas stage records) body) bytes → i < filled_of ((c.slots slot).more ∷ c.logs slot) body
-        → c.before (body_place slot body (st.made store_is).devices).0 ((body_place slot body (st.made store_is).devices).1 + i) ≡ sector_of bytes i) where
+    (bodies : (body i : ℕ) (bytes content : List ℕ) → WasRead steps (reads_body (recovery_of slot (st.made store_is).devices (st.made store_is).areas stage records) body) bytes → i < 145
+        → SureOf g o st Stands Step_is register_is owners_are store_is x known c (body_place slot body (st.made store_is).devices).0 ((body_place slot body (st.made store_is).devices).1 + i) content → sector_of bytes i ≡ content) where
   abbrev pub now : Image
   now = with_gates (st.made store_is).devices slot c.before has.settled.gates
+
+  -- the slot has a row, as its session is entitled to it
+  its_taken : is_taken (last c.register.chain).sessions slot ≡ true
+  its_taken = subst (λ (n : ℕ). is_taken (last c.register.chain).sessions n ≡ true) entitled.at (taken_of (last c.register.chain) gone entitled.row entitled.is)
+
+  its : IsLogOf (SureOf g o st Stands Step_is register_is owners_are store_is x known c) (st.made store_is).devices (st.made store_is).areas c.before c.logs slot (c.slots slot)
+  its = subst (λ (t : Bool). SlotStands (SureOf g o st Stands Step_is register_is owners_are store_is x known c) (st.made store_is).devices (st.made store_is).areas c.before t c.logs slot (c.slots slot)) its_taken (at.logs.each slot less)
 
   pub same : (d s : ℕ) → writes_in (st.made store_is).devices slot (length (c.logs slot)) (c.slots slot).activity d s ≡ false → now d s ≡ c.before d s
   same d s apart = by (is_within (log_device slot (st.made store_is).devices) (log_start slot) 8 d s) refl
@@ -67,7 +75,7 @@ module _ {G O S T : Type 0} (g : register.Ghosts G) (o : owners.Ghosts O) (st : 
 
       by : (b : Bool) → is_within (log_device slot (st.made store_is).devices) (log_start slot) 8 d s ≡ b → now d s ≡ c.before d s
       by false is = pick false is
-      by true is = pick true is ∙ ap (sector_of has.settled.gates) which ∙ as_read gate.0 gate.2 quiet ∙ there
+      by true is = pick true is ∙ ap (sector_of has.settled.gates) which ∙ as_read gate.0 (gate_of c.before (st.made store_is).devices slot gate.0) gate.2 (its.gates gate.0 gate.2 quiet) ∙ there
         where
           region : (d ≡ log_device slot (st.made store_is).devices) × (log_start slot ≤ s) × (s < log_start slot + 8)
           region = let w = within_is (log_device slot (st.made store_is).devices) (log_start slot) 8 d s is in (w.on, w.begins, w.ends)
@@ -96,9 +104,6 @@ module _ {G O S T : Type 0} (g : register.Ghosts G) (o : owners.Ghosts O) (st : 
   -- the course once the records are told
   abbrev pub then_is : Course
   then_is = after g o st Stands Step_is register_is owners_are store_is x known c tree at gone session slot less now allowed entitled other none_out unproposed same gates_sure
-
-  its_taken : is_taken (last c.register.chain).sessions slot ≡ true
-  its_taken = taken g o st Stands Step_is register_is owners_are store_is x known c tree at gone session slot less now allowed entitled other none_out unproposed same gates_sure
 
   abbrev run : List Logged
   run = (settled g o st Stands Step_is register_is owners_are store_is x known c tree at gone session slot less now allowed entitled other none_out unproposed same gates_sure).run

@@ -4,3 +4,4 @@ pub mod Read
 pub mod Told
 pub mod Sending
 pub mod Homed
+pub mod Sent

@@ -1,5 +1,5 @@
 -- The records that a recovery read are those of the run that it finds.
-use Rattle.std.proofs.Common.{◌≡◌, ◌⊎◌, inl, inr, ℕ, ◌+◌, ◌*◌, ◌/◌, ◌<◌, ◌≤◌, Bool, true, false, List, [], ◌∷◌, length, reverse, refl, sym, ◌∙◌, ap, subst, arith}
+use Rattle.std.proofs.Common.{◌≡◌, ◌⊎◌, inl, inr, ℕ, ◌+◌, ◌*◌, ◌/◌, ◌<◌, Bool, true, false, List, ◌∷◌, length, reverse, refl, sym, ◌∙◌, ap, subst, arith}
 use Rattle.bx_disk.specs.Disks.{Image, sector_of}
 use Rattle.bx_places.specs.Places.{body_place, log_device, log_start}
 use Rattle.bx_redo.specs.declared.work.Work.TheVariants as works

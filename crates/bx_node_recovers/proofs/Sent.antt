@@ -1,10 +1,10 @@
 -- A recovery sends a write: the whole stands with it.
-use Rattle.std.proofs.Common.{◌≡◌, ◌≢◌, ◌⊎◌, ⊎_elim, inl, ◌∙◌, ℕ, ◌+◌, ◌-◌, ◌<◌, ◌≤◌, true, false, List, [], ◌∷◌, Contains, length, Some, refl, sym, ap, subst, arith}
+use Rattle.std.proofs.Common.{◌≡◌, ◌≢◌, ◌⊎◌, ⊎_elim, inl, ◌∙◌, ℕ, ◌+◌, ◌-◌, ◌<◌, ◌≤◌, true, false, List, ◌∷◌, Contains, length, Some, sym, ap, subst, arith}
 use Rattle.bx_base.specs.declared.names.Actor.TheVariants.{Node}
 use Rattle.bx_disk.specs.Disks.{Disks, sector_of}
 use Rattle.bx_facts.specs.declared.register.Register as register
 use Rattle.bx_facts.specs.declared.store.Store as store
-use Rattle.bx_facts.specs.Chains.{LivesIn, last}
+use Rattle.bx_facts.specs.Chains.{last}
 use Rattle.bx_facts.specs.Writes.{IsOnly, Sent, Writes, WritesIn, WritesTo}
 use Rattle.bx_facts.proofs.Lists.{front_or_behind}
 use Rattle.bx_global.specs.Allowed.{IsAllowed, IsSession}
@@ -14,18 +14,23 @@ use Rattle.bx_places.specs.Places.{gate_place, log_device, log_start}
 use Rattle.bx_post.specs.declared.packets.Letter.{Letter}
 use Rattle.bx_records.specs.declared.runs.Run.{Run}
 use Rattle.bx_redo.specs.Homes.{AreItsHomes}
-use Rattle.bx_redo.specs.Steps.{one_run}
-use Rattle.bx_redo.proofs.Stored.{only_one}
+use Rattle.bx_redo.specs.Stands.{is_written}
+use Rattle.bx_redo.specs.Steps.{one_run, writes}
+use Rattle.bx_redo.specs.declared.work.Work.{Work}
+use Rattle.bx_redo.specs.declared.work.Work.TheVariants as works
+use Rattle.bx_redo.proofs.Stored.{its_sectors, only_one}
+use Rattle.bx_redo.proofs.Within.{within_is}
 use Rattle.bx_rows.specs.Words.{is_taken, row_in}
 use Rattle.bx_rows.specs.declared.session.SessionRow.{SessionRow}
 use Rattle.bx_views.specs.Attempts.{Deed}
 use Rattle.bx_views.specs.Truths.{Hints, Truth}
 use Rattle.bx_world_chains.specs.Entitled.{IsEntitled}
 use Rattle.bx_world_chains.proofs.Rows.{all_row, taken_of}
-use Rattle.bx_world_logs.specs.Logs.{Found, LogsStand}
+use Rattle.bx_world_logs.specs.Logs.{Activity, Found, LogsStand, OfLog, view_of, writes_in}
 use Rattle.bx_world_standing.specs.Rights.{IsOfSlot, IsWithin, Surely}
 use Rattle.bx_world_standing.specs.Sessions.{IsOfNode}
 use Rattle.bx_world_standing.specs.Standing.{Course, Known, StandsAt, SureOf}
+use Rattle.bx_node_closings.proofs.Sends.{sends}
 use Rattle.bx_node_events.proofs.Homing.{apart_slot}
 use Rattle.bx_node_sends.proofs.Sent.{sent_at, surely_on, with_write}
 use Rattle.bx_node_recovers.proofs.Sending.{gates_sent, homes_sent, homes_touch, slot_touches, unclosed}
@@ -98,10 +103,10 @@ module _ {G O S T : Type 0} (g : register.Ghosts G) (o : owners.Ghosts O) (st : 
 
   module _ (handed : IsHanded) where
     -- A write into the slot, which leaves the logs standing.
-    pub slot_sent : ((d s : ℕ) (content : List ℕ) → WritesTo write d s content → IsOfSlot (st.made old).devices slot d s)
+    pub slot_sent_at : ((d s : ℕ) (content : List ℕ) → WritesTo write d s content → IsOfSlot (st.made old).devices slot d s)
         → LogsStand SureThen (st.made old).devices (st.made old).areas (last c.register.chain).sessions c.before c.logs c.slots c.truth
         → StandsAt g o st Stands Step register_is owners_are new x (record known { letters = letters }) (with_write c letters write) tree
-    slot_sent inside logs =
+    slot_sent_at inside logs =
         sent_at g o st Stands Step register_is owners_are old new x known c tree letters node session write at handed.up handed.own entitled.lives handed.whose handed.register_keeps handed.owners_keep handed.store_keeps handed.made handed.same_own
         handed.end handed.opened
         (λ d s content w. slot_touches (st.made old).devices (st.made old).areas (last c.register.chain) c.owners.holding c.logs c.slots gone session slot low entitled d s (inside d s content w))
@@ -109,10 +114,10 @@ module _ {G O S T : Type 0} (g : register.Ghosts G) (o : owners.Ghosts O) (st : 
         logs
 
     -- The gates, written back as they were read.
-    pub gates_back : (gates : List ℕ) → length gates ≡ 4096 → write.runs ≡ (one_run 18 (gate_place slot 0 (st.made old).devices) gates).1
+    pub gates_sent_at : (gates : List ℕ) → length gates ≡ 4096 → write.runs ≡ (one_run 18 (gate_place slot 0 (st.made old).devices) gates).1
         → ((gate : ℕ) (content : List ℕ) → gate < 8 → SureOf g o st Stands Step register_is owners_are old x known c (gate_place slot gate (st.made old).devices).0 (gate_place slot gate (st.made old).devices).1 content → sector_of gates gate ≡ content)
         → StandsAt g o st Stands Step register_is owners_are new x (record known { letters = letters }) (with_write c letters write) tree
-    gates_back gates long runs_are as_read = slot_sent inside
+    gates_sent_at gates long runs_are as_read = slot_sent_at inside
         (gates_sent (SureOf g o st Stands Step register_is owners_are old x known c) SureThen (st.made old).devices (st.made old).areas (last c.register.chain).sessions c.before c.logs c.slots c.truth slot low taken at.logs keeps)
       where
         brought : (d s : ℕ) (content : List ℕ) → WritesTo write d s content → Brings (st.made old).devices slot gates d s content
@@ -130,9 +135,9 @@ module _ {G O S T : Type 0} (g : register.Ghosts G) (o : owners.Ghosts O) (st : 
             sure
 
     -- The homes of the log's blocks.
-    pub homes_back : (runs : List Run) → write.runs ≡ runs → (c.slots slot).activity ≡ Found → AreItsHomes (st.made old).devices (st.made old).areas c.logs slot runs
+    pub homes_sent_at : (runs : List Run) → write.runs ≡ runs → (c.slots slot).activity ≡ Found → AreItsHomes (st.made old).devices (st.made old).areas c.logs slot runs
         → StandsAt g o st Stands Step register_is owners_are new x (record known { letters = letters }) (with_write c letters write) tree
-    homes_back runs runs_are rests its =
+    homes_sent_at runs runs_are rests its =
         sent_at g o st Stands Step register_is owners_are old new x known c tree letters node session write at handed.up handed.own entitled.lives handed.whose handed.register_keeps handed.owners_keep handed.store_keeps handed.made handed.same_own
         handed.end handed.opened
         (λ d s content w. homes_touch (st.made old).devices (st.made old).areas (last c.register.chain) c.owners.holding c.logs c.slots gone session slot low entitled runs its d s content (in_runs d s content w))
@@ -145,3 +150,32 @@ module _ {G O S T : Type 0} (g : register.Ghosts G) (o : owners.Ghosts O) (st : 
 
         row_low : (who : ℕ) (row : SessionRow) → row_in (last c.register.chain).sessions who ≡ Some row → row.slot < 8
         row_low who row is = (all_row (IsSession (last c.register.chain).term_end) (last c.register.chain).sessions who row allowed.each_session is).slot
+
+    -- The closing of gate 0, or of the others.
+    pub closing_sent_at : (work : Work) → (work ≡ works.Closes) ⊎ (work ≡ works.Shuts) → (c.slots slot).activity ≡ OfLog work → write.runs ≡ (writes (view_of (st.made old).devices slot (length (c.logs slot)) work) work).1
+        → StandsAt g o st Stands Step register_is owners_are new x (record known { letters = letters }) (with_write c letters write) tree
+    closing_sent_at work closing doing runs_are = slot_sent_at inside
+        (sends (SureOf g o st Stands Step register_is owners_are old x known c) SureThen (st.made old).devices (st.made old).areas (last c.register.chain).sessions c.before c.logs c.slots c.truth slot low taken at.logs
+        (λ d s content apart sure. surely_on g o st Stands Step register_is owners_are old new x known c tree letters node session write at goes d s content (λ other w. quiet d s other w apart) sure))
+      where
+        some : work ≢ works.Idle
+        some e = ⊎_elim (λ one. let wrong = sym one ∙ e in cc) (λ two. let wrong = sym two ∙ e in cc) closing
+
+        written_in : (d s : ℕ) (content : List ℕ) → WritesTo write d s content → is_written (view_of (st.made old).devices slot (length (c.logs slot)) work) d s ≡ true
+        written_in = its_sectors (view_of (st.made old).devices slot (length (c.logs slot)) work) write some runs_are
+
+        quiet : (d s : ℕ) (other : List ℕ) → WritesTo write d s other → writes_in (st.made old).devices slot (length (c.logs slot)) (c.slots slot).activity d s ≡ false → ⊥
+        quiet d s other w apart =
+            let is = written_in d s other w in
+            let is_not = sym (ap (λ (a : Activity). writes_in (st.made old).devices slot (length (c.logs slot)) a d s) doing) ∙ apart in
+            absurd (let wrong = sym is ∙ is_not in cc)
+
+        by : (work : Work) → (work ≡ works.Closes) ⊎ (work ≡ works.Shuts) → (d s : ℕ) → is_written (view_of (st.made old).devices slot (length (c.logs slot)) work) d s ≡ true → IsOfSlot (st.made old).devices slot d s
+        by works.Idle one d s is = absurd (⊎_elim (λ a. let wrong = a in cc) (λ b. let wrong = b in cc) one)
+        by (works.Body text point) one d s is = absurd (⊎_elim (λ a. let wrong = a in cc) (λ b. let wrong = b in cc) one)
+        by (works.Opens point) one d s is = absurd (⊎_elim (λ a. let wrong = a in cc) (λ b. let wrong = b in cc) one)
+        by works.Closes one d s is = let w = within_is (log_device slot (st.made old).devices) (log_start slot) 1 d s is in let from = w.begins in let to = w.ends in record { device = w.on; from = from; to = omega (arith, to) }
+        by works.Shuts one d s is = let w = within_is (log_device slot (st.made old).devices) (log_start slot + 1) 7 d s is in let from = w.begins in let to = w.ends in record { device = w.on; from = omega (arith, from); to = omega (arith, to) }
+
+        inside : (d s : ℕ) (content : List ℕ) → WritesTo write d s content → IsOfSlot (st.made old).devices slot d s
+        inside d s content w = by work closing d s (written_in d s content w)

@@ -1,5 +1,5 @@
 -- A recovery has written the gates back as it read them, and read the bodies: its records are the log, and the tree is as it was, or that after the record in doubt.
-use Rattle.std.proofs.Common.{◌≡◌, ◌≢◌, ◌⊎◌, inl, inr, ℕ, ◌+◌, ◌-◌, ◌<◌, ◌≤◌, Bool, true, false, List, ◌∷◌, Contains, length, reverse, refl, sym, ◌∙◌, ap, subst, arith}
+use Rattle.std.proofs.Common.{◌≡◌, ◌≢◌, inl, inr, ℕ, ◌+◌, ◌-◌, ◌<◌, ◌≤◌, Bool, true, false, List, Contains, length, reverse, refl, sym, ◌∙◌, ap, subst, arith}
 use Rattle.std.specs.Prelude.{if◌then◌else◌}
 use Rattle.bx_disk.specs.Disks.{Disks, Image, is_within, sector_of}
 use Rattle.bx_facts.specs.declared.register.Register as register
@@ -53,10 +53,10 @@ module _ {G O S T : Type 0} (g : register.Ghosts G) (o : owners.Ghosts O) (st : 
     (stage : Stage) (records : List Logged) (steps : List Step)
     (has : HasRun (recovery_of slot (st.made store_is).devices (st.made store_is).areas stage records) steps)
     (as_read : (gate : ℕ) (content : List ℕ) → gate < 8 → SureOf g o st Stands Step_is register_is owners_are store_is x known c (gate_place slot gate (st.made store_is).devices).0 (gate_place slot gate (st.made store_is).devices).1 content
-        → sector_of has.settled.gates gate ≡ content)
+    → sector_of has.settled.gates gate ≡ content)
     (sure : (gate : ℕ) → gate < 8 → SureOf g o st Stands Step_is register_is owners_are store_is x known c (gate_place slot gate (st.made store_is).devices).0 (gate_place slot gate (st.made store_is).devices).1 (sector_of has.settled.gates gate))
     (bodies : (body i : ℕ) (bytes content : List ℕ) → WasRead steps (reads_body (recovery_of slot (st.made store_is).devices (st.made store_is).areas stage records) body) bytes → i < 145
-        → SureOf g o st Stands Step_is register_is owners_are store_is x known c (body_place slot body (st.made store_is).devices).0 ((body_place slot body (st.made store_is).devices).1 + i) content → sector_of bytes i ≡ content) where
+    → SureOf g o st Stands Step_is register_is owners_are store_is x known c (body_place slot body (st.made store_is).devices).0 ((body_place slot body (st.made store_is).devices).1 + i) content → sector_of bytes i ≡ content) where
   abbrev pub now : Image
   now = with_gates (st.made store_is).devices slot c.before has.settled.gates
 

@@ -1,11 +1,9 @@
 -- Calls that come to a node, are attempted and answered there, and wait on.
-use Rattle.std.proofs.Common.{◌≡◌, ◌≢◌, ◌⊎◌, ◌∙◌, ⊎_elim, inl, inr, ℕ, zero, suc, ◌<◌, Bool, true, false, length, List, [], ◌∷◌, ◌++◌, Contains, Option, Some, None, IfSome, refl, sym, ap, subst, arith}
-use Rattle.std.specs.Prelude.{◌==◌, IsSomeAnd, option_map, option_to_list, slice_get}
-use Rattle.std.proofs.lemmas.Bool.Decides.{nat_tests}
+use Rattle.std.proofs.Common.{◌≡◌, ◌⊎◌, ◌∙◌, ⊎_elim, inl, inr, ℕ, ◌<◌, Bool, List, [], ◌∷◌, ◌++◌, Contains, Option, Some, None, IfSome, refl, sym, ap, subst, arith}
+use Rattle.std.specs.Prelude.{option_map, option_to_list, slice_get}
 use Rattle.std.proofs.lemmas.List.{append-nil}
 use Rattle.std.proofs.lemmas.List.Elements.{Contains-append_left, Contains-push, Contains-push_cases}
 use Rattle.bx_base.specs.declared.names.Actor.{Actor}
-use Rattle.bx_base.specs.declared.names.Actor.TheVariants.{Member, Node, Replica, Server}
 use Rattle.bx_facts.proofs.Lists.{nothing}
 use Rattle.bx_facts.specs.Writes.{Asked, Made, Sent}
 use Rattle.bx_node_steps.specs.Anew.{is_opening, left_over, waits_again}
@@ -31,7 +29,8 @@ use Rattle.bx_nodes.specs.Sending.{BeginsBy, StepsLog}
 use Rattle.bx_nodes.specs.Stopping.{Empties, HasNothing}
 use Rattle.bx_nodes.specs.declared.answers.Attempted.{Attempted}
 use Rattle.bx_global.specs.declared.state.GlobalState.{GlobalState}
-use Rattle.bx_nodes.proofs.Machines.{if_between, if_both, if_same, if_some, if_then, if_two, of_there, there_is, was_there}
+use Rattle.bx_nodes.proofs.Emptied.{emptied}
+use Rattle.bx_nodes.proofs.Machines.{if_between, if_both, if_same, if_some, if_then, if_two, of_there, was_there}
 use Rattle.bx_nodes.proofs.Turning.{steps_under, takes_under}
 use Rattle.bx_redo.specs.declared.work.Work.{Work}
 
@@ -186,35 +185,8 @@ none_wait devices areas machine has call waits = ⊎_elim
     (λ among. nothing among.one (subst (λ (l : List Waiting). Contains l among.one) has.calls among.there))
     (λ that. subst (λ (w : Option Waiting). IsThat w call) (ap call_written has.idle) that) waits
 
-number_of_node : (a b : ℕ) → Node a ≡ Node b → a ≡ b
-number_of_node a b e = cc
-
-some_less : (items : List Machine) (i : ℕ) (machine : Machine) → slice_get items i ≡ Some machine → i < length items
-some_less [] i machine is = absurd cc
-some_less (one ∷ items) zero machine is = omega arith
-some_less (one ∷ items) (suc i) machine is = let less = some_less items i machine is in omega (arith, less)
-
 pub empties_apart : (who : Actor) (old new : List Machine) → Empties who old new → (node : ℕ) → IfSome (slice_get old node) AreApart → IfSome (slice_get new node) AreApart
-empties_apart who old new empties node apart = by who refl
-  where
-    stays : who ≢ Node node → IfSome (slice_get new node) AreApart
-    stays ne = subst (λ (m : Option Machine). IfSome m AreApart) (sym (empties.others node ne)) apart
-
-    empty : who ≡ Node node → (was : Option Machine) → slice_get old node ≡ was → (is : Option Machine) → slice_get new node ≡ is → IfSome (slice_get new node) AreApart
-    empty same was before None now = subst (λ (m : Option Machine). IfSome m AreApart) (sym now) tt
-    empty same None before (Some b) now = let less = some_less new node b now in let count = empties.count in let there = there_is old node (omega (arith, less, count)) in absurd (let wrong : Some there.0 ≡ None = sym there.1 ∙ before in cc)
-    empty same (Some a) before (Some b) now = subst (λ (m : Option Machine). IfSome m AreApart) (sym now)
-        (none_apart a.cache.devices a.cache.areas b (subst (λ (m : Option Machine). IsSomeAnd m (HasNothing a.cache.devices a.cache.areas)) now (subst (λ (m : Option Machine). IfSome m (λ one. IsSomeAnd (slice_get new node) (HasNothing one.cache.devices one.cache.areas))) before (empties.empty node same))))
-
-    by : (it : Actor) → who ≡ it → IfSome (slice_get new node) AreApart
-    by (Replica n) is = stays (λ e. let wrong = sym is ∙ e in cc)
-    by (Server n) is = stays (λ e. let wrong = sym is ∙ e in cc)
-    by (Member n) is = stays (λ e. let wrong = sym is ∙ e in cc)
-    by (Node n) is = tested (n == node) refl
-      where
-        tested : (b : Bool) → (n == node) ≡ b → IfSome (slice_get new node) AreApart
-        tested true same = let e : n ≡ node = grind (arith, nat_tests, same) in empty (is ∙ ap Node e) (slice_get old node) refl (slice_get new node) refl
-        tested false differ = stays (λ e. let both : Node n ≡ Node node = sym is ∙ e in let f : n ≡ node = number_of_node n node both in grind (arith, nat_tests, differ, f))
+empties_apart who old new empties node = emptied who old new empties node AreApart AreApart (λ ne machine apart. apart) (λ same before after apart has. none_apart before.cache.devices before.cache.areas after has)
 
 -- ---- nodes in their list
 

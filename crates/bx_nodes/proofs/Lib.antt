@@ -3,6 +3,7 @@ pub mod Beginning
 pub mod Caches
 pub mod Calling
 pub mod Cleaning
+pub mod Emptied
 pub mod Ending
 pub mod Fewer
 pub mod Firsts

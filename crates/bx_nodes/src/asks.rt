@@ -61,6 +61,7 @@ impl<G: Register, O: Owners, S: Store, E: Engine> Nodes<G, O, S, E> {
         ensures only { OnOk result (OfBoth self.old self.new node OnlyHolds) }
         ensures parts { (self.new.register ≡ self.old.register) × (self.new.engine ≡ self.old.engine) × (S.made self.new.store ≡ S.made self.old.store) }
         ensures own { (other : ℕ) → (O.own self.new.owners other ≡ O.own self.old.owners other) × (O.end_of self.new.owners other ≡ O.end_of self.old.owners other) × (S.own self.new.store other ≡ S.own self.old.store other) × (S.out_of self.new.store other ≡ S.out_of self.old.store other) }
+        ensures nodes { O.nodes self.new.owners ≡ O.nodes self.old.owners }
         ensures elsewhere { (other : ℕ) → other ≢ node → S.asked self.new.store other ≡ S.asked self.old.store other }
         ensures others { OnlyMachine node self.old.machines.items self.new.machines.items }
         ensures count { length self.new.machines.items ≡ length self.old.machines.items }
@@ -100,6 +101,7 @@ impl<G: Register, O: Owners, S: Store, E: Engine> Nodes<G, O, S, E> {
         ensures only { OnOk result (OfBoth self.old self.new node OnlyHolds) }
         ensures parts { (self.new.register ≡ self.old.register) × (self.new.engine ≡ self.old.engine) × (S.made self.new.store ≡ S.made self.old.store) }
         ensures own { (other : ℕ) → (O.own self.new.owners other ≡ O.own self.old.owners other) × (O.end_of self.new.owners other ≡ O.end_of self.old.owners other) × (S.own self.new.store other ≡ S.own self.old.store other) × (S.out_of self.new.store other ≡ S.out_of self.old.store other) }
+        ensures nodes { O.nodes self.new.owners ≡ O.nodes self.old.owners }
         ensures elsewhere { (other : ℕ) → other ≢ node → S.asked self.new.store other ≡ S.asked self.old.store other }
         ensures others { OnlyMachine node self.old.machines.items self.new.machines.items }
         ensures count { length self.new.machines.items ≡ length self.old.machines.items }
@@ -135,6 +137,7 @@ impl<G: Register, O: Owners, S: Store, E: Engine> Nodes<G, O, S, E> {
         ensures only { OnOk result (OfBoth self.old self.new node OnlyHolds) }
         ensures parts { (self.new.register ≡ self.old.register) × (self.new.engine ≡ self.old.engine) × (S.made self.new.store ≡ S.made self.old.store) }
         ensures own { (other : ℕ) → (O.own self.new.owners other ≡ O.own self.old.owners other) × (O.end_of self.new.owners other ≡ O.end_of self.old.owners other) × (S.own self.new.store other ≡ S.own self.old.store other) × (S.out_of self.new.store other ≡ S.out_of self.old.store other) }
+        ensures nodes { O.nodes self.new.owners ≡ O.nodes self.old.owners }
         ensures elsewhere { (other : ℕ) → other ≢ node → S.asked self.new.store other ≡ S.asked self.old.store other }
         ensures others { OnlyMachine node self.old.machines.items self.new.machines.items }
         ensures count { length self.new.machines.items ≡ length self.old.machines.items }
@@ -164,6 +167,7 @@ impl<G: Register, O: Owners, S: Store, E: Engine> Nodes<G, O, S, E> {
         ensures ready { OnOk result (Ready S.Store E.Engine self.new node) }
         ensures parts { (self.new.register ≡ self.old.register) × (self.new.engine ≡ self.old.engine) × (self.new.store ≡ self.old.store) }
         ensures own { (other : ℕ) → (O.own self.new.owners other ≡ O.own self.old.owners other) × (O.end_of self.new.owners other ≡ O.end_of self.old.owners other) }
+        ensures nodes { O.nodes self.new.owners ≡ O.nodes self.old.owners }
         ensures others { OnlyMachine node self.old.machines.items self.new.machines.items }
         ensures count { length self.new.machines.items ≡ length self.old.machines.items }
     {

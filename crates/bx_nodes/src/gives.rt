@@ -62,6 +62,7 @@ impl<G: Register, O: Owners, S: Store, E: Engine> Nodes<G, O, S, E> {
         ensures only { OnOk result (OfBoth self.old self.new node OnlyHolds) }
         ensures parts { (self.new.register ≡ self.old.register) × (self.new.engine ≡ self.old.engine) × (self.new.store ≡ self.old.store) }
         ensures own { (other : ℕ) → (O.own self.new.owners other ≡ O.own self.old.owners other) × (O.end_of self.new.owners other ≡ O.end_of self.old.owners other) }
+        ensures nodes { O.nodes self.new.owners ≡ O.nodes self.old.owners }
         ensures others { OnlyMachine node self.old.machines.items self.new.machines.items }
         ensures count { length self.new.machines.items ≡ length self.old.machines.items }
     {
@@ -106,6 +107,7 @@ impl<G: Register, O: Owners, S: Store, E: Engine> Nodes<G, O, S, E> {
         ensures ready { OnOk result (Ready S.Store E.Engine self.new node) }
         ensures parts { (self.new.register ≡ self.old.register) × (self.new.engine ≡ self.old.engine) × (self.new.store ≡ self.old.store) }
         ensures own { (other : ℕ) → (O.own self.new.owners other ≡ O.own self.old.owners other) × (O.end_of self.new.owners other ≡ O.end_of self.old.owners other) }
+        ensures nodes { O.nodes self.new.owners ≡ O.nodes self.old.owners }
         ensures others { OnlyMachine node self.old.machines.items self.new.machines.items }
         ensures count { length self.new.machines.items ≡ length self.old.machines.items }
     {

@@ -11,7 +11,7 @@ ghost use Rattle.bx_facts.specs.Writes.{store_room};
 ghost use Rattle.bx_facts.specs.declared.input.FactError.TheVariants.{Disk as DiskFails};
 ghost use Rattle.bx_nodes.specs.Asks.{Later};
 ghost use Rattle.bx_node_steps.specs.Calls.{AreApart};
-ghost use Rattle.bx_nodes.specs.Standing.{OfNode, Stand, StandBut};
+ghost use Rattle.bx_nodes.specs.Standing.{BeReady, OfNode, Stand, StandBut};
 ghost use Rattle.bx_nodes.specs.Starting.{MayStart, Starts, with_boot, with_try};
 ghost use Rattle.bx_nodes.specs.Stopping.{Empties, IsDown, with_down};
 ghost use Rattle.bx_places.specs.Places.{replica_sectors};
@@ -40,6 +40,7 @@ impl<G: Register, O: Owners, S: Store, E: Engine> Nodes<G, O, S, E> {
             → Later (λ later. Stand G.Register O.Owners S.Store E.Engine self.new x letters (with_down clocks who) later tree) c }
         ensures empties { Empties who self.old.machines.items self.new.machines.items }
         ensures apart { (node : ℕ) → OfNode self.old node AreApart → OfNode self.new node AreApart }
+        ensures ready { (node : ℕ) → BeReady S.Store E.Engine self.old node → BeReady S.Store E.Engine self.new node }
         ensures down { IsDown G.Register S.Store self.new.register self.new.store who }
         ensures ended { (node : ℕ) → who ≡ Node node → (O.own self.new.owners node ≡ None) ⊎ (O.own self.new.owners node ≡ O.own self.old.owners node) }
         ensures own { (node : ℕ) → who ≢ Node node → (O.own self.new.owners node ≡ O.own self.old.owners node) × (O.end_of self.new.owners node ≡ O.end_of self.old.owners node) × (S.own self.new.store node ≡ S.own self.old.store node) }

@@ -52,6 +52,7 @@ impl<G: Register, O: Owners, S: Store, E: Engine> Nodes<G, O, S, E> {
         ensures offers { OnOk result (Offers (O.hands self.old.owners (G.knows self.new.register at) at input.now) (S.hands self.old.store (G.knows self.new.register at) at input.now) (λ one. (G.is_busy self.old.register at ⊎ G.is_busy self.new.register at) ⊎ (IsLegal (G.knows self.new.register at) one → ⊥))) }
         ensures steps { OnOk result (S.steps self.old.store (G.knows self.new.register at) at input.now self.new.store) }
         ensures ready { (node : ℕ) → BeReady S.Store E.Engine self.old node → OnOk result (BeReady S.Store E.Engine self.new node) }
+        ensures ready_stopped { (node : ℕ) → BeReady S.Store E.Engine self.old node → IsErrOf result DiskFails → BeReady S.Store E.Engine self.new node }
         ensures apart { (node : ℕ) → OfNode self.old node AreApart → OfNode self.new node AreApart }
         ensures machines { (IsErrOf result DiskFails → ⊥) → self.new.machines ≡ self.old.machines }
         ensures empties { IsErrOf result DiskFails → Empties at self.old.machines.items self.new.machines.items }

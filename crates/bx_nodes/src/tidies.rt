@@ -74,6 +74,7 @@ impl<G: Register, O: Owners, S: Store, E: Engine> Nodes<G, O, S, E> {
         ensures session { OnOk result (OfBoth self.old self.new node (λ old new. new.session ≡ old.session)) }
         ensures ready { OnOk result (Ready S.Store E.Engine self.new node) }
         ensures own { (other : ℕ) → (O.own self.new.owners other ≡ O.own self.old.owners other) × (O.end_of self.new.owners other ≡ O.end_of self.old.owners other) }
+        ensures nodes { O.nodes self.new.owners ≡ O.nodes self.old.owners }
         ensures elsewhere { OnlyStore S.Store node self.old.store self.new.store }
         ensures parts { (self.new.register ≡ self.old.register) × (self.new.engine ≡ self.old.engine) × (S.made self.new.store ≡ S.made self.old.store) }
         ensures others { OnlyMachine node self.old.machines.items self.new.machines.items }

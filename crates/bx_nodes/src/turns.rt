@@ -61,6 +61,7 @@ impl<G: Register, O: Owners, S: Store, E: Engine> Nodes<G, O, S, E> {
             → Stand G.Register O.Owners S.Store E.Engine self.old x (letters ++ out.old) clocks c tree → HasLease O.Owners S.Store self.old node reading lease
             → OnOk result (OfNode self.new node (IsHeldUp E.Engine self.new.engine (S.out_of self.new.store node) (Asking G.Register O.Owners self.new node))) }
         ensures own { (other : ℕ) → (O.own self.new.owners other ≡ O.own self.old.owners other) × (O.end_of self.new.owners other ≡ O.end_of self.old.owners other) }
+        ensures nodes { O.nodes self.new.owners ≡ O.nodes self.old.owners }
         ensures elsewhere { OnlyStore S.Store node self.old.store self.new.store }
         ensures ready { OnOk result (BeReady S.Store E.Engine self.new node) }
         ensures parts { (self.new.register ≡ self.old.register) × (self.new.engine ≡ self.old.engine) × (S.made self.new.store ≡ S.made self.old.store) }
@@ -92,6 +93,7 @@ impl<G: Register, O: Owners, S: Store, E: Engine> Nodes<G, O, S, E> {
             → Stand G.Register O.Owners S.Store E.Engine self.old x (letters ++ out.old) clocks c tree → HasLease O.Owners S.Store self.old node reading lease
             → OnOk result (OfNode self.new node (IsHeldUp E.Engine self.new.engine (S.out_of self.new.store node) (Asking G.Register O.Owners self.new node))) }
         ensures own { (other : ℕ) → (O.own self.new.owners other ≡ O.own self.old.owners other) × (O.end_of self.new.owners other ≡ O.end_of self.old.owners other) }
+        ensures nodes { O.nodes self.new.owners ≡ O.nodes self.old.owners }
         ensures elsewhere { OnlyStore S.Store node self.old.store self.new.store }
         ensures ready { OnOk result (BeReady S.Store E.Engine self.new node) }
         ensures parts { (self.new.register ≡ self.old.register) × (self.new.engine ≡ self.old.engine) × (S.made self.new.store ≡ S.made self.old.store) }
@@ -134,6 +136,7 @@ impl<G: Register, O: Owners, S: Store, E: Engine> Nodes<G, O, S, E> {
             → O.own self.old.owners node ≡ Some session → O.end_of self.old.owners node ≡ Some lease.until → LivesIn (last c.register.chain) session → IsUnder self.old node session
             → OnOk result (OfNode self.new node (IsHeldUp E.Engine self.new.engine (S.out_of self.new.store node) (Asking G.Register O.Owners self.new node))) }
         ensures own { (other : ℕ) → (O.own self.new.owners other ≡ O.own self.old.owners other) × (O.end_of self.new.owners other ≡ O.end_of self.old.owners other) }
+        ensures nodes { O.nodes self.new.owners ≡ O.nodes self.old.owners }
         ensures elsewhere { OnlyStore S.Store node self.old.store self.new.store }
         ensures ready { OnOk result (Ready S.Store E.Engine self.new node) }
         ensures parts { (self.new.register ≡ self.old.register) × (self.new.engine ≡ self.old.engine) × (S.made self.new.store ≡ S.made self.old.store) }
@@ -173,6 +176,7 @@ impl<G: Register, O: Owners, S: Store, E: Engine> Nodes<G, O, S, E> {
         ensures tidy { OnOk result (OfBoth self.old self.new node (λ old new. (new.tidy ≡ old.tidy) × (new.mark ≡ old.mark))) }
         ensures store { S.own self.new.store node ≡ S.own self.old.store node }
         ensures own { (other : ℕ) → (O.own self.new.owners other ≡ O.own self.old.owners other) × (O.end_of self.new.owners other ≡ O.end_of self.old.owners other) }
+        ensures nodes { O.nodes self.new.owners ≡ O.nodes self.old.owners }
         ensures elsewhere { OnlyStore S.Store node self.old.store self.new.store }
         ensures ready { OnOk result (Ready S.Store E.Engine self.new node) }
         ensures parts { (self.new.register ≡ self.old.register) × (self.new.engine ≡ self.old.engine) × (S.made self.new.store ≡ S.made self.old.store) }

@@ -1,9 +1,12 @@
-use Rattle.std.proofs.Common.{◌≡◌, sym, subst}
+use Rattle.std.proofs.Common.{◌≡◌, IfSome, sym, subst}
+use Rattle.std.specs.Prelude.{slice_get}
 use Rattle.bx_node_events.proofs.Registered.{HandedLaws}
 use Rattle.bx_node_events.proofs.Stopping.{OwnersStop, RegisterStops, StoreStops, but_for}
+use Rattle.bx_node_steps.specs.Ready.{WasReady}
 use Rattle.bx_node_steps.specs.Seen.{seen}
 use Rattle.bx_nodes.specs.Stopping.{with_down}
 use Rattle.bx_nodes.proofs.Calling.{empties_apart}
+use Rattle.bx_nodes.proofs.Emptied.{empties_ready}
 use Rattle.bx_nodes.proofs.Stopping.{all_stand, with_parts}
 use Rattle.bx_nodes.proofs.nodes.Nodes.crash.Goals as goal
 
@@ -65,3 +68,15 @@ returns-clause-holds g c = λ node block differ.
 
 pub returns-clause-apart : goal.returns-clause-apart
 returns-clause-apart g c = λ node apart. empties_apart c.args.who c.args.self.now.machines.items c.empty.new.self.machines.items c.empty.ensures.empties node apart
+
+pub returns-clause-ready : goal.returns-clause-ready
+returns-clause-ready g c = λ node ready.
+    let self = c.args.self.now in
+    let new = c.empty.new.self in
+    let parts = c.empty.ensures.parts in
+    let said = c.crash-3.ensures in
+    let here = empties_ready (g.S.Store.made self.store) (g.E.Engine.areas self.engine) c.args.who self.machines.items new.machines.items c.empty.ensures.empties node (g.S.Store.asked self.store node) (g.S.Store.asked c.crash-3.new.self node)
+    (λ differ. (said.others node differ).2) (λ same. (said.ended node same).2) ready in
+    subst (λ store. IfSome (slice_get new.machines.items node) (WasReady (g.S.Store.made store) (g.E.Engine.areas new.engine) (g.S.Store.asked store node))) (sym parts.2)
+    (subst (λ engine. IfSome (slice_get new.machines.items node) (WasReady (g.S.Store.made c.crash-3.new.self) (g.E.Engine.areas engine) (g.S.Store.asked c.crash-3.new.self node))) (sym parts.3)
+    (subst (λ made. IfSome (slice_get new.machines.items node) (WasReady made (g.E.Engine.areas self.engine) (g.S.Store.asked c.crash-3.new.self node))) (sym said.made) here))

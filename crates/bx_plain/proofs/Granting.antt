@@ -1,6 +1,7 @@
 -- Wants that are granted, and wants that wait.
-use Rattle.std.proofs.Common.{◌≡◌, ◌≢◌, ◌⊎◌, inl, inr, ⊎_elim, ℕ, zero, suc, ◌+◌, ◌<◌, ◌≤◌, Bool, true, false, List, [], ◌∷◌, length, Option, Some, None, refl, sym, ◌∙◌, ap, subst, arith, slice_get}
+use Rattle.std.proofs.Common.{◌≡◌, ◌≢◌, ◌⊎◌, inl, inr, ⊎_elim, ℕ, zero, suc, ◌+◌, ◌<◌, ◌≤◌, ◌==◌, Bool, true, false, List, [], ◌∷◌, length, Option, Some, None, refl, sym, ◌∙◌, ap, subst, arith, slice_get}
 use Rattle.std.specs.Prelude.{IfSome, IsSome, IsSomeAnd, if◌then◌else◌, nat_lt, not}
+use Rattle.std.proofs.lemmas.Bool.Decides.{nat_tests}
 use Rattle.bx_base.specs.declared.names.Mode.{Mode}
 use Rattle.bx_facts.specs.Holds.{Hold, Holds, hold_of}
 use Rattle.bx_plain.specs.declared.rows.Row.{Row}
@@ -138,38 +139,42 @@ left_before block a b session passes left = ⊎_elim
     (passes.each session block)
 
 -- who wants something has a row
-pub has_place : (rows : List Row) (session block : ℕ) (mode : Mode) → want_in rows session block ≡ Some mode → (place : ℕ) × (place < length rows) × (session_in rows place ≡ session)
+pub has_place : (rows : List Row) (session block : ℕ) (mode : Mode) → want_in rows session block ≡ Some mode → (place : ℕ) × (place < length rows) × (session_in rows block place ≡ Some session)
 has_place [] session block mode is = absurd cc
-has_place (row ∷ rows) session block mode is = (elim (is_row session block row) as (λ b. is_row session block row ≡ b → (place : ℕ) × (place < length (row ∷ rows)) × (session_in (row ∷ rows) place ≡ session)) [
-  | true ↦ λ t. (0, omega arith, (row_is session block row t).0)
+has_place (row ∷ rows) session block mode is = (elim (is_row session block row) as (λ b. is_row session block row ≡ b → (place : ℕ) × (place < length (row ∷ rows)) × (session_in (row ∷ rows) block place ≡ Some session)) [
+  | true ↦ λ t. (0, omega arith, first t)
   | false ↦ λ t. let found = has_place rows session block mode (let h = rw t at is in h) in (suc found.0, (let less = found.1 in omega (arith, less)), found.2)
 ]) refl
+  where
+    first : is_row session block row ≡ true → (if row.block == block then Some row.session else None) ≡ Some session
+    first t =
+        let keys = row_is session block row t in
+        let its : (row.block == block) ≡ true = let e = keys.1 in grind (arith, nat_tests, e) in
+        ap (λ b. if b then Some row.session else None) its ∙ ap Some keys.0
 
 -- rows keep their sessions in their places
-pub same_sessions : (block : ℕ) (rows new : List Row) (place : ℕ) → AlikeBut block rows new → place < length rows → session_in new place ≡ session_in rows place
+pub same_sessions : (block : ℕ) (rows new : List Row) (place : ℕ) → AlikeBut block rows new → place < length rows → session_in new block place ≡ session_in rows block place
 same_sessions block [] new place alike less = absurd (omega (arith, less))
 same_sessions block (row ∷ rows) [] place alike less = absurd alike
-same_sessions block (row ∷ rows) (other ∷ others) zero alike less = alike.0
+same_sessions block (row ∷ rows) (other ∷ others) zero alike less = ap (λ (n : ℕ). if n == block then Some other.session else None) alike.1 ∙ ap (λ (n : ℕ). if row.block == block then Some n else None) alike.0
 same_sessions block (row ∷ rows) (other ∷ others) (suc place) alike less = same_sessions block rows others place alike.3 (omega (arith, less))
 
 pub none_yet : (block : ℕ) (rows new : List Row) → NoneLeft block rows new 0
-none_yet block rows new = record { each = λ place less. absurd (omega (arith, less)) }
+none_yet block rows new = record { each = λ place session less. absurd (omega (arith, less)) }
 
-pub one_more : (block : ℕ) (rows mid new : List Row) (count session : ℕ) → NoneLeft block rows mid count → AlikeBut block rows mid → count < length rows → session ≡ session_in mid count → Passes block mid new → (IsLeft new session block → ⊥)
-    → NoneLeft block rows new (count + 1)
-one_more block rows mid new count session none alike less is passes here = record { each = λ place below left. by_place place below left (decide place count) }
+pub one_more : (block : ℕ) (rows mid new : List Row) (count : ℕ) → NoneLeft block rows mid count → AlikeBut block rows mid → count < length rows → Passes block mid new
+    → ((session : ℕ) → session_in mid block count ≡ Some session → IsLeft new session block → ⊥) → NoneLeft block rows new (count + 1)
+one_more block rows mid new count none alike less passes here = record { each = λ place session below its left. by_place place session below its left (decide place count) }
   where
-    by_place : (place : ℕ) → place < count + 1 → IsLeft new (session_in rows place) block → (place ≡ count) ⊎ (place ≢ count) → ⊥
-    by_place place below left (inl same) =
-        let its : session_in rows place ≡ session = ap (session_in rows) same ∙ sym (same_sessions block rows mid count alike less) ∙ sym is in
-        here (subst (λ (n : ℕ). IsLeft new n block) its left)
-    by_place place below left (inr apart) = none.each place (let ne = apart in omega (arith, below, ne)) (left_before block mid new (session_in rows place) passes left)
+    by_place : (place session : ℕ) → place < count + 1 → session_in rows block place ≡ Some session → IsLeft new session block → (place ≡ count) ⊎ (place ≢ count) → ⊥
+    by_place place session below its left (inl same) = here session (same_sessions block rows mid count alike less ∙ sym (ap (session_in rows block) same) ∙ its) left
+    by_place place session below its left (inr apart) = none.each place session (let ne = apart in omega (arith, below, ne)) its (left_before block mid new session passes left)
 
 pub all_places : (block : ℕ) (rows new : List Row) (count session : ℕ) → NoneLeft block rows new count → length rows ≤ count → Passes block rows new → IsLeft new session block → ⊥
 all_places block rows new count session none long passes left =
     let before = left_before block rows new session passes left in
     let found = has_place rows session block before.mode before.wanted in
-    none.each found.0 (let less = found.1 in omega (arith, less, long)) (subst (λ (n : ℕ). IsLeft new n block) (sym found.2) left)
+    none.each found.0 session (let less = found.1 in omega (arith, less, long)) found.2 left
 
 -- ---- a want is put
 
@@ -259,12 +264,12 @@ end_stays None = tt
 end_stays (Some end) = omega arith
 
 -- the session of a row that is there
-pub session_there : (rows : List Row) (place : ℕ) (row : Row) → slice_get rows place ≡ Some row → row.session ≡ session_in rows place
-session_there [] place row is = absurd cc
-session_there (one ∷ rows) zero row is = let same : one ≡ row = (let h = is in cc) in ap (λ (r : Row). r.session) (sym same)
-session_there (one ∷ rows) (suc place) row is = session_there rows place row is
+pub session_there : (rows : List Row) (block place : ℕ) (row : Row) → slice_get rows place ≡ Some row → (if row.block == block then Some row.session else None) ≡ session_in rows block place
+session_there [] block place row is = absurd cc
+session_there (one ∷ rows) block zero row is = let same : one ≡ row = (let h = is in cc) in ap (λ (r : Row). if r.block == block then Some r.session else None) (sym same)
+session_there (one ∷ rows) block (suc place) row is = session_there rows block place row is
 
-pub session_past : (rows : List Row) (place : ℕ) → slice_get rows place ≡ None → 0 ≡ session_in rows place
-session_past [] place is = refl
-session_past (one ∷ rows) zero is = absurd cc
-session_past (one ∷ rows) (suc place) is = session_past rows place is
+pub session_past : (rows : List Row) (block place : ℕ) → slice_get rows place ≡ None → None ≡ session_in rows block place
+session_past [] block place is = refl
+session_past (one ∷ rows) block zero is = absurd cc
+session_past (one ∷ rows) block (suc place) is = session_past rows block place is

@@ -86,8 +86,9 @@ impl PlainOwners {
         ensures nodes { self.new.nodes ≡ self.old.nodes }
     {
         for place in 0..self.rows.len() {
-            let session = session_at(&self.rows, place);
-            self.grant(session, block)?;
+            if let Some(session) = session_at(&self.rows, place, block) {
+                self.grant(session, block)?;
+            }
         }
         Ok(())
     }

@@ -1,6 +1,6 @@
 //! Who holds what.
 
-ghost use Rattle.std.specs.Prelude.{◌≡◌, ◌+◌, ◌<◌, ◌≤◌, ◌↔◌, List, [], ◌++◌, ◌∷◌, length, IsTrue, Option, Some, None, IsSome, OnOk, IfOk};
+ghost use Rattle.std.specs.Prelude.{◌≡◌, ◌+◌, ◌<◌, ◌≤◌, ◌↔◌, ◌==◌, if◌then◌else◌, List, [], ◌++◌, ◌∷◌, length, IsTrue, Option, Some, None, IsSome, OnOk, IfOk};
 ghost use Rattle.bx_base.specs.declared.names.Mode.TheVariants.{Shared, Exclusive};
 ghost use Rattle.bx_plain.specs.Grants.{session_in};
 ghost use Rattle.bx_plain.specs.Rows.{AllLet, floor_in, hold_in, place_in, row_in, want_in, with_row};
@@ -86,13 +86,23 @@ pub(crate) fn row_of(rows: &List<Row>, session: u64, block: u64) -> Row
     }
 }
 
-/// The session of the row at a place, counted from 0; 0 where there is none.
-pub(crate) fn session_at(rows: &List<Row>, place: usize) -> u64
-    ensures { result ≡ session_in rows.now place }
+/// A row's session, where it is of this block.
+fn session_of(row: &Row, block: u64) -> Option<u64>
+    ensures { result ≡ (if row.now.block == block then Some row.now.session else None) }
+{
+    if row.block == block {
+        return Some(row.session);
+    }
+    None
+}
+
+/// The session of the row at a place, counted from 0, where that is of this block.
+pub(crate) fn session_at(rows: &List<Row>, place: usize, block: u64) -> Option<u64>
+    ensures { result ≡ session_in rows.now block place }
 {
     match rows.get(place) {
-        Some(row) => row.session,
-        None => 0,
+        Some(row) => session_of(row, block),
+        None => None,
     }
 }
 

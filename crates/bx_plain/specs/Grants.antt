@@ -1,8 +1,8 @@
 -- Which wants are granted.
-use Rattle.std.specs.Prelude.{◌≡◌, ◌≢◌, ◌⊎◌, ◌<◌, ℕ, zero, suc, ◌==◌, if◌then◌else◌, List, [], ◌∷◌, Option, Some, None}
+use Rattle.std.specs.Prelude.{◌≡◌, ◌≢◌, ◌⊎◌, ◌<◌, ℕ, List, Some, None, slice_index}
 use Rattle.bx_base.specs.declared.names.Mode.{Mode}
 use Rattle.bx_plain.specs.declared.rows.Row.{Row}
-use Rattle.bx_plain.specs.Rows.{AllLet, floor_in, hold_in, want_in}
+use Rattle.bx_plain.specs.Rows.{AllLet, floor_in, hold_in, sessions_at, want_in}
 
 -- What a session holds and wants of a block is as it was.
 pub record IsAlike (old new : List Row) (session block : ℕ) : Type 0 where
@@ -47,12 +47,6 @@ pub record Passes (block : ℕ) (old new : List Row) : Type 0 where
   pub fewer : (other : ℕ) (mode : Mode) → AllLet other block mode new → AllLet other block mode old
   pub free : (other : ℕ) (mode : Mode) → want_in old other block ≡ Some mode → want_in new other block ≡ None → AllLet other block mode old
 
--- the session of the row at a place, where that is of this block
-abbrev pub session_in : List Row → ℕ → ℕ → Option ℕ
-session_in [] block place = None
-session_in (row ∷ rows) block zero = if row.block == block then Some row.session else None
-session_in (row ∷ rows) block (suc place) = session_in rows block place
-
--- no want of the block is left of the sessions that have rows of it in the first so many places
+-- no want of the block is left of the first so many sessions that have rows of it
 pub record NoneLeft (block : ℕ) (rows new : List Row) (count : ℕ) : Type 0 where
-  pub each : (place session : ℕ) → place < count → session_in rows block place ≡ Some session → IsLeft new session block → ⊥
+  pub each : (place : ℕ) → place < count → IsLeft new (slice_index (sessions_at block rows) place) block → ⊥

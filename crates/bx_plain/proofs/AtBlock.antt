@@ -4,6 +4,7 @@ use Rattle.std.proofs.lemmas.Bool.Decides.{nat_tests}
 use Rattle.bx_base.specs.declared.names.Mode.{Mode}
 use Rattle.bx_plain.specs.declared.rows.Row.{Row}
 use Rattle.bx_plain.specs.Rows.{AllLet, floor_in, is_row, row_in, rows_at}
+use Rattle.bx_plain.specs.Tables.{AreOf}
 use Rattle.bx_plain.proofs.Puts.{not_row}
 
 first_at : (block : ℕ) (row : Row) (rows : List Row) (b : Bool) → (row.block == block) ≡ b → rows_at block (row ∷ rows) ≡ (if b then row ∷ rows_at block rows else rows_at block rows)
@@ -11,6 +12,13 @@ first_at block row rows b is = ap (λ t. if t then row ∷ rows_at block rows el
 
 differs : (block : ℕ) (row : Row) → (row.block == block) ≡ false → row.block ≢ block
 differs block row other = λ e. grind (arith, nat_tests, e, other)
+
+pub own_at : (block : ℕ) (rows : List Row) → AreOf block (rows_at block rows)
+own_at block [] = tt
+own_at block (row ∷ rows) = (elim (row.block == block) as (λ b. (row.block == block) ≡ b → AreOf block (rows_at block (row ∷ rows))) [
+  | true ↦ λ its. let same : row.block ≡ block = grind (arith, nat_tests, its) in rw its (same, own_at block rows)
+  | false ↦ λ other. rw other (own_at block rows)
+]) refl
 
 pub row_at : (rows : List Row) (session block : ℕ) → row_in (rows_at block rows) session block ≡ row_in rows session block
 row_at [] session block = refl

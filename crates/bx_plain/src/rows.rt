@@ -1,9 +1,9 @@
 //! Who holds what of a block.
 
-ghost use Rattle.std.specs.Prelude.{◌≡◌, ◌≤◌, ◌<◌, ◌↔◌, IsTrue, OnErr, OnOk, length, slice_index};
+ghost use Rattle.std.specs.Prelude.{◌≡◌, ◌≤◌, OnErr, OnOk};
 ghost use Rattle.std.specs.List.{list_any};
 ghost use Rattle.bx_base.specs.declared.names.Mode.TheVariants.{Shared, Exclusive};
-ghost use Rattle.bx_plain.specs.Rows.{AllLet, floor_in, place_in, row_in, sessions_at, with_row};
+ghost use Rattle.bx_plain.specs.Rows.{place_in, with_row};
 ghost use Rattle.bx_plain.specs.Tables.{AreOf};
 
 use bx_base::{Mode, OutOfMemory};
@@ -37,53 +37,6 @@ fn place_of(rows: &[Row], session: u64, block: u64) -> Option<usize>
         }
     }
     None
-}
-
-/// Whether these rows let a session hold a block in this mode.
-pub(crate) fn all_let(rows: &[Row], session: u64, block: u64, mode: Mode) -> bool
-    ensures { IsTrue result ↔ AllLet session block mode rows.now }
-{
-    for row in rows {
-        if row.is_held && row.session != session && row.block == block {
-            if row.mode != Mode::Shared || mode != Mode::Shared {
-                return false;
-            }
-        }
-    }
-    true
-}
-
-/// The greatest index with which a block was given up by these rows.
-pub(crate) fn greatest_given(rows: &[Row], block: u64) -> u64
-    ensures { result ≡ floor_in rows.now block }
-{
-    let mut floor = 0;
-    for row in rows {
-        if row.block == block && floor < row.given {
-            floor = row.given;
-        }
-    }
-    floor
-}
-
-/// The row of a session and a block among these.
-pub(crate) fn find_row(rows: &[Row], session: u64, block: u64) -> Row
-    ensures { result ≡ row_in rows.now session block }
-{
-    for row in rows {
-        if row.session == session && row.block == block {
-            return *row;
-        }
-    }
-    Row {
-        session,
-        block,
-        mode: Mode::Shared,
-        index: 0,
-        is_held: false,
-        is_wanted: false,
-        given: 0,
-    }
 }
 
 /// Whether something is wanted by one of these rows.

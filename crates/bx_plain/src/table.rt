@@ -1,14 +1,14 @@
 //! The rows of all blocks.
 
-ghost use Rattle.std.specs.Prelude.{◌≡◌, ◌≢◌, ◌↔◌, ℕ, [], true, IsSome, IsTrue, OnErr, OnOk};
+ghost use Rattle.std.specs.Prelude.{◌≡◌, ◌≢◌, ◌↔◌, ℕ, [], false, true, IsSome, IsTrue, OnErr, OnOk};
 ghost use Rattle.std.specs.BTreeMap.{IsOrdered};
 ghost use Rattle.std.specs.BTreeSet.{IsOrdered as AreOrdered, contains};
 ghost use Rattle.std.specs.List.{list_any};
 ghost use Rattle.std.specs.Ordering.{nat_cmp};
 ghost use Rattle.bx_plain.specs.Rows.{AllLet, floor_in, hold_in, place_in, row_in, rows_at, sessions_at, want_in, with_row};
-ghost use Rattle.bx_plain.specs.Tables.{AreTheirs, Waits, flat, gather, kept_at, wanted};
+ghost use Rattle.bx_plain.specs.Tables.{AreOf, AreTheirs, Waits, flat, gather, kept_at, wanted};
 
-use crate::rows::{Row, all_let, any_wanted, find_row, greatest_given, put_among};
+use crate::rows::{Row, any_wanted, put_among};
 use bx_base::{Mode, OutOfMemory};
 use std::alloc::Global;
 use std::collections::{BTreeMap, BTreeSet};
@@ -21,7 +21,7 @@ type Blocks = BTreeMap<u64, Vec<Row>>;
 #[derive(Drop)]
 pub struct Table {
     alloc: Global,
-    blocks: BTreeMap<u64, Vec<Row>>,
+    blocks: Blocks,
     /// The blocks of which something is wanted, and maybe some of which nothing is.
     waiting: BTreeSet<u64>,
 }
@@ -52,7 +52,8 @@ impl Table {
 
     /// The rows of a block.
     pub(crate) fn at(&self, block: u64) -> &[Row]
-        ensures { result.now ≡ rows_at block self.now }
+        ensures rows { result.now ≡ rows_at block self.now }
+        ensures own { AreOf block result.now }
     {
         rows_of(&self.blocks, block)
     }
@@ -123,6 +124,7 @@ fn put_row(alloc: Global, blocks: &mut Blocks, row: Row) -> Result<(), OutOfMemo
 /// Lets a block wait no more of which nothing is wanted.
 fn settle(waiting: &mut BTreeSet<u64>, rows: &[Row], block: u64)
     ensures stays { list_any (λ row. row.is_wanted) rows.now ≡ true → waiting.new ≡ waiting.old }
+    ensures gone { list_any (λ row. row.is_wanted) rows.now ≡ false → contains nat_cmp waiting.new block ≡ false }
     ensures others { (other : ℕ) → other ≢ block → contains nat_cmp waiting.new other ≡ contains nat_cmp waiting.old other }
     ensures ordered { AreOrdered nat_cmp waiting.old → AreOrdered nat_cmp waiting.new }
 {
@@ -136,21 +138,47 @@ fn settle(waiting: &mut BTreeSet<u64>, rows: &[Row], block: u64)
 pub(crate) fn is_free(rows: &Table, session: u64, block: u64, mode: Mode) -> bool
     ensures { IsTrue result ↔ AllLet session block mode rows.now }
 {
-    all_let(rows.at(block), session, block, mode)
+    for row in rows.at(block) {
+        if row.is_held && row.session != session {
+            if row.mode != Mode::Shared || mode != Mode::Shared {
+                return false;
+            }
+        }
+    }
+    true
 }
 
 /// The greatest index with which the block was given up.
 pub(crate) fn floor_of(rows: &Table, block: u64) -> u64
     ensures { result ≡ floor_in rows.now block }
 {
-    greatest_given(rows.at(block), block)
+    let mut floor = 0;
+    for row in rows.at(block) {
+        if floor < row.given {
+            floor = row.given;
+        }
+    }
+    floor
 }
 
 /// The row of a session and a block.
 pub(crate) fn row_of(rows: &Table, session: u64, block: u64) -> Row
     ensures { result ≡ row_in rows.now session block }
 {
-    find_row(rows.at(block), session, block)
+    for row in rows.at(block) {
+        if row.session == session {
+            return *row;
+        }
+    }
+    Row {
+        session,
+        block,
+        mode: Mode::Shared,
+        index: 0,
+        is_held: false,
+        is_wanted: false,
+        given: 0,
+    }
 }
 
 /// How a session holds a block.

@@ -4,5 +4,5 @@ use Rattle.bx_plain.specs.Rows.{row_in}
 use Rattle.bx_plain.proofs.AtBlock.{row_at}
 use Rattle.bx_plain.proofs.table.row_of.Goals as goal
 
-pub returns : goal.returns
-returns c = c.find_row.ensures ∙ ap (λ (rows : List Row). row_in rows c.args.session c.args.block) c.at.ensures ∙ row_at c.args.rows.now c.args.session c.args.block
+pub loop-row-init : goal.loop-row-init
+loop-row-init c = (c.at-row-items.ensures.own, ap (λ (rows : List Row). row_in rows c.args.session c.args.block) c.at-row-items.ensures.rows ∙ row_at c.args.rows.now c.args.session c.args.block)

@@ -1,4 +1,4 @@
-use Rattle.std.proofs.Common.{◌≡◌, ℕ,  ◌⊎◌, inl, inr, ⊎_elim, ◌∙◌, Option, None, refl, sym, ap, arith, List, length}
+use Rattle.std.proofs.Common.{◌≡◌, ℕ, ◌⊎◌, inl, inr, ⊎_elim, ◌∙◌, Option, None, refl, sym, ap, arith, List, length}
 use Rattle.std.specs.Prelude.{map, slice_index}
 use Rattle.bx_plain.specs.declared.rows.Row.{Row}
 use Rattle.bx_base.specs.declared.names.Mode.{Mode}
@@ -23,13 +23,13 @@ loop-place-preserved c = (
   c.in_ok-grant.ensures.alike ∙ c.loop-place.invariant.5,
   c.grant.ensures.nodes ∙ c.loop-place.invariant.6,
   passes_then c.args.block c.args.self.now.rows c.loop-place.self.rows c.grant.new.self.rows c.loop-place.invariant.7 c.in_ok-grant.ensures.passes,
-  one_more c.args.block c.args.self.now.rows c.loop-place.self.rows c.grant.new.self.rows c.loop-place.place _ c.loop-place.invariant.8 
-      (session_there c.at.result.now c.loop-place.place _ refl ∙ ap (λ (rows : List Row). slice_index (map (λ (row : Row). row.session) rows) c.loop-place.place) c.at.ensures ∙ ap (λ (sessions : List ℕ). slice_index sessions c.loop-place.place) c.loop-place.invariant.9)
-       c.in_ok-grant.ensures.passes c.in_ok-grant.ensures.none_left,
+  one_more c.args.block c.args.self.now.rows c.loop-place.self.rows c.grant.new.self.rows c.loop-place.place _ c.loop-place.invariant.8
+      (session_there c.at.result.now c.loop-place.place _ refl ∙ ap (λ (rows : List Row). slice_index (map (λ (row : Row). row.session) rows) c.loop-place.place) c.at.ensures.rows ∙ ap (λ (sessions : List ℕ). slice_index sessions c.loop-place.place) c.loop-place.invariant.9)
+      c.in_ok-grant.ensures.passes c.in_ok-grant.ensures.none_left,
   c.in_ok-grant.ensures.sessions ∙ c.loop-place.invariant.9,
 )
 
 pub returns-clause-none_left : goal.returns-clause-none_left
 returns-clause-none_left c = λ other left.
-    let all : length (sessions_at c.args.block c.args.self.now.rows) ≡ length c.at-place-end.result.now = how_many (rows_at c.args.block c.args.self.now.rows) ∙ ap (λ (rows : List Row). length rows) (sym c.at-place-end.ensures) in
+    let all : length (sessions_at c.args.block c.args.self.now.rows) ≡ length c.at-place-end.result.now = how_many (rows_at c.args.block c.args.self.now.rows) ∙ ap (λ (rows : List Row). length rows) (sym c.at-place-end.ensures.rows) in
     all_places c.args.block c.args.self.now.rows c.loop-place.self.rows c.loop-place.place other c.loop-place.invariant.8 (omega (arith, all, c.loop-place-test.false)) c.loop-place.invariant.7 left

@@ -28,6 +28,10 @@ first_none : (asked rest : List (ℕ × ℕ)) → first_of asked ≡ None → fi
 first_none [] rest none = refl
 first_none (one ∷ others) rest none = absurd cc
 
+first_some : (asked rest : List (ℕ × ℕ)) (one : ℕ × ℕ) → first_of asked ≡ Some one → first_of (asked ++ rest) ≡ Some one
+first_some [] rest one is = absurd cc
+first_some (other ∷ others) rest one is = is
+
 pub asks_later : (held : ℕ → Option Hold) (session : ℕ) (rows : List Row) (node nodes : ℕ) → node < nodes → first_of (asked_of held session (node + 1) rows) ≡ None
     → first_of (asks_from held session rows (node + 1 + 1) (nodes - (node + 1))) ≡ first_of (asks_from held session rows (node + 1) (nodes - node))
 asks_later held session rows node nodes less none =

@@ -18,6 +18,7 @@ use Rattle.bx_node_steps.specs.declared.machine.Stage.{Stage}
 use Rattle.bx_node_steps.specs.declared.machine.Stage.TheVariants as stages
 use Rattle.bx_node_steps.specs.declared.machine.Tidy.{Tidy}
 use Rattle.bx_node_tries.specs.Tries.{AreNeeded}
+use Rattle.bx_node_tries.specs.declared.round.Said.{Said}
 use Rattle.bx_node_tries.specs.declared.round.Waiting.{Waiting}
 use Rattle.bx_nodes.proofs.Calling.{AnswersWell}
 use Rattle.bx_nodes.proofs.Machines.{if_between, if_both, if_some, of_there, was_there}
@@ -110,7 +111,7 @@ tidy_works e engine_is area moment machine draft attempt is gives truth tree hol
 
 -- ---- what waits where it asks for blocks
 
-module _ {O E T : Type 0} (o : owners.Ghosts O) (e : engine.Ghosts E T) (engine_is : E) (node moment session : ℕ) (before between after : O) (out : Option Sent) (IsAsked IsAsked_then : ℕ → Type 0) (on : (at : ℕ) → IsAsked at → IsAsked_then at) (first : Machine) where
+module _ {O E T : Type 0} (o : owners.Ghosts O) (e : engine.Ghosts E T) (engine_is : E) (node moment session : ℕ) (said : List Said) (before between after : O) (out : Option Sent) (IsAsked IsAsked_then : ℕ → Type 0) (on : (at : ℕ) → IsAsked at → IsAsked_then at) (first : Machine) where
   more_causes : (middle : Machine) (newest : Option ℕ) (needs : List (List (ℕ × Mode))) (wants : List (ℕ × Mode)) (call : Waiting) → HasCause e engine_is middle moment out newest needs call → HasCause e engine_is middle moment out newest (wants ∷ needs) call
   more_causes middle newest needs wants call (Over is) = Over is
   more_causes middle newest needs wants call (Writes some) = Writes some
@@ -125,7 +126,7 @@ module _ {O E T : Type 0} (o : owners.Ghosts O) (e : engine.Ghosts E T) (engine_
   pub wanted_waits : (wants : List (ℕ × Mode)) (a b : Machine) (tidy : Tidy) → first.tidy ≡ Some tidy → OnlyHolds a b → KeepsUnwanted wants a b
       → IsFairNeed (e.areas engine_is) (held_in a.cache.kept) (e.tidy_path engine_is (area_of (e.areas engine_is) tidy) (held_in a.cache.kept) (hint_in a.cache.hinted)) wants
       → AreWanted o node (λ at mode. Contains wants (at, mode)) between after → AllByRecursion (λ wanted. IsAsked_then wanted.0) wants
-      → Waits o e engine_is node moment session before between out IsAsked first a → Waits o e engine_is node moment session before after out IsAsked_then first b
+      → Waits o e engine_is node moment session said before between out IsAsked first a → Waits o e engine_is node moment session said before after out IsAsked_then first b
   wanted_waits wants a b tidy is only keeps fair wanted asks waits =
       let calls : b.calls.items ≡ a.calls.items = ap (λ (m : Machine). m.calls.items) only in
       let needs = wants ∷ waits.needs in
@@ -135,6 +136,7 @@ module _ {O E T : Type 0} (o : owners.Ghosts O) (e : engine.Ghosts E T) (engine_
         back = waits.back;
         given = waits.given;
         calls = waits.calls;
+        answered = waits.answered;
         newest = waits.newest;
         noted = waits.noted;
         needs = needs;
@@ -153,14 +155,15 @@ module _ {O E T : Type 0} (o : owners.Ghosts O) (e : engine.Ghosts E T) (engine_
       }
 
 -- .. and where its record begins
-pub sent_waits : {O E T : Type 0} (o : owners.Ghosts O) (e : engine.Ghosts E T) (engine_is : E) (node moment session : ℕ) (before after : O) (out out_then : Option Sent) (IsAsked IsAsked_then : ℕ → Type 0) (first a b : Machine) → IsSome out_then → b.calls.items ≡ a.calls.items → b.cache ≡ a.cache
-    → Waits o e engine_is node moment session before after out IsAsked first a → Waits o e engine_is node moment session before after out_then IsAsked_then first b
-sent_waits o e engine_is node moment session before after out out_then IsAsked IsAsked_then first a b some calls cache waits = record {
+pub sent_waits : {O E T : Type 0} (o : owners.Ghosts O) (e : engine.Ghosts E T) (engine_is : E) (node moment session : ℕ) (said : List Said) (before after : O) (out out_then : Option Sent) (IsAsked IsAsked_then : ℕ → Type 0) (first a b : Machine) → IsSome out_then → b.calls.items ≡ a.calls.items → b.cache ≡ a.cache
+    → Waits o e engine_is node moment session said before after out IsAsked first a → Waits o e engine_is node moment session said before after out_then IsAsked_then first b
+sent_waits o e engine_is node moment session said before after out out_then IsAsked IsAsked_then first a b some calls cache waits = record {
   middle = waits.middle;
   between = waits.between;
   back = waits.back;
   given = waits.given;
   calls = waits.calls;
+  answered = waits.answered;
   newest = waits.newest;
   noted = waits.noted;
   needs = waits.needs;

@@ -18,6 +18,7 @@ use Rattle.bx_node_steps.specs.declared.machine.Machine.{Machine}
 use Rattle.bx_node_steps.specs.declared.machine.Mark.{Mark}
 use Rattle.bx_node_steps.specs.declared.machine.Tidy.{Tidy}
 use Rattle.bx_node_tries.specs.Tries.{AreNeeded}
+use Rattle.bx_node_tries.specs.declared.round.Said.{Said}
 use Rattle.bx_node_tries.specs.declared.round.Waiting.{Waiting}
 use Rattle.bx_nodes.specs.Asks.{IsAsking}
 use Rattle.bx_nodes.specs.Standing.{Asking, HasLease, Stand}
@@ -68,15 +69,16 @@ needed_as e engine_is needs first middle moment a b calls cache needed =
     (λ of_tidy. inr (record { before = of_tidy.before; tidy = of_tidy.tidy; is = of_tidy.is; fair = of_tidy.fair; keeps = λ at. subst (λ k. (kept_in k.kept at ≡ kept_in of_tidy.before.cache.kept at) ⊎ ((some : List (ℕ × Mode)) × Contains needs some × ((mode : Mode) × Contains some (at, mode)))) (sym cache) (of_tidy.keeps at) })) need) needs needed
 
 -- what it waits for, where the same is asked for
-module _ {O E T : Type 0} (o : owners.Ghosts O) (e : engine.Ghosts E T) (engine_is : E) (node moment session : ℕ) (before after : O) (out : Option Sent) (IsAsked IsAsked_then : ℕ → Type 0) (on : (at : ℕ) → IsAsked at → IsAsked_then at) (first : Machine) where
-  pub waits_as : (machine : Machine) (mark : Option Mark) (ticks : ℕ) (tidy : Option Tidy) → Waits o e engine_is node moment session before after out IsAsked first machine
-      → Waits o e engine_is node moment session before after out IsAsked_then first (record machine { mark = mark; ticks = ticks; tidy = tidy })
+module _ {O E T : Type 0} (o : owners.Ghosts O) (e : engine.Ghosts E T) (engine_is : E) (node moment session : ℕ) (said : List Said) (before after : O) (out : Option Sent) (IsAsked IsAsked_then : ℕ → Type 0) (on : (at : ℕ) → IsAsked at → IsAsked_then at) (first : Machine) where
+  pub waits_as : (machine : Machine) (mark : Option Mark) (ticks : ℕ) (tidy : Option Tidy) → Waits o e engine_is node moment session said before after out IsAsked first machine
+      → Waits o e engine_is node moment session said before after out IsAsked_then first (record machine { mark = mark; ticks = ticks; tidy = tidy })
   waits_as machine mark ticks tidy stood = record {
     middle = stood.middle;
     between = stood.between;
     back = stood.back;
     given = stood.given;
     calls = stood.calls;
+    answered = stood.answered;
     newest = stood.newest;
     noted = stood.noted;
     needs = stood.needs;
@@ -89,11 +91,11 @@ module _ {O E T : Type 0} (o : owners.Ghosts O) (e : engine.Ghosts E T) (engine_
   }
 
 -- and so how a turn leaves it
-pub ends_as : {O E T : Type 0} (o : owners.Ghosts O) (e : engine.Ghosts E T) (engine_is : E) (node moment session : ℕ) (answer : Option (List ℕ)) (asked : Option Asked) (before after : O) (out : Option Sent) (IsAsked IsAsked_then : ℕ → Type 0) → ((at : ℕ) → IsAsked at → IsAsked_then at)
-    → (old machine : Machine) (mark : Option Mark) → TurnEnds o e engine_is node moment session answer asked before after out IsAsked old machine → TurnEnds o e engine_is node moment session answer asked before after out IsAsked_then old (record machine { mark = mark })
-ends_as o e engine_is node moment session answer asked before after out IsAsked IsAsked_then on old machine mark (Writing some same) = Writing some same
-ends_as o e engine_is node moment session answer asked before after out IsAsked IsAsked_then on old machine mark (Worked first comes waits) =
-    Worked first comes (waits_as o e engine_is node moment session before after out IsAsked IsAsked_then on first machine mark machine.ticks machine.tidy waits)
+pub ends_as : {O E T : Type 0} (o : owners.Ghosts O) (e : engine.Ghosts E T) (engine_is : E) (node moment session : ℕ) (answer : Option (List ℕ)) (asked : Option Asked) (said : List Said) (before after : O) (out : Option Sent) (IsAsked IsAsked_then : ℕ → Type 0) → ((at : ℕ) → IsAsked at → IsAsked_then at)
+    → (old machine : Machine) (mark : Option Mark) → TurnEnds o e engine_is node moment session answer asked said before after out IsAsked old machine → TurnEnds o e engine_is node moment session answer asked said before after out IsAsked_then old (record machine { mark = mark })
+ends_as o e engine_is node moment session answer asked said before after out IsAsked IsAsked_then on old machine mark (Writing some same) = Writing some same
+ends_as o e engine_is node moment session answer asked said before after out IsAsked IsAsked_then on old machine mark (Worked first comes waits) =
+    Worked first comes (waits_as o e engine_is node moment session said before after out IsAsked IsAsked_then on first machine mark machine.ticks machine.tidy waits)
 
 -- ---- nodes
 
@@ -132,12 +134,12 @@ module _ {G O S E T : Type 0} (g : register.Ghosts G) (o : owners.Ghosts O) (st 
         (subst (λ en. WasReady (st.made new.store) (e.areas en) (st.asked new.store node) (record machine { mark = mark; ticks = ticks; tidy = tidy })) (sym same.3)
         (subst (λ s. WasReady (st.made s) (e.areas old.engine) (st.asked s node) (record machine { mark = mark; ticks = ticks; tidy = tidy })) (sym same.2) marked))
 
-    pub waits_noted : (moment session : ℕ) (owners_before : O) (first : Machine) → IfSome (slice_get old.machines.items node) (Waits o e old.engine node moment session owners_before old.owners (st.out_of old.store node) (Asking g o old node) first)
-        → IfSome (slice_get new.machines.items node) (Waits o e new.engine node moment session owners_before new.owners (st.out_of new.store node) (Asking g o new node) first)
-    waits_noted moment session owners_before first waits =
-        let stood = subst (λ (m : Option Machine). IfSome m (Waits o e old.engine node moment session owners_before old.owners (st.out_of old.store node) (Asking g o old node) first)) was waits in
-        let marked = waits_as o e old.engine node moment session owners_before old.owners (st.out_of old.store node) (Asking g o old node) (Asking g o new node) asking_noted first machine mark ticks tidy stood in
-        subst (λ (m : Option Machine). IfSome m (Waits o e new.engine node moment session owners_before new.owners (st.out_of new.store node) (Asking g o new node) first)) (sym is)
-        (subst (λ en. Waits o e en node moment session owners_before new.owners (st.out_of new.store node) (Asking g o new node) first (record machine { mark = mark; ticks = ticks; tidy = tidy })) (sym same.3)
-        (subst (λ s. Waits o e old.engine node moment session owners_before new.owners (st.out_of s node) (Asking g o new node) first (record machine { mark = mark; ticks = ticks; tidy = tidy })) (sym same.2)
-        (subst (λ w. Waits o e old.engine node moment session owners_before w (st.out_of old.store node) (Asking g o new node) first (record machine { mark = mark; ticks = ticks; tidy = tidy })) (sym same.1) marked)))
+    pub waits_noted : (moment session : ℕ) (said : List Said) (owners_before : O) (first : Machine) → IfSome (slice_get old.machines.items node) (Waits o e old.engine node moment session said owners_before old.owners (st.out_of old.store node) (Asking g o old node) first)
+        → IfSome (slice_get new.machines.items node) (Waits o e new.engine node moment session said owners_before new.owners (st.out_of new.store node) (Asking g o new node) first)
+    waits_noted moment session said owners_before first waits =
+        let stood = subst (λ (m : Option Machine). IfSome m (Waits o e old.engine node moment session said owners_before old.owners (st.out_of old.store node) (Asking g o old node) first)) was waits in
+        let marked = waits_as o e old.engine node moment session said owners_before old.owners (st.out_of old.store node) (Asking g o old node) (Asking g o new node) asking_noted first machine mark ticks tidy stood in
+        subst (λ (m : Option Machine). IfSome m (Waits o e new.engine node moment session said owners_before new.owners (st.out_of new.store node) (Asking g o new node) first)) (sym is)
+        (subst (λ en. Waits o e en node moment session said owners_before new.owners (st.out_of new.store node) (Asking g o new node) first (record machine { mark = mark; ticks = ticks; tidy = tidy })) (sym same.3)
+        (subst (λ s. Waits o e old.engine node moment session said owners_before new.owners (st.out_of s node) (Asking g o new node) first (record machine { mark = mark; ticks = ticks; tidy = tidy })) (sym same.2)
+        (subst (λ w. Waits o e old.engine node moment session said owners_before w (st.out_of old.store node) (Asking g o new node) first (record machine { mark = mark; ticks = ticks; tidy = tidy })) (sym same.1) marked)))

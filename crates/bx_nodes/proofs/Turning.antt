@@ -4,12 +4,13 @@ use Rattle.std.specs.List.{AllByRecursion}
 use Rattle.std.specs.Prelude.{IsSomeAnd}
 use Rattle.std.proofs.lemmas.Bool.Decides.{nat_tests}
 use Rattle.std.proofs.lemmas.List.{append_assoc, append-nil, length-append}
-use Rattle.std.proofs.lemmas.List.Elements.{All-contains_itself, All-nil, All-weaker, Contains-append_left, Contains-push, Contains-push_cases, recursion_from_All}
+use Rattle.std.proofs.lemmas.List.Elements.{All-contains_itself, All-nil, All-weaker, Contains-append_left, Contains-append_right, Contains-push, Contains-push_cases, recursion_from_All}
 use Rattle.bx_base.specs.declared.names.Mode.{Mode}
 use Rattle.bx_facts.proofs.Lists.{nothing}
 use Rattle.bx_facts.specs.Holds.{first_of}
 use Rattle.bx_facts.specs.Writes.{Asked, Sent}
 use Rattle.bx_node_cache.specs.Kept.{held_in, hint_in, kept_in}
+use Rattle.bx_node_steps.specs.Calls.{IsAnswered}
 use Rattle.bx_node_steps.specs.Changing.{TakesAnswer}
 use Rattle.bx_node_steps.specs.Logging.{Closed, LogGoes, Rests, SendsClosing, SendsGate, SendsHomes, SendsShut}
 use Rattle.bx_node_steps.specs.declared.machine.Stage.{Stage}
@@ -106,11 +107,41 @@ settled_all moment calls old new (MoreGo before one first middle last all goes) 
     by earlier (Answered answer is said waits begun needs) = absurd (let e = ap (λ (l : List Said). length l) (sym said ∙ none_said) in let n = length-append middle.said.items (answer ∷ []) in omega (arith, e, n))
     by earlier (Begins none begun said waits needs) = absurd (subst (λ b. IsSomeAnd b (λ begins. begins.call ≡ one)) none_begun begun)
 
+-- Where none begins a record, each waits on or is answered.
+settled_each : (moment : ℕ) (calls : List Waiting) (old new : Round) → AllGo moment calls old new → new.begun ≡ None → (call : Waiting) → Contains calls call → Contains new.waiting.items call ⊎ IsAnswered new.said.items call.number
+settled_each moment calls old new (NoneGo round) none_begun call has = absurd (nothing call has)
+settled_each moment calls old new (MoreGo before one first middle last all goes) none_begun call has = by (λ begun before_it. settled_each moment before first middle all begun call before_it) goes
+  where
+    Earlier : Type 0
+    Earlier = middle.begun ≡ None → Contains before call → Contains middle.waiting.items call ⊎ IsAnswered middle.said.items call.number
+
+    on : Earlier → last.waiting.items ≡ middle.waiting.items ++ one ∷ [] → last.said.items ≡ middle.said.items → last.begun ≡ middle.begun → Contains last.waiting.items call ⊎ IsAnswered last.said.items call.number
+    on earlier waits said begun = ⊎_elim
+        (λ older. ⊎_elim (λ waiting. inl (subst (λ (l : List Waiting). Contains l call) (sym waits) (Contains-append_left middle.waiting.items (one ∷ []) call waiting)))
+        (λ answered. inr (subst (λ (l : List Said). IsAnswered l call.number) (sym said) answered)) (earlier (sym begun ∙ none_begun) older))
+        (λ is. inl (subst (λ (l : List Waiting). Contains l call) (sym waits) (subst (Contains (middle.waiting.items ++ one ∷ [])) is (Contains-push middle.waiting.items one))))
+        (Contains-push_cases before one call has)
+
+    by : Earlier → Goes moment one middle last → Contains last.waiting.items call ⊎ IsAnswered last.said.items call.number
+    by earlier (Stays waits said begun needs) = on earlier waits said begun
+    by earlier (Needing wants waits said begun needs) = on earlier waits said begun
+    by earlier (Answered answer is said waits begun needs) = ⊎_elim
+        (λ older. ⊎_elim (λ waiting. inl (subst (λ (l : List Waiting). Contains l call) (sym waits) waiting))
+        (λ answered. inr (record { one = answered.one; there = subst (λ (l : List Said). Contains l answered.one) (sym said) (Contains-append_left middle.said.items (answer ∷ []) answered.one answered.there); same = answered.same }))
+        (earlier (sym begun ∙ none_begun) older))
+        (λ same. inr (record { one = answer; there = subst (λ (l : List Said). Contains l answer) (sym said) (Contains-push middle.said.items answer); same = is.number ∙ ap (λ (w : Waiting). w.number) same }))
+        (Contains-push_cases before one call has)
+    by earlier (Begins none begun said waits needs) = absurd (subst (λ b. IsSomeAnd b (λ begins. begins.call ≡ one)) none_begun begun)
+
 -- So at a node.
 pub settles_of : (moment : ℕ) (a b : Machine) (attempted : Attempted) → Settle moment (Some a) (Some b) attempted → AreOf a.calls.items b.calls.items
 settles_of moment a b attempted settles call has = ⊎_elim
     (λ none. absurd (nothing call (subst (λ (l : List Waiting). Contains l call) settles.none.waiting none))) (λ is. is)
     (settled_from moment a.calls.items settles.first (record { said = attempted.said; waiting = b.calls; begun = attempted.begun; needs = attempted.needs }) settles.go call has)
+
+pub settles_each : (moment : ℕ) (a b : Machine) (attempted : Attempted) → Settle moment (Some a) (Some b) attempted → attempted.begun ≡ None → (call : Waiting) → Contains a.calls.items call → Contains b.calls.items call ⊎ IsAnswered attempted.said.items call.number
+settles_each moment a b attempted settles none_begun =
+    settled_each moment a.calls.items settles.first (record { said = attempted.said; waiting = b.calls; begun = attempted.begun; needs = attempted.needs }) settles.go none_begun
 
 pub settles_all : (moment : ℕ) (a b : Machine) (attempted : Attempted) → Settle moment (Some a) (Some b) attempted → attempted.said.items ≡ [] → attempted.begun ≡ None → b.calls.items ≡ a.calls.items
 settles_all moment a b attempted settles none_said none_begun =
@@ -127,7 +158,7 @@ none_said (one ∷ said) is = absurd (omega (arith, is))
 same_calls : (a b : Machine) → OnlyHolds a b → record a { calls = b.calls } ≡ a
 same_calls a b only = ap (λ (m : Machine). record a { calls = m.calls }) only
 
-module _ {O E T : Type 0} (o : owners.Ghosts O) (e : engine.Ghosts E T) (engine_is : E) (node moment session : ℕ) (before between after : O) (back : List ℕ) (out : Option Sent) (IsAsked : ℕ → Type 0) (old given : Machine)
+module _ {O E T : Type 0} (o : owners.Ghosts O) (e : engine.Ghosts E T) (engine_is : E) (node moment session : ℕ) (said : List Said) (before between after : O) (back : List ℕ) (out : Option Sent) (IsAsked : ℕ → Type 0) (old given : Machine)
     (gives : GivesBack o node session back before old between given) (held : OnlyHolds old given) where
   first_calls : given.calls.items ≡ old.calls.items
   first_calls = ap (λ (m : Machine). m.calls.items) held
@@ -136,13 +167,14 @@ module _ {O E T : Type 0} (o : owners.Ghosts O) (e : engine.Ghosts E T) (engine_
   first_given = subst (λ (m : Machine). GivesBack o node session back before m between given) (sym (same_calls old given held)) gives
 
   -- A record begins.
-  pub begun : (machine : Machine) → IsSome out → after ≡ between → Waits o e engine_is node moment session before after out IsAsked old machine
+  pub begun : (machine : Machine) → IsSome out → after ≡ between → Waits o e engine_is node moment session said before after out IsAsked old machine
   begun machine some same = record {
     middle = given;
     between = between;
     back = back;
     given = first_given;
     calls = λ call has. subst (λ (l : List Waiting). Contains l call) first_calls has;
+    answered = λ call has. inl (subst (λ (l : List Waiting). Contains l call) (sym first_calls) has);
     newest = newest_of (first_of (o.asks between node)) given;
     noted = refl;
     needs = [];
@@ -166,7 +198,7 @@ module _ {O E T : Type 0} (o : owners.Ghosts O) (e : engine.Ghosts E T) (engine_
       → tried ≡ record given { calls = tried.calls } → (newest ≡ None) ⊎ (tried.calls.items ≡ given.calls.items) → OnlyHolds tried machine → KeepsUnneeded needs tried machine → AreWanted o node (IsInNeeds needs) between after
       → All (MayWait e engine_is (held_in tried.cache.kept) (hint_in tried.cache.hinted) moment newest true needs) tried.calls.items
       → All (AreNeeded e engine_is (held_in tried.cache.kept) (hint_in tried.cache.hinted) moment tried.calls.items) needs → AllByRecursion (AllByRecursion (λ wanted. IsAsked wanted.0)) needs
-      → Waits o e engine_is node moment session before after out IsAsked old machine
+      → Waits o e engine_is node moment session said before after out IsAsked old machine
   rested tried machine newest needs noted attempted left only keeps wanted waits needed asking =
       let calls : machine.calls.items ≡ tried.calls.items = ap (λ (m : Machine). m.calls.items) only in
       let cache : tried.cache ≡ given.cache = ap (λ (m : Machine). m.cache) attempted in
@@ -176,6 +208,7 @@ module _ {O E T : Type 0} (o : owners.Ghosts O) (e : engine.Ghosts E T) (engine_
         back = back;
         given = first_given;
         calls = λ call has. subst (λ (l : List Waiting). Contains l call) first_calls has;
+        answered = λ call has. inl (subst (λ (l : List Waiting). Contains l call) (sym first_calls) has);
         newest = newest;
         noted = noted;
         needs = needs;
@@ -192,9 +225,10 @@ module _ {O E T : Type 0} (o : owners.Ghosts O) (e : engine.Ghosts E T) (engine_
       }
 
   -- They were attempted, and then it went on with a further round.
-  pub again : (tried machine : Machine) → tried ≡ record given { calls = tried.calls } → AreOf given.calls.items tried.calls.items → Waits o e engine_is node moment session between after out IsAsked tried machine
-      → Waits o e engine_is node moment session before after out IsAsked old machine
-  again tried machine attempted of waits =
+  pub again : (earlier later : List Said) (tried machine : Machine) → said ≡ earlier ++ later → tried ≡ record given { calls = tried.calls } → AreOf given.calls.items tried.calls.items
+      → ((call : Waiting) → Contains given.calls.items call → Contains tried.calls.items call ⊎ IsAnswered earlier call.number) → Waits o e engine_is node moment session later between after out IsAsked tried machine
+      → Waits o e engine_is node moment session said before after out IsAsked old machine
+  again earlier later tried machine is attempted of answered waits =
       let from : (call : Waiting) → Contains waits.middle.calls.items call → Contains old.calls.items call = λ call has. subst (λ (l : List Waiting). Contains l call) first_calls (of call (waits.calls call has)) in
       let tidy : tried.tidy ≡ old.tidy = ap (λ (m : Machine). m.tidy) attempted ∙ ap (λ (m : Machine). m.tidy) held in
       record {
@@ -204,6 +238,11 @@ module _ {O E T : Type 0} (o : owners.Ghosts O) (e : engine.Ghosts E T) (engine_
         given = gives_on o node session waits.middle back waits.back before between waits.between old given waits.middle gives from
             (subst (λ (m : Machine). GivesBack o node session waits.back between m waits.between waits.middle) (ap (λ (m : Machine). record m { calls = waits.middle.calls }) attempted) waits.given);
         calls = from;
+        answered = λ call has. ⊎_elim
+            (λ still. ⊎_elim (λ on. inl on) (λ one. inr (subst (λ (l : List Said). IsAnswered l call.number) (sym is) (record { one = one.one; there = Contains-append_right earlier later one.one one.there; same = one.same })))
+            (waits.answered call still))
+            (λ one. inr (subst (λ (l : List Said). IsAnswered l call.number) (sym is) (record { one = one.one; there = Contains-append_left earlier later one.one one.there; same = one.same })))
+            (answered call (subst (λ (l : List Waiting). Contains l call) (sym first_calls) has));
         newest = waits.newest;
         noted = waits.noted;
         needs = waits.needs;
@@ -216,6 +255,28 @@ module _ {O E T : Type 0} (o : owners.Ghosts O) (e : engine.Ghosts E T) (engine_
         asking = waits.asking;
         keeps = waits.keeps;
       }
+
+-- What was answered before counts too.
+pub answered_more : {O E T : Type 0} (o : owners.Ghosts O) (e : engine.Ghosts E T) (engine_is : E) (node moment session : ℕ) (earlier later said : List Said) (before after : O) (out : Option Sent) (IsAsked : ℕ → Type 0) (first machine : Machine) → said ≡ earlier ++ later
+    → Waits o e engine_is node moment session later before after out IsAsked first machine → Waits o e engine_is node moment session said before after out IsAsked first machine
+answered_more o e engine_is node moment session earlier later said before after out IsAsked first machine is waits = record {
+  middle = waits.middle;
+  between = waits.between;
+  back = waits.back;
+  given = waits.given;
+  calls = waits.calls;
+  answered = λ call has. ⊎_elim (λ on. inl on)
+      (λ one. inr (subst (λ (l : List Said). IsAnswered l call.number) (sym is) (record { one = one.one; there = Contains-append_right earlier later one.one one.there; same = one.same }))) (waits.answered call has);
+  newest = waits.newest;
+  noted = waits.noted;
+  needs = waits.needs;
+  needed = waits.needed;
+  wanted = waits.wanted;
+  causes = waits.causes;
+  left = waits.left;
+  asking = waits.asking;
+  keeps = waits.keeps;
+}
 
 -- ---- fewer calls wait
 

@@ -78,15 +78,16 @@ pub data HasCause {E T : Type 0} (e : engine.Ghosts E T) (engine_is : E) (middle
 abbrev pub AreNeededBy : {E T : Type 0} → engine.Ghosts E T → E → List (List (ℕ × Mode)) → Machine → Machine → Machine → ℕ → List (ℕ × Mode) → Type 0
 AreNeededBy e engine_is needs first middle machine moment wants = AreNeeded e engine_is (held_in middle.cache.kept) (hint_in middle.cache.hinted) moment machine.calls.items wants ⊎ IsForTidy e engine_is needs first machine wants
 
--- What a node waits for at the end of a turn at a moment, of what it and owners had when it began to give back: it gave back what it may, as its calls stood at the last attempts; attempted
--- these over what it had then, and each that waits has its cause; where none is answered there, or no block is asked back any more, they aren't attempted again. It wants nothing but what they
--- need, or its tidy; and where no write is out, something is out for each of these blocks, or there is a reason why not.
-pub record Waits {O E T : Type 0} (o : owners.Ghosts O) (e : engine.Ghosts E T) (engine_is : E) (node moment session : ℕ) (before after : O) (out : Option Sent) (IsAsked : ℕ → Type 0) (first machine : Machine) : Type 0 where
+-- What a node waits for at the end of a turn at a moment, of what it and owners had when it began to give back. It gave back what it may, by the calls that waited at the last attempts: those that
+-- waited when it began, but for some that are answered. These were attempted over what it had then, and each that waits still has its cause; none of them was answered there, unless no block is
+-- asked back any more. Of owners it wants nothing but what they need, or its tidy; and where no write is out, something is out for each of these blocks, or there is a reason why not.
+pub record Waits {O E T : Type 0} (o : owners.Ghosts O) (e : engine.Ghosts E T) (engine_is : E) (node moment session : ℕ) (said : List Said) (before after : O) (out : Option Sent) (IsAsked : ℕ → Type 0) (first machine : Machine) : Type 0 where
   pub middle : Machine
   pub between : O
   pub back : List ℕ
   pub given : GivesBack o node session back before (record first { calls = middle.calls }) between middle
   pub calls : (call : Waiting) → Contains middle.calls.items call → Contains first.calls.items call
+  pub answered : (call : Waiting) → Contains first.calls.items call → Contains middle.calls.items call ⊎ IsAnswered said call.number
   pub newest : Option ℕ
   pub noted : newest ≡ newest_of (first_of (o.asks between node)) middle
   pub needs : List (List (ℕ × Mode))
@@ -98,9 +99,9 @@ pub record Waits {O E T : Type 0} (o : owners.Ghosts O) (e : engine.Ghosts E T) 
   pub keeps : IsSome out ⊎ KeepsUnneeded needs middle machine
 
 -- How a turn leaves a node: a write was out all the time, and owners are as they were; or it began to give back, and waits.
-pub data TurnEnds {O E T : Type 0} (o : owners.Ghosts O) (e : engine.Ghosts E T) (engine_is : E) (node moment session : ℕ) (answer : Option (List ℕ)) (asked : Option Asked) (before after : O) (out : Option Sent) (IsAsked : ℕ → Type 0) (old new : Machine) : Type 0 where
-  Writing : IsSome out → after ≡ before → TurnEnds o e engine_is node moment session answer asked before after out IsAsked old new
-  Worked : (first : Machine) → ComesTo answer asked old first → Waits o e engine_is node moment session before after out IsAsked first new → TurnEnds o e engine_is node moment session answer asked before after out IsAsked old new
+pub data TurnEnds {O E T : Type 0} (o : owners.Ghosts O) (e : engine.Ghosts E T) (engine_is : E) (node moment session : ℕ) (answer : Option (List ℕ)) (asked : Option Asked) (said : List Said) (before after : O) (out : Option Sent) (IsAsked : ℕ → Type 0) (old new : Machine) : Type 0 where
+  Writing : IsSome out → after ≡ before → TurnEnds o e engine_is node moment session answer asked said before after out IsAsked old new
+  Worked : (first : Machine) → ComesTo answer asked old first → Waits o e engine_is node moment session said before after out IsAsked first new → TurnEnds o e engine_is node moment session answer asked said before after out IsAsked old new
 
 -- a machine that has noted what it is asked for
 abbrev pub noting : List (ℕ × ℕ) → Machine → Machine

@@ -21,7 +21,7 @@ use Rattle.bx_nodes.specs.Turns.{Turned, Waits, newest_of}
 use Rattle.bx_nodes.proofs.Calling.{AnswersThere, answers_still, answers_then, begun_there, held_there, idle_there, session_begun, session_held, session_then, session_tried, tried_rests, tried_there}
 use Rattle.bx_nodes.proofs.Leading.{later_turned, turned_later, turned_on, turned_still}
 use Rattle.bx_nodes.proofs.Machines.{count_waiting, if_and, if_new, if_some, if_then, if_two, is_some_there, none_of, of_there, there_is, two_there, under_then, was_there}
-use Rattle.bx_nodes.proofs.Turning.{again, all_need, begun, fewer_wait, none_said, rested, settles_all, settles_of, some_sent, waiting_same}
+use Rattle.bx_nodes.proofs.Turning.{again, all_need, begun, fewer_wait, none_said, rested, settles_all, settles_each, settles_of, some_sent, waiting_same}
 use Rattle.bx_nodes.proofs.Tidying.{tidy_begun, tidy_held, tidy_then, tidy_tried}
 use Rattle.bx_nodes.proofs.nodes.Nodes.+rounds.Goals as goal
 use Rattle.bx_nodes.proofs.nodes.Nodes.+rounds.Goals.{then-is_empty-via-then-is_empty, then-is_empty-via-else-is_empty+then-is_none}
@@ -80,10 +80,10 @@ returns-in-Some-clause-waits g t c =
     let out = g.S.Store.out_of new.store node in
     let Asks : ℕ → Type 0 = λ at. Asking g.G.Register g.O.Owners new node at in
     let is_own : IsSome own = subst (λ s. IsSome (g.S.Store.own s node)) (sym c.in_ok-said.ensures.parts.2) (subst (λ s. IsSome (g.S.Store.own s node)) (sym c.in_ok-give_back.ensures.parts.2) c.requires.sessions.1) in
-    was_there (λ (a : Machine). IfSome (slice_get new.machines.items node) (Waits g.O.Owners e new.engine node moment session owners new.owners out Asks a)) (slice_get items node) old_is.0 old_is.1
+    was_there (λ (a : Machine). IfSome (slice_get new.machines.items node) (Waits g.O.Owners e new.engine node moment session c.in_ok-said.field-0.said.items owners new.owners out Asks a)) (slice_get items node) old_is.0 old_is.1
     (if_new (slice_get tried.machines.items node) (slice_get new.machines.items node) (BeginsBy moment c.in-Some.begun own c.args.lease.until out)
-    (Waits g.O.Owners e new.engine node moment session owners new.owners out Asks old_is.0) (is_some_there tried.machines.items node less_then)
-    (λ a b begins. begun g.O.Owners e new.engine node moment session owners given.owners new.owners gives.0 out Asks old_is.0 given_is.0 gives.1 held b (some_sent own c.args.lease.until begins.sends.runs out is_own begins.sends.sent)
+    (Waits g.O.Owners e new.engine node moment session c.in_ok-said.field-0.said.items owners new.owners out Asks old_is.0) (is_some_there tried.machines.items node less_then)
+    (λ a b begins. begun g.O.Owners e new.engine node moment session c.in_ok-said.field-0.said.items owners given.owners new.owners gives.0 out Asks old_is.0 given_is.0 gives.1 held b (some_sent own c.args.lease.until begins.sends.runs out is_own begins.sends.sent)
     (c.in_ok-begin.ensures.parts.1 ∙ c.in_ok-said.ensures.parts.1))
     c.in_ok-begin.ensures.begins)
 
@@ -176,9 +176,9 @@ returns-then-is_empty-clause-waits g t c =
           inr (settles_all moment given_is.0 tried_is.0 c.in_ok-said.field-0 settles (none_said c.in_ok-said.field-0.said.items (grind (arith, nat_tests, none, few))) c.in_default.is)
       | then-is_empty-via-else-is_empty+then-is_none w ↦ inl (none_of newest (w.is_none.ensures ∙ ap not w.if-is_none.true))
     ] in
-    was_there (λ (a : Machine). IfSome (slice_get new.machines.items node) (Waits g.O.Owners e new.engine node moment session owners new.owners out Asks a)) (slice_get items node) old_is.0 old_is.1
-    (if_new (slice_get tried.machines.items node) (slice_get new.machines.items node) (λ a b. (a ≡ tried_is.0) × OnlyHolds a b × KeepsUnneeded needs a b) (Waits g.O.Owners e new.engine node moment session owners new.owners out Asks old_is.0) (is_some_there tried.machines.items node less_then)
-    (λ a b both. rested g.O.Owners e new.engine node moment session owners given.owners new.owners gives.0 out Asks old_is.0 given_is.0 gives.1 held tried_is.0 b newest needs noted attempted left
+    was_there (λ (a : Machine). IfSome (slice_get new.machines.items node) (Waits g.O.Owners e new.engine node moment session c.in_ok-said.field-0.said.items owners new.owners out Asks a)) (slice_get items node) old_is.0 old_is.1
+    (if_new (slice_get tried.machines.items node) (slice_get new.machines.items node) (λ a b. (a ≡ tried_is.0) × OnlyHolds a b × KeepsUnneeded needs a b) (Waits g.O.Owners e new.engine node moment session c.in_ok-said.field-0.said.items owners new.owners out Asks old_is.0) (is_some_there tried.machines.items node less_then)
+    (λ a b both. rested g.O.Owners e new.engine node moment session c.in_ok-said.field-0.said.items owners given.owners new.owners gives.0 out Asks old_is.0 given_is.0 gives.1 held tried_is.0 b newest needs noted attempted left
     (subst (λ (m : Machine). OnlyHolds m b) both.0 both.1) (subst (λ (m : Machine). KeepsUnneeded needs m b) both.0 both.2) wanted waits needed
     (subst (λ (l : List (List (ℕ × Mode))). AllByRecursion (AllByRecursion (λ wanted. Asks wanted.0)) l) same c.in_ok-ask_all.ensures.asking))
     (if_two (slice_get tried.machines.items node) (slice_get new.machines.items node) (λ a. a ≡ tried_is.0) (λ a b. OnlyHolds a b × KeepsUnneeded needs a b) (λ a b. (a ≡ tried_is.0) × OnlyHolds a b × KeepsUnneeded needs a b) (λ a b is both. (is, both.0, both.1))
@@ -207,13 +207,16 @@ returns-clause-waits g t c =
     let settles = subst (λ (m : Option Machine). Settle moment m (Some tried_is.0) c.in_ok-said.field-0) given_is.1
     (subst (λ (m : Option Machine). Settle moment (slice_get given.machines.items node) m c.in_ok-said.field-0) tried_is.1 c.in_ok-said.ensures.goes) in
     let new = c.rounds.new.self in
+    let said = c.in_ok-said.field-0.said.items in
+    let more = c.in_ok-more.more.items in
+    let all = c.append.new.self.items in
     let out = g.S.Store.out_of new.store node in
     let Asks : ℕ → Type 0 = λ at. Asking g.G.Register g.O.Owners new node at in
-    was_there (λ (a : Machine). IfSome (slice_get new.machines.items node) (Waits g.O.Owners e new.engine node moment session owners new.owners out Asks a)) (slice_get items node) old_is.0 old_is.1
-    (if_some (slice_get new.machines.items node) (Waits g.O.Owners e new.engine node moment session given.owners new.owners out Asks tried_is.0) (Waits g.O.Owners e new.engine node moment session owners new.owners out Asks old_is.0)
-    (λ b waits. again g.O.Owners e new.engine node moment session owners given.owners new.owners gives.0 out Asks old_is.0 given_is.0 gives.1 held tried_is.0 b attempted (settles_of moment given_is.0 tried_is.0 c.in_ok-said.field-0 settles) waits)
-    (subst (λ w. IfSome (slice_get new.machines.items node) (Waits g.O.Owners e new.engine node moment session w new.owners out Asks tried_is.0)) c.in_ok-said.ensures.parts.1
-    (of_there (λ (m : Machine). IfSome (slice_get new.machines.items node) (Waits g.O.Owners e new.engine node moment session tried.owners new.owners out Asks m)) (slice_get tried.machines.items node) tried_is.0 tried_is.1 c.in_ok-more.ensures.waits)))
+    was_there (λ (a : Machine). IfSome (slice_get new.machines.items node) (Waits g.O.Owners e new.engine node moment session all owners new.owners out Asks a)) (slice_get items node) old_is.0 old_is.1
+    (if_some (slice_get new.machines.items node) (Waits g.O.Owners e new.engine node moment session more given.owners new.owners out Asks tried_is.0) (Waits g.O.Owners e new.engine node moment session all owners new.owners out Asks old_is.0)
+    (λ b waits. again g.O.Owners e new.engine node moment session all owners given.owners new.owners gives.0 out Asks old_is.0 given_is.0 gives.1 held said more tried_is.0 b c.in_ok-append.ensures.items attempted (settles_of moment given_is.0 tried_is.0 c.in_ok-said.field-0 settles) (settles_each moment given_is.0 tried_is.0 c.in_ok-said.field-0 settles c.in_default.is) waits)
+    (subst (λ w. IfSome (slice_get new.machines.items node) (Waits g.O.Owners e new.engine node moment session more w new.owners out Asks tried_is.0)) c.in_ok-said.ensures.parts.1
+    (of_there (λ (m : Machine). IfSome (slice_get new.machines.items node) (Waits g.O.Owners e new.engine node moment session more tried.owners new.owners out Asks m)) (slice_get tried.machines.items node) tried_is.0 tried_is.1 c.in_ok-more.ensures.waits)))
 
 pub rounds-requires : goal.rounds-requires
 rounds-requires g t c κs within =

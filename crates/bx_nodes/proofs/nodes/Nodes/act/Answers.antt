@@ -12,7 +12,7 @@ use Rattle.bx_nodes.specs.Turns.TurnEnds.{Worked, Writing}
 use Rattle.bx_nodes.proofs.Leading.{turned_on}
 use Rattle.bx_nodes.proofs.Calling.{AnswersThere, answers_then, is_fits, received_there, session_received, session_stepped, session_then, stepped_there, was_fits}
 use Rattle.bx_nodes.proofs.Machines.{if_all, if_ok_so, if_some, is_some_there, of_there, ok_so, there_is, two_there, was_there}
-use Rattle.bx_nodes.proofs.Turning.{rest_there, steps_only, taken_under, under_there}
+use Rattle.bx_nodes.proofs.Turning.{answered_more, rest_there, steps_only, taken_under, under_there}
 use Rattle.bx_nodes.proofs.Cleaning.{Cleans, cleans_then, goes_there}
 use Rattle.bx_nodes.proofs.Tidying.{tidy_left, tidy_received, tidy_same, tidy_stepped, tidy_then}
 use Rattle.bx_nodes.proofs.nodes.Nodes.act.Goals as goal
@@ -95,16 +95,19 @@ returns-clause-waits g c = λ lease has.
     let takes = two_there (TakesAnswer answer asked) old_is (slice_get middle.machines.items node) first.0 second.0 first.1 second.1 c.in_ok-receive.ensures.takes in
     let steps = two_there (λ a b. StepsLog own until stood between a b c.in_ok-acked.acked) (slice_get middle.machines.items node) (slice_get stepped.machines.items node) second.0 third.0 second.1 third.1 c.in_ok-acked.ensures.steps in
     let owners = c.in_ok-acked.ensures.parts.1 ∙ c.in_ok-receive.ensures.parts.1 in
-    let Ends : Machine → Machine → Type 0 = λ a b. TurnEnds g.O.Owners e new.engine node moment lease.session answer asked old.owners new.owners out Asks a b in
-    ok_so _ c.together.result (⊎_elim
-    (λ writing. if_all old_is (λ a. IfSome new_is (Ends a)) (λ a. if_all new_is (Ends a) (λ b. Writing writing.0 (writing.1 ∙ owners))))
-    (λ worked. was_there (λ a. IfSome new_is (Ends a)) old_is first.0 first.1
-    (if_some new_is (Waits g.O.Owners e new.engine node moment c.in-Some.lease.session stepped.owners new.owners out Asks third.0) (Ends first.0)
+    let earlier = option_to_list c.in_ok-acked.acked in
+    let later = c.in_ok-answers.answers.items in
+    let Ends : List Said → Machine → Machine → Type 0 = λ l a b. TurnEnds g.O.Owners e new.engine node moment lease.session answer asked l old.owners new.owners out Asks a b in
+    if_ok_so _ _ c.together.result (λ said is. ⊎_elim
+    (λ writing. if_all old_is (λ a. IfSome new_is (Ends said.items a)) (λ a. if_all new_is (Ends said.items a) (λ b. Writing writing.0 (writing.1 ∙ owners))))
+    (λ worked. was_there (λ a. IfSome new_is (Ends said.items a)) old_is first.0 first.1
+    (if_some new_is (Waits g.O.Owners e new.engine node moment c.in-Some.lease.session later stepped.owners new.owners out Asks third.0) (Ends said.items first.0)
     (λ b waits. Worked third.0 (record { received = second.0; takes = takes; only = steps_only own until stood between second.0 third.0 c.in_ok-acked.acked is_own steps worked.0 })
-    (subst (λ w. Waits g.O.Owners e new.engine node moment lease.session w new.owners out Asks third.0 b) owners
-    (subst (λ (s : ℕ). Waits g.O.Owners e new.engine node moment s stepped.owners new.owners out Asks third.0 b) session waits)))
-    (of_there (λ (a : Machine). IfSome new_is (Waits g.O.Owners e new.engine node moment c.in-Some.lease.session stepped.owners new.owners out Asks a)) (slice_get stepped.machines.items node) third.0 third.1 worked.1)))
-    c.in_ok-answers.ensures.waits)
+    (answered_more g.O.Owners e new.engine node moment lease.session earlier later said.items old.owners new.owners out Asks third.0 b is
+    (subst (λ w. Waits g.O.Owners e new.engine node moment lease.session later w new.owners out Asks third.0 b) owners
+    (subst (λ (s : ℕ). Waits g.O.Owners e new.engine node moment s later stepped.owners new.owners out Asks third.0 b) session waits))))
+    (of_there (λ (a : Machine). IfSome new_is (Waits g.O.Owners e new.engine node moment c.in-Some.lease.session later stepped.owners new.owners out Asks a)) (slice_get stepped.machines.items node) third.0 third.1 worked.1)))
+    c.in_ok-answers.ensures.waits) c.together.ensures
 
 pub returns-in_default-clause-waits : goal.returns-in_default-clause-waits
 returns-in_default-clause-waits g c = λ lease has. absurd (c.in_default.ensures.none refl lease has)

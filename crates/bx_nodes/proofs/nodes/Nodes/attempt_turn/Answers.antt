@@ -74,6 +74,7 @@ returns-clause-waits g c =
     let new = c.tidy.new.self in
     let moment = c.args.reading in
     let session = c.args.lease.session in
+    let said = c.in_ok-said.said.items in
     let found = there_is old.machines.items node c.requires.there.0 in
     let out = g.S.Store.out_of tried.store node in
     let out_then = g.S.Store.out_of new.store node in
@@ -81,11 +82,11 @@ returns-clause-waits g c =
     let Asks : ℕ → Type 0 = λ at. Asking g.G.Register g.O.Owners new node at in
     let same = if_some (slice_get tried.machines.items node) (λ b. (b.tidy ≡ found.0.tidy) × (b.mark ≡ found.0.mark)) (λ b. b.tidy ≡ found.0.tidy) (λ b is. is.0)
     (of_there (λ (a : Machine). IfSome (slice_get tried.machines.items node) (λ b. (b.tidy ≡ a.tidy) × (b.mark ≡ a.mark))) (slice_get old.machines.items node) found.0 found.1 c.in_ok-said.ensures.tidy) in
-    let waits = of_there (λ (a : Machine). IfSome (slice_get tried.machines.items node) (Waits g.O.Owners e tried.engine node moment session old.owners tried.owners out Asked a)) (slice_get old.machines.items node) found.0 found.1 c.in_ok-said.ensures.waits in
+    let waits = of_there (λ (a : Machine). IfSome (slice_get tried.machines.items node) (Waits g.O.Owners e tried.engine node moment session said old.owners tried.owners out Asked a)) (slice_get old.machines.items node) found.0 found.1 c.in_ok-said.ensures.waits in
     inr (
       c.done.ensures.no_write c.if-not-done.false,
-      was_there (λ (a : Machine). IfSome (slice_get new.machines.items node) (Waits g.O.Owners e new.engine node moment session old.owners new.owners out_then Asks a)) (slice_get old.machines.items node) found.0 found.1
-          (c.in_ok-tidy.ensures.waits old.owners found.0 same waits),
+      was_there (λ (a : Machine). IfSome (slice_get new.machines.items node) (Waits g.O.Owners e new.engine node moment session said old.owners new.owners out_then Asks a)) (slice_get old.machines.items node) found.0 found.1
+          (c.in_ok-tidy.ensures.waits said old.owners found.0 same waits),
     )
 
 pub returns-then-not-done-clause-waits : goal.returns-then-not-done-clause-waits

@@ -6,6 +6,8 @@ ghost use Rattle.bx_disk.specs.Disks.{Disks};
 ghost use Rattle.bx_facts.specs.Chains.{LivesIn, last};
 ghost use Rattle.bx_node_steps.specs.Calls.{AnswersCalls, AreApart};
 ghost use Rattle.bx_node_steps.specs.Seen.{seen};
+ghost use Rattle.bx_node_steps.specs.declared.machine.Machine.{Machine};
+ghost use Rattle.bx_node_tries.specs.declared.round.Said.{Said};
 ghost use Rattle.bx_node_steps.specs.Tidying.{Ticks, TidyGoes, is_tidying};
 ghost use Rattle.bx_nodes.specs.Cleaning.{CleansArea, IsHeldUp};
 ghost use Rattle.bx_nodes.specs.Standing.{Asking, BeReady, IsUnder, OfBoth, OfNode, Ready, Stand};
@@ -61,8 +63,9 @@ impl<G: Register, O: Owners, S: Store, E: Engine> Nodes<G, O, S, E> {
         ensures stands { (x : Disks) (letters : List Letter) (clocks : Clocks) (c : Course) (tree : E.Tree) (session : ℕ) → clocks.down (Node node) ≡ false → Stand G.Register O.Owners S.Store E.Engine self.old x (letters ++ out.old) clocks c tree
             → O.own self.old.owners node ≡ Some session → O.end_of self.old.owners node ≡ Some lease.until → LivesIn (last c.register.chain) session → IsUnder self.old node session
             → OnOk result (Turned (E.step self.old.engine) (Stand G.Register O.Owners S.Store E.Engine self.new x (letters ++ out.new) clocks) c tree []) }
-        ensures waits { OfNode self.old node (Waits O.Owners E.Engine self.old.engine node moment lease.session (S.out_of self.old.store node) (Asking G.Register O.Owners self.old node))
-            → OnOk result (OfNode self.new node (Waits O.Owners E.Engine self.new.engine node moment lease.session (S.out_of self.new.store node) (Asking G.Register O.Owners self.new node))) }
+        ensures waits { (said : List Said) (owners : O) (first : Machine) → OfNode self.old node (λ machine. machine.tidy ≡ first.tidy)
+            → OfNode self.old node (Waits O.Owners E.Engine self.old.engine node moment lease.session said owners self.old.owners (S.out_of self.old.store node) (Asking G.Register O.Owners self.old node) first)
+            → OnOk result (OfNode self.new node (Waits O.Owners E.Engine self.new.engine node moment lease.session said owners self.new.owners (S.out_of self.new.store node) (Asking G.Register O.Owners self.new node) first)) }
         ensures answers { OnOk result (OfBoth self.old self.new node (λ old new. AreApart old → AnswersCalls moment old new [])) }
         ensures goes { OnOk result (OfBoth self.old self.new node (λ old new. TidyGoes (IsSome old.mark) old new)) }
         ensures cleans { (x : Disks) (letters : List Letter) (clocks : Clocks) (c : Course) (tree : E.Tree) (session : ℕ) → clocks.down (Node node) ≡ false → Stand G.Register O.Owners S.Store E.Engine self.new x letters clocks c tree

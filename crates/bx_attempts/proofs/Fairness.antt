@@ -15,7 +15,6 @@ use Rattle.bx_places.specs.Places.{is_block}
 use Rattle.bx_records.specs.Drafts.{Changed}
 use Rattle.bx_creating.specs.bx_sizes.specs.Answers.{HoldsInner}
 use Rattle.bx_views.specs.declared.attempt.Attempt.{Attempt}
-use Rattle.bx_views.specs.declared.attempt.Attempt.TheVariants.{Need, Change, Inner, Answer}
 use Rattle.bx_views.specs.Attempts.{IsFair, IsFairNeed, IsHeldDraft}
 use Rattle.bx_views.specs.Truths.{Held}
 
@@ -60,14 +59,3 @@ module _ (xid areas : ℕ) (held : Held) (Path : ℕ → Mode → Type 0) (attem
   stops_fair T (stops.Inner blocks) needs never is = absurd never
   stops_fair T (stops.Status status) needs never is = subst (IsFair areas held Path) (sym is) tt
   stops_fair T stops.OutOfMemory needs never is = absurd is
-
--- what is fair along a path is fair along a wider one
-module _ (areas : ℕ) (held : Held) (Path Wider : ℕ → Mode → Type 0) (wider : (at : ℕ) (mode : Mode) → Path at mode → Wider at mode) where
-  pub fair_over : (attempt : Attempt) → IsFair areas held Path attempt → IsFair areas held Wider attempt
-  fair_over (Need wants) fair = record {
-    some = fair.some;
-    each = λ at mode there. let lacks = fair.each at mode there in (lacks.0, lacks.1, wider at mode lacks.2);
-  }
-  fair_over (Change draft acted) fair = fair
-  fair_over (Inner draft) fair = fair
-  fair_over (Answer acted) fair = fair

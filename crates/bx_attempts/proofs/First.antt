@@ -7,7 +7,6 @@ use Rattle.bx_changes.specs.declared.error.ChangeError.{ChangeError}
 use Rattle.bx_changes.specs.declared.error.ChangeError.TheVariants.{Stopped, Full}
 use Rattle.bx_inodes.specs.declared.stop.Stop.{Stop}
 use Rattle.bx_inodes.specs.declared.stop.Stop.TheVariants as stops
-use Rattle.bx_inodes.specs.Stops.{NeverInner}
 use Rattle.bx_model.specs.declared.call.Args.{Args}
 use Rattle.bx_model.specs.declared.call.Args.TheVariants.{Link, Make, Rename, Set, Symlink, Write}
 use Rattle.bx_model.specs.declared.call.Call.{Call}
@@ -51,12 +50,6 @@ module _ (Holds : List Changed → Type 0) (xid : ℕ) (attempt : Attempt) where
   pub refused_first : (error : ChangeError) → IfFirst Holds error → IsRefused xid error attempt → IfInner Holds attempt
   refused_first (Stopped stop) first is = stopped_first stop first is
   refused_first (Full spare) first is = subst (IfInner Holds) (sym is) tt
-
-  pub never_first : (T : Type 0) (stop : Stop) → NeverInner {T = T} (Err stop) → IsStopped xid stop attempt → IfInner Holds attempt
-  never_first T (stops.Need at mode) never is = subst (IfInner Holds) (sym is) tt
-  never_first T (stops.Inner blocks) never is = absurd never
-  never_first T (stops.Status status) never is = subst (IfInner Holds) (sym is) tt
-  never_first T stops.OutOfMemory never is = absurd is
 
 module _ (Holds : Type 0) (xid : ℕ) (attempt : Attempt) where
   pub changed_ready : (draft : List Changed) (reply : Reply) (made : ℕ) → Holds → IsChanged xid draft reply made attempt → IfChange Holds attempt

@@ -8,7 +8,7 @@ use Rattle.bx_page.specs.Contents.{Contents}
 use Rattle.bx_page.specs.Keys.{IsBelow}
 use Rattle.bx_page.proofs.Order.{below_trans}
 use Rattle.bx_truth.specs.Chunks.{chunks_of}
-use Rattle.bx_truth.specs.PageTrees.{Chunks, Node, IsIn, IsNode, Leads, IsLevel, NamesChild, IsInterior, PageTree, IsTree, entries_of, map_of}
+use Rattle.bx_truth.specs.PageTrees.{Node, IsIn, IsNode, Leads, IsLevel, NamesChild, IsInterior, PageTree, IsTree, entries_of, map_of}
 use Rattle.bx_truth.specs.Shown.{KeepsSlots}
 use Rattle.bx_truth.proofs.Cases.{same_or}
 use Rattle.bx_truth.proofs.Put.{some_there}
@@ -31,12 +31,6 @@ none_some block e = absurd cc
 module _ (areas : ℕ) (truth now : Truth) (root : ℕ) (tree : PageTree) (under : ℕ) (top child next : Node) (behind : List Node) (page : Contents) (block : Block)
     (is : IsTree (chunks_of areas truth) root tree) (one : HasOneChild tree under top child (next ∷ behind)) (may : MayReplace tree under child next page block)
     (gone : ChunkGone (chunks_of areas truth) (chunks_of areas now) child.handle next.handle block) (slots : KeepsSlots areas truth now) where
-  abbrev was : Chunks
-  was = chunks_of areas truth
-
-  abbrev after : PageTree
-  after = with_level tree under (record { handle = child.handle; begins = child.begins; page = page } ∷ behind)
-
   within : under ≤ tree.height
   within = let h = one.height in omega (arith, h)
 

@@ -68,9 +68,6 @@ want_of a b e want = let same : a ≡ b = cc in subst IsWant (sym same) want
 
 module _ (areas : ℕ) (held : Held) (hints : Hints) (truth : Truth) (root : ℕ) (tree : PageTree) (u : Under areas held hints truth [] root tree) (pieces : NamesPieces areas held hints truth root tree)
     (under : ℕ) (height : tree.height ≡ under + 1) (first : Entry) (short : length u.is.top.page.entries ≤ 1) (is : slice_get u.is.top.page.entries 0 ≡ Some first) where
-  abbrev StepOf : Result (List Changed) ChunkError → Type 0
-  StepOf result = StepIn areas held hints truth root tree result
-
   within : under ≤ tree.height
   within = omega (arith, height)
 

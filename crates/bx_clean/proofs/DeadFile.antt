@@ -60,9 +60,6 @@ module _ (areas : ℕ) (truth : Truth) (T : Tree) (handle : ℕ) (inode : Inode)
   pub not_page : (h : ℕ) → (inode_of h (is.owner h) == handle) ≡ false → is.owner h ≢ PageOf handle
   not_page h test page = let t = eq_true (inode_of h (is.owner h)) handle (ap (inode_of h) page) in absurd cc
 
-  pub not_piece : (h index : ℕ) → (inode_of h (is.owner h) == handle) ≡ false → is.owner h ≢ DataOf handle index
-  not_piece h index test piece = let t = eq_true (inode_of h (is.owner h)) handle (ap (inode_of h) piece) in absurd cc
-
   -- where all stay that aren't its own
   pub others_stay : (now : Truth) → ((h : ℕ) → (inode_of h (is.owner h) == handle) ≡ false → chunks_of areas now h ≡ chunks_of areas truth h) → KeepsOthers areas truth now T is is.owner handle
   others_stay now stays = record {

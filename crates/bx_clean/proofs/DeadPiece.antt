@@ -5,7 +5,7 @@ use Rattle.bx_layout.specs.declared.block.Block.{Block}
 use Rattle.bx_layout.specs.declared.inode.Inode.{Inode}
 use Rattle.bx_model.specs.declared.tree.Tree.{Tree}
 use Rattle.bx_page.specs.declared.entry.Entry.{Entry}
-use Rattle.bx_page.specs.Contents.{Contents, value_of}
+use Rattle.bx_page.specs.Contents.{value_of}
 use Rattle.bx_page.proofs.Maps.{taken_value}
 use Rattle.bx_records.specs.Drafts.{Changed}
 use Rattle.bx_truth.specs.Chunks.{chunks_of}
@@ -38,9 +38,6 @@ module _ (areas : ℕ) (held : Held) (hints : Hints) (truth : Truth) (mid new : 
   abbrev names : ℕ
   names = handle_in value
 
-  abbrev stored_map : List Entry
-  stored_map = map_of (is.stored handle).tree
-
   value_there : value_of (map_of (is.stored handle).tree) key ≡ Some value
   value_there = ap (λ (es : List Entry). value_of es key) (map_same areas truth T handle inode is holds dead tree at) ∙ found
 
@@ -52,9 +49,6 @@ module _ (areas : ℕ) (held : Held) (hints : Hints) (truth : Truth) (mid new : 
 
   own_piece : is.owner (handle_in value) ≡ DataOf handle c.index
   own_piece = ap is.owner names_are ∙ c.own
-
-  piece_chunk : chunks_of areas truth (handle_in value) ≡ Some c.block
-  piece_chunk = ap (chunks_of areas truth) names_are ∙ c.chunk
 
   -- the chunks, step by step
   gone : chunks_of areas (with_draft truth new) (handle_in value) ≡ None
@@ -80,9 +74,6 @@ module _ (areas : ℕ) (held : Held) (hints : Hints) (truth : Truth) (mid new : 
   slots = slots_steps areas truth (with_draft truth mid) (with_draft truth new)
       (keeps_slots areas truth (with_draft truth mid) (record { chunked = m.under.chunked; own = m.own }))
       (removes_keeps areas (with_draft truth mid) (with_draft truth new) (handle_in value) few m.under.chunked r)
-
-  abbrev whole_page : Contents
-  whole_page = record { level = 0; right = 0; high = None; entries = map_of tree }
 
   cuts : CutsPiece (chunks_of areas truth) (chunks_of areas (with_draft truth new)) (is.stored handle) m.after c.index (handle_in value)
   cuts = record {

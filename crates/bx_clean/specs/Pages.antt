@@ -17,10 +17,6 @@ abbrev pub TakesFirst : Contents → Contents → Option ℕ → Type 0
 TakesFirst old new (Some handle) = (first : Entry) × (slice_get old.entries 0 ≡ Some first) × (handle ≡ handle_in first.value) × (new ≡ without_key old first.key)
 TakesFirst old new None = slice_get old.entries 0 ≡ None
 
--- the page without all but this entry, as the last one of its level
-abbrev pub stripped : Contents → Entry → Contents
-stripped page first = record { level = page.level; right = 0; high = None; entries = first ∷ [] }
-
 -- a page is put with its first entry alone
 pub data StripsPage (handle : ℕ) (page : Contents) (result : Result (List Changed) ChunkError) : Type 0 where
   strip_memory : result ≡ Err OutOfMemory → StripsPage handle page result

@@ -46,7 +46,3 @@ pub record MayReplace (tree : PageTree) (under : ℕ) (child next : Node) (page 
   pub high : page.high ≡ next.page.high
   pub leaf : under ≡ 0 → (child.page.entries ≡ []) × (page.entries ≡ next.page.entries)
   pub interior : (below : ℕ) → under ≡ below + 1 → IsInterior (tree.level below) (record { handle = child.handle; begins = child.begins; page = page })
-
--- the tree shrinks to another one
-abbrev pub ShrinksInto : ℕ → Truth → Truth → ℕ → PageTree → Type 0
-ShrinksInto areas truth now root tree = (after : PageTree) × ShrinksTree areas truth now root tree after

@@ -17,7 +17,7 @@ use Rattle.bx_model.specs.Removing.{remove, rmdir}
 use Rattle.bx_model.specs.Steps.{Outcome, done, plainly}
 use Rattle.std.specs.Prelude.{◌==◌, if◌then◌else◌, Result, Ok, IfOk}
 use Rattle.std.proofs.lemmas.Result.{IfOk-weaker}
-use Rattle.bx_nfs.specs.Wire.{ReadsAs, reply_text}
+use Rattle.bx_nfs.specs.Wire.{ReadsAs}
 use Rattle.bx_tree_files.specs.Times.{time_of}
 use Rattle.bx_views.specs.declared.attempt.Attempt.{Attempt}
 use Rattle.bx_views.specs.declared.attempt.Attempt.TheVariants.{Need, Change, Inner, Answer}
@@ -68,9 +68,6 @@ module _ (tree : Tree) (call : Call) (moment : ℕ) where
 
 module _ (volume areas client : ℕ) (bytes : List ℕ) (moment free : ℕ) (truth : Truth) (tree : Tree) (xid : ℕ) (call : Call) (outcome : Outcome)
     (reads : ReadsAs bytes xid call) (fits : moment ≤ 4294967295999) (acts : act tree call moment 8 0 ≡ Some (done tree outcome)) where
-  abbrev told_as : Reply → Done
-  told_as reply = record { reply = reply_text xid reply; spare = 8; made = 0 }
-
   steps : (next : Tree) (acted : Done) → ComesTo tree outcome xid acted next → Step tree (deed_of client bytes moment acted) next
   steps next acted comes = subst (λ (d : Done). Step tree (deed_of client bytes moment d) next) (sym comes.told) (record {
     xid = xid;

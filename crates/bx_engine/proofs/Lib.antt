@@ -1,7 +1,5 @@
 pub mod Acting
 pub mod Along
-pub mod Apart
-mod Asking
 pub mod First
 pub mod Fullness
 pub mod OneStep

@@ -41,8 +41,3 @@ pub record IsOnPath (held : Held) (hints : Hints) (volume areas : ℕ) (bytes : 
   pub call : Call
   pub reads : ReadsAs bytes xid call
   pub on : PathOf held hints volume areas call.procedure call.args at mode
-
--- the path of these calls has one block: GETATTR and READLINK
-abbrev pub HasOneBlock : ℕ → Args → Type 0
-HasOneBlock procedure (Handle handle) = procedure ≡ 17 → ⊥
-HasOneBlock procedure _ = ⊥

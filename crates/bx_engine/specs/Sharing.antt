@@ -1,5 +1,5 @@
 -- Whose paths there are.
-use Rattle.std.proofs.Common.{◌≡◌, ◌∙◌, ℕ, ◌/◌, List, ap, arith, subst, sym, inl, inr}
+use Rattle.std.proofs.Common.{◌≡◌, ℕ, ◌/◌, List, arith, inl, inr}
 use Rattle.std.specs.Prelude.{◌⊎◌}
 use Rattle.bx_attempts.specs.Paths.{ChangePathOf}
 use Rattle.bx_base.specs.declared.names.Mode.{Mode}
@@ -8,20 +8,14 @@ use Rattle.bx_attempts.specs.bx_directory_reads.specs.Listings.{OnListing}
 use Rattle.bx_attempts.specs.bx_directory_reads.specs.Lookups.{IsMeantBlock, OnLooking}
 use Rattle.bx_engine.specs.Datagrams.{path_of}
 use Rattle.bx_engine.specs.Calls.{HasReadArgs, IsReadCall, IsReading}
-use Rattle.bx_engine.specs.Paths.{HasOneBlock, IsOnPath, PathOf, ReadPathOf}
+use Rattle.bx_engine.specs.Paths.{IsOnPath, PathOf, ReadPathOf}
 use Rattle.bx_reads.specs.bx_files.specs.Paths.{OnPiece, OnSearch}
-use Rattle.bx_inodes.specs.Stops.{OnInode}
 use Rattle.bx_model.specs.declared.call.Args.{Args}
-use Rattle.bx_model.specs.declared.call.Args.TheVariants.{Handle, Link, List as Listing, Make, Name, Read, Refused, Rename, Set, Symlink, Write}
+use Rattle.bx_model.specs.declared.call.Args.TheVariants.{Handle, Link, List as Listing, Make, Name, Read, Rename, Set, Symlink, Write}
 use Rattle.bx_model.specs.declared.call.Call.{Call}
-use Rattle.bx_nfs.specs.Wire.{ReadsAs}
 use Rattle.bx_reads.specs.Bytes.{OnReading}
-use Rattle.bx_truth.specs.Chunks.{block_at}
 use Rattle.bx_truth.specs.Keys.{name_key}
 use Rattle.bx_views.specs.Truths.{Held, Hints}
-
-not_change : (procedure : ℕ) (held : Held) (hints : Hints) (volume areas at : ℕ) (mode : Mode) (handle : List ℕ) → ChangePathOf held hints volume areas procedure (Handle handle) at mode → ⊥
-not_change procedure held hints volume areas at mode handle on = on
 
 module _ (held : Held) (hints : Hints) (volume areas : ℕ) where
   piece_shared : (root index at : ℕ) (mode : Mode) → OnPiece held hints root index at mode → mode ≡ Shared
@@ -70,31 +64,3 @@ module _ (held : Held) (hints : Hints) (volume areas : ℕ) where
 
   pub shared_on : (bytes : List ℕ) (at : ℕ) (mode : Mode) → IsReadCall bytes → IsOnPath held hints volume areas bytes at mode → mode ≡ Shared
   shared_on bytes at mode is on = shared_of is.call at mode is.reading (path_of bytes is.xid is.call is.reads held hints volume areas at mode on)
-
-  pub refused_none : (procedure at number : ℕ) (mode : Mode) (args : Args) → args ≡ Refused number → PathOf held hints volume areas procedure args at mode → ⊥
-  refused_none procedure at number mode args is on = by (subst (λ (a : Args). PathOf held hints volume areas procedure a at mode) is on)
-    where
-      by : PathOf held hints volume areas procedure (Refused number) at mode → ⊥
-      by (inl never) = never
-      by (inr never) = never
-
-  same_inode : (bytes : List ℕ) (needed mode asked : Mode) (at other : ℕ) → OnInode volume bytes needed at mode → OnInode volume bytes needed other asked → (at ≡ other) × (mode ≡ asked)
-  same_inode bytes needed mode asked at other a b =
-      let same : a.0 ≡ b.0 = cc (a.1, b.1) in
-      (a.2 ∙ ap block_at same ∙ sym b.2, a.3 ∙ sym b.3)
-
-  -- the path of a call about a file other than STATFS is its inode's block
-  by_inode : (procedure at : ℕ) (mode : Mode) (handle : List ℕ) → (procedure ≡ 17 → ⊥) → PathOf held hints volume areas procedure (Handle handle) at mode → OnInode volume handle Shared at mode
-  by_inode procedure at mode handle other (inl (inl on)) = on
-  by_inode procedure at mode handle other (inl (inr on)) = absurd (other on.0)
-  by_inode procedure at mode handle other (inr never) = absurd (not_change procedure held hints volume areas at mode handle never)
-
-  one_path : (procedure at other : ℕ) (mode asked : Mode) (args : Args) → HasOneBlock procedure args → PathOf held hints volume areas procedure args at mode → PathOf held hints volume areas procedure args other asked
-      → (at ≡ other) × (mode ≡ asked)
-  one_path procedure at other mode asked (Handle handle) not a b = same_inode handle Shared mode asked at other (by_inode procedure at mode handle not a) (by_inode procedure other asked handle not b)
-  one_path procedure at other mode asked _ not a b = absurd not
-
-  pub one_on : (bytes : List ℕ) (at other xid : ℕ) (mode asked : Mode) (call : Call) → ReadsAs bytes xid call → HasOneBlock call.procedure call.args → IsOnPath held hints volume areas bytes at mode
-      → IsOnPath held hints volume areas bytes other asked → (at ≡ other) × (mode ≡ asked)
-  one_on bytes at other xid mode asked call reads one a b =
-      one_path call.procedure at other mode asked call.args one (path_of bytes xid call reads held hints volume areas at mode a) (path_of bytes xid call reads held hints volume areas other asked b)

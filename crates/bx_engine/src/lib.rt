@@ -9,4 +9,4 @@ mod plain;
 mod procedures;
 
 pub use engine::BoxFs;
-pub use laws::{paths_are_of_files, steps_are_of_histories};
+pub use laws::steps_are_of_histories;

@@ -12,7 +12,7 @@ use Rattle.bx_truth.proofs.Cases.{eq_false, eq_true, same_or}
 use Rattle.bx_volume.specs.Images.{devices_of, member_disk}
 use Rattle.bx_volume.specs.Overlay.{IsHome}
 use Rattle.bx_volume.proofs.Sizes.{length-block_text}
-use Rattle.bx_format.specs.Formats.{areas_truth, HasNoRecords, HasSizes, HoldsBlocks}
+use Rattle.bx_format.specs.Formats.{areas_truth, HasSizes, HoldsBlocks}
 use Rattle.bx_format.proofs.Made.{free_parts}
 use Rattle.bx_format.proofs.Puts.{room_on}
 
@@ -59,9 +59,3 @@ blank_holds sizes devices areas volume has = record {
 
     within : (member : Bool) (at : ℕ) → IsBlock areas at → (i : ℕ) → i < 9 → (block_place at devices).1 + i < slice_index sizes (member_disk (block_place at devices).0 member)
     within member at is i less = let r = room_on sizes devices areas at member has volume is in omega (arith, r, less)
-
-pub blank_none : (sizes : List ℕ) → HasNoRecords sizes (blank_image sizes)
-blank_none sizes = record { zero = λ disk sector low high less. rw (the disk sector less) refl }
-  where
-    the : (disk s : ℕ) → s < slice_index sizes disk → nat_lt s (slice_index sizes disk) ≡ true
-    the disk s less = grind (arith, nat_tests, less)

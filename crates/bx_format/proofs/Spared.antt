@@ -118,13 +118,6 @@ leaves_bare_then old x y a b c past between since first bare spares =
 
 -- ---- disks that are labelled
 
-pub spares_any : (Kind : ℕ → ℕ → Type 0) (x y : Disks) (a b : ℕ) (past since : ℕ → Image → Type 0) → Spares IsAnySector x y a b past since → Spares Kind x y a b past since
-spares_any Kind x y a b past since spares = record {
-  reads = λ d s kind. spares.reads d s tt;
-  sure = λ d s kind. spares.sure d s tt;
-  moments = leaves_implies a b past since (HasSureOf IsAnySector x) (HasSureOf Kind x) spares.moments (λ image has. record { each = λ d s kind. has.each d s tt });
-}
-
 module _ (x y : Disks) (a b : ℕ) (past between : ℕ → Image → Type 0) (first : Spares IsAnySector x y a b past between) where
   -- they are made sure
   pub leaves_synced : LeavesOnly a b past between (IsBareOrBehind x)

@@ -2,7 +2,7 @@
 
 ghost use Rattle.std.specs.Prelude.{◌≡◌, ◌<◌, IfOk};
 ghost use Rattle.bx_layout.specs.Areas.{IsArea};
-ghost use Rattle.bx_truth.specs.Opening.{area_block, free_block, opening_slots, opening_truth, page_block, root_block};
+ghost use Rattle.bx_truth.specs.Opening.{area_block, opening_slots, page_block, root_block};
 
 use bx_base::{OutOfMemory, Raw};
 use bx_layout::{AreaBlock, Block, Inode};
@@ -14,21 +14,6 @@ use std::alloc::Global;
 const ROOT: u64 = 1;
 
 const ROOT_PAGE: u64 = 0x1_0000_0001;
-
-/// The block with a number.
-pub fn opening_block(alloc: Global, block: u16) -> Result<Block, OutOfMemory>
-    ensures { IfOk result (λ made. made ≡ opening_truth block) }
-{
-    if block % 1024 == 960 {
-        own_block(alloc, block / 1024)
-    } else if block == 0 {
-        inode_block(alloc)
-    } else if block == 1 {
-        tree_block(alloc)
-    } else {
-        no_block(alloc)
-    }
-}
 
 /// The slots of an area: the first two of the first area are taken.
 fn slots_of(alloc: Global, area: u16) -> Result<AreaBlock, OutOfMemory>
@@ -97,16 +82,5 @@ pub(crate) fn tree_block(alloc: Global) -> Result<Block, OutOfMemory>
         handle: ROOT_PAGE,
         kind: 2,
         payload: Raw::of(alloc, &payload)?,
-    })
-}
-
-/// A block that no handle names.
-fn no_block(alloc: Global) -> Result<Block, OutOfMemory>
-    ensures { IfOk result (λ made. made ≡ free_block) }
-{
-    Ok(Block {
-        handle: 0,
-        kind: 0,
-        payload: Raw::of(alloc, &[0; 4096])?,
     })
 }

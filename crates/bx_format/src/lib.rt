@@ -8,6 +8,5 @@ mod laws;
 mod shapes;
 mod volumes;
 
-pub use blocks::opening_block;
 pub use laws::what_is_formatted_is_at_rest;
 pub use volumes::{format, label_disks, lay_out};

@@ -1,6 +1,6 @@
 -- What is left of all nodes where a call comes to one of them, or one meets its session.
 use Rattle.std.proofs.Common.{◌≡◌, ◌≢◌, ◌⊎◌, ⊎_elim, inl, inr, ◌∙◌, ℕ, zero, suc, ◌+◌, ◌*◌, ◌<◌, ◌≤◌, Bool, false, List, [], ◌∷◌, length, Option, Some, None, IfSome, IsSomeAnd, OnOk, Result, Ok, Err, refl, sym, ap, subst, arith}
-use Rattle.std.specs.Prelude.{◌↔◌, ◌++◌, is_some, option_map, slice_get}
+use Rattle.std.specs.Prelude.{◌↔◌, ◌++◌, option_map, slice_get}
 use Rattle.std.proofs.lemmas.List.Elements.{Contains-append_left, Contains-push, Contains-push_cases}
 use Rattle.bx_facts.specs.declared.register.Register as register
 use Rattle.bx_facts.specs.declared.store.Store as store
@@ -10,7 +10,7 @@ use Rattle.bx_node_rounds.specs.Rounds.{AreNumbered, AreReady, AreTold, HasSessi
 use Rattle.bx_node_rounds.specs.declared.cluster.Cluster.{Cluster}
 use Rattle.bx_node_rounds.proofs.Nodes.{both_there, ready_still}
 use Rattle.bx_node_steps.specs.Calls.{AreApart, CallOf, IsAmong, IsThat, KeepsCalls, WaitsAt, call_of, call_written, under_way}
-use Rattle.bx_node_steps.specs.Tidying.{is_tidying}
+use Rattle.bx_node_steps.specs.Tidying.{is_awake, is_tidying}
 use Rattle.bx_node_steps.specs.declared.machine.Machine.{Machine}
 use Rattle.bx_node_tries.specs.declared.round.Waiting.{Waiting}
 use Rattle.bx_nodes.specs.Calls.{AddsCall, IsNewest, WaitsBehind}
@@ -306,7 +306,7 @@ module _ {G O S E T : Type 0} (g : register.Ghosts G) (st : store.Ghosts S) (e :
 -- a node that has nothing tidies nothing
 pub first_tidies : (devices areas : ℕ) (found : Option Machine) → IfSome found (IsFirst devices areas) → tidies_at found ≡ false
 first_tidies devices areas None first = refl
-first_tidies devices areas (Some machine) first = ap is_some first.has.tidy
+first_tidies devices areas (Some machine) first = ap is_awake first.has.tidy
 
 pub on_ok_then : {A F : Type 0} (P Q : Type 0) (r : Result A F) → (P → Q) → OnOk r P → OnOk r Q
 on_ok_then P Q (Ok a) gives is = gives is

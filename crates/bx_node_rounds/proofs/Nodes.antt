@@ -1,9 +1,10 @@
 -- What is left of all nodes where one of them does something.
-use Rattle.std.proofs.Common.{◌≡◌, ◌≢◌, ◌⊎◌, ⊎_elim, ◌∙◌, ℕ, ◌*◌, ◌<◌, List, length, Option, Some, None, IfOk, IfSome, IsSomeAnd, OnOk, Result, Ok, Err, sym, ap, subst, arith}
+use Rattle.std.proofs.Common.{◌≡◌, ◌≢◌, ◌⊎◌, ⊎_elim, ◌∙◌, ℕ, ◌*◌, ◌<◌, List, length, Option, Some, None, IfOk, IfSome, IsSome, IsSomeAnd, OnOk, Result, Ok, Err, refl, sym, ap, subst, arith}
 use Rattle.std.specs.Prelude.{option_map, slice_get}
 use Rattle.bx_disk.specs.Disks.{Disks}
 use Rattle.bx_facts.specs.declared.register.Register as register
 use Rattle.bx_facts.specs.declared.store.Store as store
+use Rattle.bx_facts.specs.Holds.{first_of}
 use Rattle.bx_facts.specs.Writes.{Asked, Made}
 use Rattle.bx_nodes.specs.bx_node_openings.specs.Opening.{opening_clocks}
 use Rattle.bx_node_rounds.specs.Rounds.{AreReady, AreTold, IsTurn, Rounded, Standing, StandsClean, session_at}
@@ -11,7 +12,7 @@ use Rattle.bx_node_rounds.specs.declared.cluster.Cluster.{Cluster}
 use Rattle.bx_node_rounds.proofs.Turning.{numbered_then, told_then, which}
 use Rattle.bx_node_steps.specs.Calls.{AnswersCalls, AreApart}
 use Rattle.bx_node_steps.specs.Ready.{WasReady}
-use Rattle.bx_node_steps.specs.Tidying.{TidyGoes}
+use Rattle.bx_node_steps.specs.Tidying.{GoesOn, NoTidy, TidyGoes}
 use Rattle.bx_node_steps.specs.declared.machine.Machine.{Machine}
 use Rattle.bx_node_steps.specs.declared.machine.Tidy.{Tidy}
 use Rattle.bx_node_tries.specs.declared.round.Said.{Said}
@@ -72,7 +73,7 @@ module _ {G O S E T : Type 0} where
       (if_there (λ b. IfSome (slice_get new.machines.items node) (P b)) (slice_get old.machines.items node) before was both)
 
   module _ (moment node : ℕ) (old new : Nodes G O S E T) (said : List Said) (there : node < length old.machines.items) (count : length new.machines.items ≡ length old.machines.items)
-      (answers : OfBoth old new node (λ old new. AreApart old → AnswersCalls moment old new said)) (session : OfBoth old new node (λ old new. new.session ≡ old.session)) (tidies : OfBoth old new node TidyGoes)
+      (answers : OfBoth old new node (λ old new. AreApart old → AnswersCalls moment old new said)) (session : OfBoth old new node (λ old new. new.session ≡ old.session)) (asked : Option (ℕ × ℕ)) (tidies : OfBoth old new node (TidyGoes (IsSome asked)))
       (others : OnlyMachine node old.machines.items new.machines.items) (apart : OfNode old node AreApart) where
     before : (machine : Machine) × (slice_get old.machines.items node ≡ Some machine)
     before = there_is old.machines.items node there
@@ -86,7 +87,8 @@ module _ {G O S E T : Type 0} where
       answers = λ machine is.
           and_some (λ now. AnswersCalls moment machine now said) (slice_get new.machines.items node) after.0 after.1
           (both_there (λ old new. AreApart old → AnswersCalls moment old new said) old new node machine after.0 is after.1 answers (if_there AreApart (slice_get old.machines.items node) machine is apart));
-      tidies = λ machine is. and_some (TidyGoes machine) (slice_get new.machines.items node) after.0 after.1 (both_there TidyGoes old new node machine after.0 is after.1 tidies);
+      asked = asked;
+      tidies = λ machine is. and_some (TidyGoes (IsSome asked) machine) (slice_get new.machines.items node) after.0 after.1 (both_there (TidyGoes (IsSome asked)) old new node machine after.0 is after.1 tidies);
       sessions = ap (option_map (λ (m : Machine). m.session)) after.1 ∙ ap (λ (s : Option ℕ). Some s) (both_there (λ old new. new.session ≡ old.session) old new node before.0 after.0 before.1 after.1 session)
           ∙ sym (ap (option_map (λ (m : Machine). m.session)) before.1);
       others = others.others;
@@ -147,8 +149,8 @@ module _ {G O S E T : Type 0} where
     pub turn_clean : (o : owners.Ghosts O) (moment node : ℕ) (new : Nodes G O S E T) (said : List Said) → IsTurn moment node old.nodes.machines.items new.machines.items said → node < old.count → (x : Disks) (tree : T) (letters : List Letter) (course : Course)
         → AreTold old.latest old.nodes.machines.items course.logs → (turned : Turned (e.step old.nodes.engine) (Stand g o st e new x letters opening_clocks) course tree said)
         → OfBoth old.nodes new node (λ before after. CleansArea (e.is_clean old.nodes.engine turned.later.truth) (st.made old.nodes.store).areas before.tidy after.tidy)
-        → StandsClean g o st e old (record old { nodes = new }) node x
-    turn_clean o moment node new said turn less x tree letters course told turned clean = record {
+        → ((other : ℕ) → o.own new.owners other ≡ o.own old.nodes.owners other) → OfBoth old.nodes new node (TidyGoes (IsSome (first_of (o.asks old.nodes.owners node)))) → StandsClean g o st e old (record old { nodes = new }) node x
+    turn_clean o moment node new said turn less x tree letters course told turned clean own tidies = record {
       tree = turned.next;
       stands = record {
         letters = letters;
@@ -157,6 +159,9 @@ module _ {G O S E T : Type 0} where
         told = told_then moment node old.latest old.nodes.machines.items new.machines.items said its.0 its.1 turn course.logs turned.later.logs ready.numbered told turned.logged;
       };
       clean = clean;
+      owners = old.nodes.owners;
+      own = own;
+      tidies = tidies;
     }
       where
         its : (machine : Machine) × (slice_get old.nodes.machines.items node ≡ Some machine)
@@ -174,6 +179,21 @@ same_clean IsClean areas old new node same = rw same (by (slice_get old.machines
     by None = tt
     by (Some machine) = clean_still IsClean areas machine.tidy
 
+-- and it is as it was
+tidy_still : (Asked : Type 0) (machine : Machine) → TidyGoes Asked machine machine
+tidy_still Asked machine = by machine.tidy refl
+  where
+    by : (found : Option Tidy) → machine.tidy ≡ found → TidyGoes Asked machine machine
+    by None is = NoTidy is is
+    by (Some tidy) is = GoesOn tidy is is
+
+same_tidies : {G O S E T : Type 0} (Asked : Type 0) (old new : Nodes G O S E T) (node : ℕ) → new.machines ≡ old.machines → OfBoth old new node (TidyGoes Asked)
+same_tidies Asked old new node same = rw same (by (slice_get old.machines.items node))
+  where
+    by : (found : Option Machine) → IfSome found (λ before. IfSome found (TidyGoes Asked before))
+    by None = tt
+    by (Some machine) = tidy_still Asked machine
+
 -- Where nodes are left as they were, no tidy of theirs is over.
 pub clean_left : {G O S E T : Type 0} (g : register.Ghosts G) (o : owners.Ghosts O) (st : store.Ghosts S) (e : engine.Ghosts E T) (old new : Cluster G O S E T) (node : ℕ) (x : Disks) (tree : T) → new.nodes.machines ≡ old.nodes.machines
     → Standing g o st e new x tree → StandsClean g o st e old new node x
@@ -181,12 +201,22 @@ clean_left g o st e old new node x tree same stands = record {
   tree = tree;
   stands = stands;
   clean = same_clean (e.is_clean old.nodes.engine stands.course.truth) (st.made old.nodes.store).areas old.nodes new.nodes node same;
+  owners = new.nodes.owners;
+  own = λ other. refl;
+  tidies = same_tidies (IsSome (first_of (o.asks new.nodes.owners node))) old.nodes new.nodes node same;
 }
 
 -- .. by what the nodes were before their disks were asked.
 pub clean_from : {G O S E T : Type 0} (g : register.Ghosts G) (o : owners.Ghosts O) (st : store.Ghosts S) (e : engine.Ghosts E T) (old middle new : Cluster G O S E T) (node : ℕ) (x : Disks) → middle.nodes.machines ≡ old.nodes.machines
     → middle.nodes.engine ≡ old.nodes.engine → st.made middle.nodes.store ≡ st.made old.nodes.store → StandsClean g o st e middle new node x → StandsClean g o st e old new node x
-clean_from g o st e old middle new node x machines engine made clean = record { tree = clean.tree; stands = clean.stands; clean = rw (machines, engine, made) at clean.clean }
+clean_from g o st e old middle new node x machines engine made clean = record {
+  tree = clean.tree;
+  stands = clean.stands;
+  clean = rw (machines, engine, made) at clean.clean;
+  owners = clean.owners;
+  own = clean.own;
+  tidies = rw machines at clean.tidies;
+}
 
 -- A turn leaves all sessions.
 pub sessions_turn : (moment node : ℕ) (old new : List Machine) (said : List Said) → IsTurn moment node old new said → (other : ℕ) → session_at new other ≡ session_at old other

@@ -1,6 +1,6 @@
 -- What a tick of a node leaves of all nodes.
 use Rattle.std.proofs.Common.{◌≡◌, ◌≢◌, ◌⊎◌, ⊎_elim, ◌∙◌, ℕ, zero, suc, ◌<◌, Bool, true, false, length, Option, Some, None, IfSome, IsSomeAnd, refl, sym, ap, subst, arith}
-use Rattle.std.specs.Prelude.{◌↔◌, ◌||◌, is_some, option_map, slice_get}
+use Rattle.std.specs.Prelude.{◌↔◌, ◌||◌, option_map, slice_get}
 use Rattle.bx_facts.specs.declared.register.Register as register
 use Rattle.bx_facts.specs.declared.store.Store as store
 use Rattle.bx_node_rounds.specs.Quiet.{any_below, tidies_at, tidies_in}
@@ -8,7 +8,7 @@ use Rattle.bx_node_rounds.specs.Rounds.{AreReady, AreTold, HaveStill, Waits, act
 use Rattle.bx_node_rounds.specs.declared.cluster.Cluster.{Cluster}
 use Rattle.bx_node_rounds.proofs.Coming.{Changed, changed_at, if_there, numbered_on, ready_with, there_if, told_on}
 use Rattle.bx_node_steps.specs.Calls.{AreApart, CallOf, WaitsAt, under_way}
-use Rattle.bx_node_steps.specs.Tidying.{Ticks}
+use Rattle.bx_node_steps.specs.Tidying.{Ticks, is_awake, is_tidying}
 use Rattle.bx_node_steps.specs.declared.machine.Machine.{Machine}
 use Rattle.bx_node_steps.specs.declared.machine.Tidy.{Tidy}
 use Rattle.bx_nodes.specs.Standing.{BeReady, OfBoth, OfNode}
@@ -40,19 +40,12 @@ same_or : (a b : ℕ) → (a ≡ b) ⊎ (a ≢ b)
 same_or a b = grind arith
 
 -- what a tick does to a tidy
-begun : (old new : Machine) → Ticks old new → ((call : CallOf) → WaitsAt old call → ⊥) → is_some new.tidy ≡ true
+begun : (old new : Machine) → Ticks old new → ((call : CallOf) → WaitsAt old call → ⊥) → is_tidying new ≡ true
 begun old new ticks none = by old.tidy refl
   where
-    by : (tidy : Option Tidy) → old.tidy ≡ tidy → is_some new.tidy ≡ true
-    by None is = ap is_some (ticks.begins is none)
-    by (Some tidy) is = ap is_some (subst (λ (t : Option Tidy). IfSome t (λ one. new.tidy ≡ Some (record { tick = one.tick; rests = false }))) is ticks.goes)
-
-goes_on : (old new : Machine) (call : CallOf) → Ticks old new → WaitsAt old call → is_some new.tidy ≡ is_some old.tidy
-goes_on old new call ticks waits = by old.tidy refl
-  where
-    by : (tidy : Option Tidy) → old.tidy ≡ tidy → is_some new.tidy ≡ is_some old.tidy
-    by None is = ap is_some (ticks.waits is call waits) ∙ sym (ap is_some is)
-    by (Some tidy) is = ap is_some (subst (λ (t : Option Tidy). IfSome t (λ one. new.tidy ≡ Some (record { tick = one.tick; rests = false }))) is ticks.goes) ∙ sym (ap is_some is)
+    by : (tidy : Option Tidy) → old.tidy ≡ tidy → is_tidying new ≡ true
+    by None is = ap is_awake (ticks.begins is none)
+    by (Some tidy) is = ap is_awake (subst (λ (t : Option Tidy). IfSome t (λ one. ((call : CallOf) → WaitsAt old call → ⊥) → new.tidy ≡ Some (record { tick = one.tick; rests = false }))) is ticks.wakes none)
 
 module _ {G O S E T : Type 0} (node : ℕ) (old new : Nodes G O S E T) (there : node < length old.machines.items) (count : length new.machines.items ≡ length old.machines.items)
     (ticks : OfBoth old new node Ticks) (others : OnlyMachine node old.machines.items new.machines.items) where
@@ -88,7 +81,7 @@ module _ {G O S E T : Type 0} (node : ℕ) (old new : Nodes G O S E T) (there : 
   begins_ticked none = ap tidies_at pair.is ∙ begun pair.before pair.after pair.says (λ call waits. none call (subst (λ (f : Option Machine). IsSomeAnd f (λ m. WaitsAt m call)) (sym pair.was) waits))
 
   pub busy_ticked : (call : CallOf) → Waits old.machines.items node call → tidies_in new.machines.items node ≡ tidies_in old.machines.items node
-  busy_ticked call waits = ap tidies_at pair.is ∙ goes_on pair.before pair.after call pair.says (subst (λ (f : Option Machine). IsSomeAnd f (λ m. WaitsAt m call)) pair.was waits) ∙ sym (ap tidies_at pair.was)
+  busy_ticked call waits = ap tidies_at pair.is ∙ ap is_awake (pair.says.waits call (subst (λ (f : Option Machine). IsSomeAnd f (λ m. WaitsAt m call)) pair.was waits)) ∙ sym (ap tidies_at pair.was)
 
   apart_here : IfSome (slice_get old.machines.items node) AreApart → AreApart pair.after
   apart_here was = rw pair.says.only (let apart = if_there AreApart (slice_get old.machines.items node) pair.before pair.was was in record { order = apart.order; other = apart.other })

@@ -1,9 +1,10 @@
 -- How nodes stand that are driven in rounds, and what a round makes of them.
-use Rattle.std.specs.Prelude.{◌≡◌, ◌≢◌, ℕ, ◌+◌, ◌*◌, ◌<◌, ◌≤◌, List, [], ◌++◌, Contains, IfSome, IsSomeAnd, Option, None, Some, length, map, option_map, reverse, slice_get, slice_index}
+use Rattle.std.specs.Prelude.{◌≡◌, ◌≢◌, ℕ, ◌+◌, ◌*◌, ◌<◌, ◌≤◌, List, [], ◌++◌, Contains, IfSome, IsSome, IsSomeAnd, Option, None, Some, length, map, option_map, reverse, slice_get, slice_index}
 use Rattle.bx_disk.specs.Disks.{Disks}
 use Rattle.bx_facts.specs.declared.register.Register as register
 use Rattle.bx_facts.specs.declared.store.Store as store
 use Rattle.bx_facts.specs.Disks.{HasRoom}
+use Rattle.bx_facts.specs.Holds.{first_of}
 use Rattle.bx_facts.specs.Writes.{store_room}
 use Rattle.bx_nodes.specs.bx_node_openings.specs.Opening.{opening_clocks}
 use Rattle.bx_node_rounds.specs.declared.cluster.Cluster.{Cluster}
@@ -73,10 +74,11 @@ pub record HaveStill (old new : List Machine) : Type 0 where
 abbrev pub at_node : ℕ → Said → Told
 at_node node said = record { node = node; said = said }
 
--- One node has its turn at a moment: it answers calls, its tidy goes on, and all other nodes are as they were.
+-- One node has its turn at a moment: it answers calls, its tidy goes on, or rests where the node was asked for a block, and all other nodes are as they were.
 pub record IsTurn (moment node : ℕ) (old new : List Machine) (said : List Said) : Type 0 where
   pub answers : (machine : Machine) → slice_get old node ≡ Some machine → IsSomeAnd (slice_get new node) (λ now. AnswersCalls moment machine now said)
-  pub tidies : (machine : Machine) → slice_get old node ≡ Some machine → IsSomeAnd (slice_get new node) (TidyGoes machine)
+  pub asked : Option (ℕ × ℕ)
+  pub tidies : (machine : Machine) → slice_get old node ≡ Some machine → IsSomeAnd (slice_get new node) (TidyGoes (IsSome asked) machine)
   pub sessions : session_at new node ≡ session_at old node
   pub others : (other : ℕ) → other ≢ node → slice_get new other ≡ slice_get old other
 
@@ -124,11 +126,15 @@ module _ {G O S E T : Type 0} (g : register.Ghosts G) (o : owners.Ghosts O) (st 
     pub stands : Stand g o st e cluster.nodes x letters opening_clocks course tree
     pub told : AreTold cluster.latest cluster.nodes.machines.items course.logs
 
-  -- After a turn of a node a cluster stands on these disks for some tree; and where a tidy of the node is over since, the area that it cleaned has no dead file.
+  -- After a turn of a node a cluster stands on these disks for some tree. Where a tidy of the node is over since, the area that it cleaned has no dead file; and where one came to rest, the node
+  -- was asked for a block when its turn began, by owners under which each node had the session that it has.
   pub record StandsClean (old new : Cluster G O S E T) (node : ℕ) (x : Disks) : Type 0 where
     pub tree : T
     pub stands : Standing new x tree
     pub clean : OfBoth old.nodes new.nodes node (λ before after. CleansArea (e.is_clean old.nodes.engine stands.course.truth) (st.made old.nodes.store).areas before.tidy after.tidy)
+    pub owners : O
+    pub own : (other : ℕ) → o.own new.nodes.owners other ≡ o.own owners other
+    pub tidies : OfBoth old.nodes new.nodes node (TidyGoes (IsSome (first_of (o.asks owners node))))
 
 -- The answers lead to a next tree, for which something stands.
 pub record Rounded {E T : Type 0} (e : engine.Ghosts E T) (engine_is : E) (Stands_then : T → Type 0) (tree : T) (said : List Said) : Type 0 where

@@ -14,7 +14,7 @@ use bx_owners::Owners;
 use bx_views::Engine;
 
 impl<G: Register, O: Owners, S: Store, E: Engine> Cluster<G, O, S, E> {
-    /// The clock of a node ticks: where no call waits at it and no tidy of it is under way, one begins. It takes no memory.
+    /// The clock of a node ticks: where no call waits at it, a tidy of it that rests does so no more, and where there is none one begins. It takes no memory.
     pub fn tick(&mut self, node: u32)
         requires there { node < length self.old.nodes.machines.items }
         ensures begins { ((call : CallOf) → Waits self.old.nodes.machines.items node call → ⊥) → tidies_in self.new.nodes.machines.items node ≡ true }

@@ -1,5 +1,5 @@
 -- Tidies: an area of the volume is cleaned of dead files, a little in each turn in which no call waits.
-use Rattle.std.specs.Prelude.{◌≡◌, ℕ, ◌+◌, ◌%◌, ◌<◌, ◌==◌, ◌||◌, Bool, false, true, not, List, length, Some, None, IfSome, is_some}
+use Rattle.std.specs.Prelude.{◌≡◌, ℕ, ◌+◌, ◌%◌, ◌<◌, ◌==◌, ◌||◌, Bool, false, true, not, List, length, Option, Some, None, IfSome}
 use Rattle.bx_node_steps.specs.Calls.{CallOf, WaitsAt}
 use Rattle.bx_node_steps.specs.declared.machine.Machine.{Machine}
 use Rattle.bx_node_steps.specs.declared.machine.Stage.{Stage}
@@ -12,15 +12,15 @@ use Rattle.bx_records.specs.Drafts.{Changed}
 abbrev pub area_of : ℕ → Tidy → ℕ
 area_of areas tidy = tidy.tick % areas
 
--- The clock of a node ticks: the tidy that is under way rests no more; where none is and no call waits, one begins, at this tick.
+-- The clock of a node ticks: where no call waits, a tidy that rests does so no more, and where there is none one begins, at this tick; where a call waits the tidy stays as it is.
 pub record Ticks (old new : Machine) : Type 0 where
   pub only : new ≡ record old { ticks = new.ticks; tidy = new.tidy }
   pub counts : old.ticks < 18446744073709551615 → new.ticks ≡ old.ticks + 1
-  pub goes : IfSome old.tidy (λ tidy. new.tidy ≡ Some (record { tick = tidy.tick; rests = false }))
+  pub wakes : IfSome old.tidy (λ tidy. ((call : CallOf) → WaitsAt old call → ⊥) → new.tidy ≡ Some (record { tick = tidy.tick; rests = false }))
   pub begins : old.tidy ≡ None → ((call : CallOf) → WaitsAt old call → ⊥) → new.tidy ≡ Some (record { tick = old.ticks; rests = false })
-  pub waits : old.tidy ≡ None → (call : CallOf) → WaitsAt old call → new.tidy ≡ None
+  pub waits : (call : CallOf) → WaitsAt old call → new.tidy ≡ old.tidy
 
--- An area is to be cleaned: a tidy of it is under way and doesn't rest, no call waits, and the log rests.
+-- An area is to be cleaned: a tidy of it is under way, no call waits, and the log rests.
 pub record IsToClean (machine : Machine) (area : ℕ) : Type 0 where
   pub tidy : Tidy
   pub is : machine.tidy ≡ Some tidy
@@ -37,15 +37,22 @@ tidying draft moment = record {
   point = record { call = 0; moment = moment; spare = 8; made = 0 };
 }
 
+-- whether there is a tidy that doesn't rest
+abbrev pub is_awake : Option Tidy → Bool
+is_awake None = false
+is_awake (Some tidy) = not tidy.rests
+
 -- whether a tidy is under way
 abbrev pub is_tidying : Machine → Bool
-is_tidying machine = is_some machine.tidy
+is_tidying machine = is_awake machine.tidy
 
--- What becomes of a tidy in a turn: where none was under way none is; it goes on, or rests; or it ends, where no call waits.
-pub data TidyGoes (old new : Machine) : Type 0 where
-  NoTidy : old.tidy ≡ None → new.tidy ≡ None → TidyGoes old new
-  GoesOn : (before then_is : Tidy) → old.tidy ≡ Some before → new.tidy ≡ Some then_is → then_is.tick ≡ before.tick → TidyGoes old new
-  Ends : (before : Tidy) → old.tidy ≡ Some before → new.tidy ≡ None → ((call : CallOf) → WaitsAt new call → ⊥) → TidyGoes old new
+-- What becomes of a tidy in a turn: where there was none there is none; it goes on, or rests still; one that was under way comes to rest, where the node was asked for a block and no call waits;
+-- or it ends, where no call waits.
+pub data TidyGoes (WasAsked : Type 0) (old new : Machine) : Type 0 where
+  NoTidy : old.tidy ≡ None → new.tidy ≡ None → TidyGoes WasAsked old new
+  GoesOn : (tidy : Tidy) → old.tidy ≡ Some tidy → new.tidy ≡ Some tidy → TidyGoes WasAsked old new
+  Rests : (before : Tidy) → old.tidy ≡ Some before → before.rests ≡ false → new.tidy ≡ Some (record before { rests = true }) → WasAsked → ((call : CallOf) → WaitsAt new call → ⊥) → TidyGoes WasAsked old new
+  Ends : (before : Tidy) → old.tidy ≡ Some before → new.tidy ≡ None → ((call : CallOf) → WaitsAt new call → ⊥) → TidyGoes WasAsked old new
 
 -- whether a log is for nothing
 abbrev pub is_idle : Stage → Bool

@@ -20,7 +20,7 @@ impl Machine {
     pub fn has_work(&self) -> bool
         ensures { result ≡ has_work self.now }
     {
-        !self.calls.is_empty() || !matches!(self.stage, Stage::Idle) || self.tidy.is_some()
+        !self.calls.is_empty() || !matches!(self.stage, Stage::Idle) || self.is_tidying()
     }
 
     /// The number of the call whose record is written.

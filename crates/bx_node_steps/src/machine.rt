@@ -57,12 +57,12 @@ pub struct Mark {
     pub last: CallNo,
 }
 
-/// A tidy that is under way: an area of the volume is cleaned of dead files.
+/// A tidy: an area of the volume is cleaned of dead files.
 #[derive(Clone, Copy, Debug)]
 pub struct Tidy {
     /// How many ticks had come when it began, which tells the area.
     pub tick: u64,
-    /// Whether it rests until the next tick, as the node was asked for a block.
+    /// Whether it rests, as the node was asked for a block: it isn't under way until a tick at which no call waits.
     pub rests: bool,
 }
 
@@ -85,7 +85,7 @@ pub struct Machine {
     pub mark: Option<Mark>,
     /// How many ticks came.
     pub ticks: u64,
-    /// The tidy that is under way.
+    /// The tidy that isn't over.
     pub tidy: Option<Tidy>,
 }
 

@@ -1,28 +1,38 @@
 //! Tidies.
 
-ghost use Rattle.std.specs.Prelude.{◌≡◌, ℕ, false, true, option_map, IfSome, None, Some};
-ghost use Rattle.bx_node_steps.specs.Tidying.{IsToClean, Ticks};
+ghost use Rattle.std.specs.Prelude.{◌≡◌, ℕ, true, option_map, IfSome, None};
+ghost use Rattle.bx_node_steps.specs.Tidying.{IsToClean, Ticks, is_tidying};
 
 use crate::machine::{Machine, Stage, Tidy};
 
 impl Machine {
-    /// Its clock ticks: the tidy that is under way rests no more; where none is and no call waits, one begins. It takes no memory.
+    /// Its clock ticks: where no call waits, a tidy that rests does so no more, and where there is none one begins. It takes no memory.
     pub fn tick(&mut self)
         ensures { Ticks self.old self.new }
     {
-        let tick = self.ticks;
-        self.ticks = tick.saturating_add(1);
-        if let Some(tidy) = self.tidy {
-            self.tidy = Some(Tidy {
-                tick: tidy.tick,
-                rests: false,
-            });
-        } else if !self.has_calls() {
-            self.tidy = Some(Tidy { tick, rests: false });
+        let now = self.ticks;
+        self.ticks = now.saturating_add(1);
+        if self.has_calls() {
+            return;
+        }
+        let tick = match self.tidy {
+            Some(tidy) => tidy.tick,
+            None => now,
+        };
+        self.tidy = Some(Tidy { tick, rests: false });
+    }
+
+    /// Whether a tidy is under way: there is one, and it doesn't rest.
+    pub fn is_tidying(&self) -> bool
+        ensures { result ≡ is_tidying self.now }
+    {
+        match self.tidy {
+            Some(tidy) => !tidy.rests,
+            None => false,
         }
     }
 
-    /// The tidy that is under way rests until the next tick.
+    /// Its tidy rests, until a tick at which no call waits.
     pub fn rest(&mut self)
         ensures { self.new ≡ record self.old { tidy = option_map (λ tidy. record { tick = tidy.tick; rests = true }) self.old.tidy } }
     {
@@ -34,7 +44,7 @@ impl Machine {
         }
     }
 
-    /// The area that is to be cleaned now: where a tidy is under way and doesn't rest, no call waits, and the log rests.
+    /// The area that is to be cleaned now: where a tidy is under way, no call waits, and the log rests.
     pub fn to_clean(&self) -> Option<u16>
         ensures some { IfSome result (IsToClean self.now) }
         ensures none { result ≡ None → (area : ℕ) → IsToClean self.now area → ⊥ }

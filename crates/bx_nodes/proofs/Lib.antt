@@ -7,6 +7,7 @@ pub mod Emptied
 pub mod Ending
 pub mod Fewer
 pub mod Firsts
+pub mod Giving
 pub mod GivingUp
 pub mod HoldingUp
 pub mod Leading

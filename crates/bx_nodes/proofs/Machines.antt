@@ -179,6 +179,9 @@ of_there Holds found before is holds = subst (λ (m : Option Machine). IfSome m 
 pub both_there : (Says : Machine → Machine → Type 0) (old new : Option Machine) (before after : Machine) → old ≡ Some before → new ≡ Some after → Says before after → IfSome old (λ a. IfSome new (Says a))
 both_there Says old new before after was is says = was_there (λ (m : Machine). IfSome new (Says m)) old before was (was_there (Says before) new after is says)
 
+pub two_there : (Says : Machine → Machine → Type 0) (old new : Option Machine) (before after : Machine) → old ≡ Some before → new ≡ Some after → IfSome old (λ a. IfSome new (Says a)) → Says before after
+two_there Says old new before after was is says = of_there (Says before) new after is (of_there (λ (m : Machine). IfSome new (Says m)) old before was says)
+
 -- What follows of what was found follows where it was.
 pub if_some : {A : Type 0} (found : Option A) (P Q : A → Type 0) → ((a : A) → P a → Q a) → IfSome found P → IfSome found Q
 if_some None P Q leads is = tt

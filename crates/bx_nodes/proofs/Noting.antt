@@ -1,5 +1,5 @@
 -- A node notes since when it is asked for what, or how many ticks came, or what its tidy does: all else stands as it did.
-use Rattle.std.proofs.Common.{◌≡◌, ◌∙◌, ⊎_elim, inl, inr, ℕ, List, Option, Some, IfSome, sym, ap, subst}
+use Rattle.std.proofs.Common.{◌≡◌, ◌∙◌, ⊎_elim, inl, inr, refl, ◌⊎◌, ℕ, List, All, Contains, Option, Some, IfSome, sym, ap, subst}
 use Rattle.std.specs.Prelude.{slice_get}
 use Rattle.std.specs.List.{AllByRecursion}
 use Rattle.std.proofs.lemmas.List.Elements.{All-from_recursion, All-weaker, recursion_from_All}
@@ -9,6 +9,7 @@ use Rattle.bx_disk.specs.Disks.{Disks}
 use Rattle.bx_facts.specs.Writes.{Asked, Made, Sent}
 use Rattle.bx_facts.specs.declared.register.Register as register
 use Rattle.bx_facts.specs.declared.store.Store as store
+use Rattle.bx_node_cache.specs.Kept.{held_in, hint_in, kept_in}
 use Rattle.bx_node_machines.specs.Machines.{MachineView}
 use Rattle.bx_node_machines.specs.Nodes.{NodesStand}
 use Rattle.bx_node_steps.specs.Ready.{IsReady, WasReady}
@@ -16,9 +17,13 @@ use Rattle.bx_node_steps.specs.Seen.{seen}
 use Rattle.bx_node_steps.specs.declared.machine.Machine.{Machine}
 use Rattle.bx_node_steps.specs.declared.machine.Mark.{Mark}
 use Rattle.bx_node_steps.specs.declared.machine.Tidy.{Tidy}
+use Rattle.bx_node_tries.specs.Tries.{AreNeeded}
+use Rattle.bx_node_tries.specs.declared.round.Said.{Said}
+use Rattle.bx_node_tries.specs.declared.round.Waiting.{Waiting}
 use Rattle.bx_nodes.specs.Asks.{IsAsking}
 use Rattle.bx_nodes.specs.Standing.{Asking, HasLease, Stand}
-use Rattle.bx_nodes.specs.Turns.{Waits}
+use Rattle.bx_nodes.specs.Turns.{AreNeededBy, TurnEnds, Waits}
+use Rattle.bx_nodes.specs.Turns.TurnEnds.{Worked, Writing}
 use Rattle.bx_nodes.specs.declared.nodes.Nodes.{Nodes}
 use Rattle.bx_nodes.specs.declared.turns.Lease.{Lease}
 use Rattle.bx_owners.specs.declared.owners.Owners as owners
@@ -55,21 +60,42 @@ module _ (IsAsked IsAsked_then : ℕ → Type 0) (on : (at : ℕ) → IsAsked at
   each_on needs all = recursion_from_All (AllByRecursion (λ (wanted : ℕ × Mode). IsAsked_then wanted.0)) needs
       (All-weaker (AllByRecursion (λ (wanted : ℕ × Mode). IsAsked wanted.0)) (AllByRecursion (λ (wanted : ℕ × Mode). IsAsked_then wanted.0)) one_on needs (All-from_recursion (AllByRecursion (λ (wanted : ℕ × Mode). IsAsked wanted.0)) needs all))
 
+-- what is needed, where the same calls wait and the same blocks are kept
+pub needed_as : {E T : Type 0} (e : engine.Ghosts E T) (engine_is : E) (needs : List (List (ℕ × Mode))) (first middle : Machine) (moment : ℕ) (a b : Machine) → b.calls.items ≡ a.calls.items → b.cache ≡ a.cache
+    → All (AreNeededBy e engine_is needs first middle a moment) needs → All (AreNeededBy e engine_is needs first middle b moment) needs
+needed_as e engine_is needs first middle moment a b calls cache needed =
+    All-weaker (AreNeededBy e engine_is needs first middle a moment) (AreNeededBy e engine_is needs first middle b moment)
+    (λ wants need. ⊎_elim (λ by_call. inl (subst (λ (l : List Waiting). AreNeeded e engine_is (held_in middle.cache.kept) (hint_in middle.cache.hinted) moment l wants) (sym calls) by_call))
+    (λ of_tidy. inr (record { before = of_tidy.before; tidy = of_tidy.tidy; is = of_tidy.is; fair = of_tidy.fair; keeps = λ at. subst (λ k. (kept_in k.kept at ≡ kept_in of_tidy.before.cache.kept at) ⊎ ((some : List (ℕ × Mode)) × Contains needs some × ((mode : Mode) × Contains some (at, mode)))) (sym cache) (of_tidy.keeps at) })) need) needs needed
+
 -- what it waits for, where the same is asked for
-module _ {O E T : Type 0} (o : owners.Ghosts O) (e : engine.Ghosts E T) (engine_is : E) (node moment session : ℕ) (out : Option Sent) (IsAsked IsAsked_then : ℕ → Type 0) (on : (at : ℕ) → IsAsked at → IsAsked_then at) where
-  pub waits_as : (machine : Machine) (mark : Option Mark) (ticks : ℕ) (tidy : Option Tidy) → Waits o e engine_is node moment session out IsAsked machine
-      → Waits o e engine_is node moment session out IsAsked_then (record machine { mark = mark; ticks = ticks; tidy = tidy })
+module _ {O E T : Type 0} (o : owners.Ghosts O) (e : engine.Ghosts E T) (engine_is : E) (node moment session : ℕ) (said : List Said) (before after : O) (out : Option Sent) (IsAsked IsAsked_then : ℕ → Type 0) (on : (at : ℕ) → IsAsked at → IsAsked_then at) (first : Machine) where
+  pub waits_as : (machine : Machine) (mark : Option Mark) (ticks : ℕ) (tidy : Option Tidy) → Waits o e engine_is node moment session said before after out IsAsked first machine
+      → Waits o e engine_is node moment session said before after out IsAsked_then first (record machine { mark = mark; ticks = ticks; tidy = tidy })
   waits_as machine mark ticks tidy stood = record {
-    owners_are = stood.owners_are;
     middle = stood.middle;
+    between = stood.between;
+    back = stood.back;
     given = stood.given;
+    calls = stood.calls;
+    answered = stood.answered;
     newest = stood.newest;
     noted = stood.noted;
     needs = stood.needs;
+    needed = needed_as e engine_is stood.needs first stood.middle moment machine (record machine { mark = mark; ticks = ticks; tidy = tidy }) refl refl stood.needed;
+    wanted = stood.wanted;
     causes = stood.causes;
+    left = stood.left;
     asking = ⊎_elim (λ some. inl some) (λ all. inr (each_on IsAsked IsAsked_then on stood.needs all)) stood.asking;
     keeps = stood.keeps;
   }
+
+-- and so how a turn leaves it
+pub ends_as : {O E T : Type 0} (o : owners.Ghosts O) (e : engine.Ghosts E T) (engine_is : E) (node moment session : ℕ) (answer : Option (List ℕ)) (asked : Option Asked) (said : List Said) (before after : O) (out : Option Sent) (IsAsked IsAsked_then : ℕ → Type 0) → ((at : ℕ) → IsAsked at → IsAsked_then at)
+    → (old machine : Machine) (mark : Option Mark) → TurnEnds o e engine_is node moment session answer asked said before after out IsAsked old machine → TurnEnds o e engine_is node moment session answer asked said before after out IsAsked_then old (record machine { mark = mark })
+ends_as o e engine_is node moment session answer asked said before after out IsAsked IsAsked_then on old machine mark (Writing some same) = Writing some same
+ends_as o e engine_is node moment session answer asked said before after out IsAsked IsAsked_then on old machine mark (Worked first comes waits) =
+    Worked first comes (waits_as o e engine_is node moment session said before after out IsAsked IsAsked_then on first machine mark machine.ticks machine.tidy waits)
 
 -- ---- nodes
 
@@ -108,11 +134,12 @@ module _ {G O S E T : Type 0} (g : register.Ghosts G) (o : owners.Ghosts O) (st 
         (subst (λ en. WasReady (st.made new.store) (e.areas en) (st.asked new.store node) (record machine { mark = mark; ticks = ticks; tidy = tidy })) (sym same.3)
         (subst (λ s. WasReady (st.made s) (e.areas old.engine) (st.asked s node) (record machine { mark = mark; ticks = ticks; tidy = tidy })) (sym same.2) marked))
 
-    pub waits_noted : (moment session : ℕ) → IfSome (slice_get old.machines.items node) (Waits o e old.engine node moment session (st.out_of old.store node) (Asking g o old node))
-        → IfSome (slice_get new.machines.items node) (Waits o e new.engine node moment session (st.out_of new.store node) (Asking g o new node))
-    waits_noted moment session waits =
-        let stood = subst (λ (m : Option Machine). IfSome m (Waits o e old.engine node moment session (st.out_of old.store node) (Asking g o old node))) was waits in
-        let marked = waits_as o e old.engine node moment session (st.out_of old.store node) (Asking g o old node) (Asking g o new node) asking_noted machine mark ticks tidy stood in
-        subst (λ (m : Option Machine). IfSome m (Waits o e new.engine node moment session (st.out_of new.store node) (Asking g o new node))) (sym is)
-        (subst (λ en. Waits o e en node moment session (st.out_of new.store node) (Asking g o new node) (record machine { mark = mark; ticks = ticks; tidy = tidy })) (sym same.3)
-        (subst (λ s. Waits o e old.engine node moment session (st.out_of s node) (Asking g o new node) (record machine { mark = mark; ticks = ticks; tidy = tidy })) (sym same.2) marked))
+    pub waits_noted : (moment session : ℕ) (said : List Said) (owners_before : O) (first : Machine) → IfSome (slice_get old.machines.items node) (Waits o e old.engine node moment session said owners_before old.owners (st.out_of old.store node) (Asking g o old node) first)
+        → IfSome (slice_get new.machines.items node) (Waits o e new.engine node moment session said owners_before new.owners (st.out_of new.store node) (Asking g o new node) first)
+    waits_noted moment session said owners_before first waits =
+        let stood = subst (λ (m : Option Machine). IfSome m (Waits o e old.engine node moment session said owners_before old.owners (st.out_of old.store node) (Asking g o old node) first)) was waits in
+        let marked = waits_as o e old.engine node moment session said owners_before old.owners (st.out_of old.store node) (Asking g o old node) (Asking g o new node) asking_noted first machine mark ticks tidy stood in
+        subst (λ (m : Option Machine). IfSome m (Waits o e new.engine node moment session said owners_before new.owners (st.out_of new.store node) (Asking g o new node) first)) (sym is)
+        (subst (λ en. Waits o e en node moment session said owners_before new.owners (st.out_of new.store node) (Asking g o new node) first (record machine { mark = mark; ticks = ticks; tidy = tidy })) (sym same.3)
+        (subst (λ s. Waits o e old.engine node moment session said owners_before new.owners (st.out_of s node) (Asking g o new node) first (record machine { mark = mark; ticks = ticks; tidy = tidy })) (sym same.2)
+        (subst (λ w. Waits o e old.engine node moment session said owners_before w (st.out_of old.store node) (Asking g o new node) first (record machine { mark = mark; ticks = ticks; tidy = tidy })) (sym same.1) marked)))

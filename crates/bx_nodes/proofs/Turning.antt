@@ -1,16 +1,19 @@
 -- What a node waits for at the end of a turn.
-use Rattle.std.proofs.Common.{◌≡◌, ◌⊎◌, ◌∙◌, inl, inr, ℕ, ◌+◌, ◌<◌, ◌≤◌, true, List, [], ◌∷◌, ◌++◌, length, Contains, All, Option, Some, None, IfSome, IsSome, refl, sym, ap, subst, arith}
+use Rattle.std.proofs.Common.{◌≡◌, ◌⊎◌, ⊎_elim, ◌∙◌, inl, inr, ℕ, ◌+◌, ◌<◌, ◌≤◌, true, List, [], ◌∷◌, ◌++◌, length, Contains, All, Option, Some, None, IfSome, IsSome, refl, sym, ap, subst, arith}
 use Rattle.std.specs.List.{AllByRecursion}
+use Rattle.std.specs.Prelude.{IsSomeAnd}
 use Rattle.std.proofs.lemmas.Bool.Decides.{nat_tests}
-use Rattle.std.proofs.lemmas.List.{length-append}
-use Rattle.std.proofs.lemmas.List.Elements.{All-contains_itself, All-weaker, recursion_from_All}
+use Rattle.std.proofs.lemmas.List.{append_assoc, append-nil, length-append}
+use Rattle.std.proofs.lemmas.List.Elements.{All-contains_itself, All-nil, All-weaker, Contains-append_left, Contains-append_right, Contains-push, Contains-push_cases, recursion_from_All}
 use Rattle.bx_base.specs.declared.names.Mode.{Mode}
+use Rattle.bx_facts.proofs.Lists.{nothing}
 use Rattle.bx_facts.specs.Holds.{first_of}
 use Rattle.bx_facts.specs.Writes.{Asked, Sent}
 use Rattle.bx_node_cache.specs.Kept.{held_in, hint_in, kept_in}
+use Rattle.bx_node_steps.specs.Calls.{IsAnswered}
 use Rattle.bx_node_steps.specs.Changing.{TakesAnswer}
-use Rattle.bx_node_steps.specs.Gives.{MayKeep}
 use Rattle.bx_node_steps.specs.Logging.{Closed, LogGoes, Rests, SendsClosing, SendsGate, SendsHomes, SendsShut}
+use Rattle.bx_node_steps.specs.declared.machine.Stage.{Stage}
 use Rattle.bx_node_steps.specs.declared.machine.Stage.TheVariants.{Idle}
 use Rattle.bx_node_tries.specs.declared.round.Said.{Said}
 use Rattle.bx_node_steps.specs.declared.machine.Machine.{Machine}
@@ -26,7 +29,9 @@ use Rattle.bx_nodes.specs.Sending.{IsSentBy, StepsLog}
 use Rattle.bx_nodes.specs.declared.answers.Attempted.{Attempted}
 use Rattle.bx_nodes.proofs.Machines.{count_waiting}
 use Rattle.bx_records.specs.Runs.{KindAndRuns}
-use Rattle.bx_nodes.specs.Turns.{HasCause, Waits, newest_of}
+use Rattle.bx_nodes.proofs.Giving.{AreOf, gives_on, wanted_none}
+use Rattle.bx_nodes.specs.Giving.{AreWanted, GivesBack, IsInNeeds}
+use Rattle.bx_nodes.specs.Turns.{AreNeededBy, HasCause, Waits, newest_of}
 use Rattle.bx_nodes.specs.Turns.HasCause.{AskedBack, Needs, Over, Writes}
 use Rattle.bx_owners.specs.declared.owners.Owners as owners
 use Rattle.bx_places.specs.Places.{IsBlock, is_block}
@@ -69,62 +74,209 @@ all_need e engine_is held hints moment made calls needs same all = recursion_fro
     (All-weaker (AreNeeded e engine_is held hints moment calls) (AllByRecursion (λ (wanted : ℕ × Mode). IsBlock made wanted.0))
     (λ wants is. one_needs (e.areas engine_is) made held (e.path engine_is is.call.client is.call.message held hints) wants same is.tried.fair) needs all)
 
+-- ---- calls that are attempted
+
+settled_from : (moment : ℕ) (calls : List Waiting) (old new : Round) → AllGo moment calls old new → (call : Waiting) → Contains new.waiting.items call → Contains old.waiting.items call ⊎ Contains calls call
+settled_from moment calls old new (NoneGo round) call has = inl has
+settled_from moment calls old new (MoreGo before one first middle last all goes) call has = ⊎_elim
+    (λ old_one. ⊎_elim (λ was. inl was) (λ more. inr (Contains-append_left before (one ∷ []) call more)) (settled_from moment before first middle all call old_one))
+    (λ is. inr (subst (Contains (before ++ one ∷ [])) is (Contains-push before one)))
+    (by goes)
+  where
+    pushed_on : last.waiting.items ≡ middle.waiting.items ++ one ∷ [] → Contains middle.waiting.items call ⊎ (one ≡ call)
+    pushed_on is = Contains-push_cases middle.waiting.items one call (subst (λ (l : List Waiting). Contains l call) is has)
+
+    by : Goes moment one middle last → Contains middle.waiting.items call ⊎ (one ≡ call)
+    by (Stays waits said begun needs) = pushed_on waits
+    by (Needing wants waits said begun needs) = pushed_on waits
+    by (Answered answer is said waits begun needs) = inl (subst (λ (l : List Waiting). Contains l call) waits has)
+    by (Begins none begun said waits needs) = inl (subst (λ (l : List Waiting). Contains l call) waits has)
+
+-- Where none is answered and none begins a record, all wait on.
+settled_all : (moment : ℕ) (calls : List Waiting) (old new : Round) → AllGo moment calls old new → new.said.items ≡ [] → new.begun ≡ None → new.waiting.items ≡ old.waiting.items ++ calls
+settled_all moment calls old new (NoneGo round) said begun = sym (append-nil round.waiting.items)
+settled_all moment calls old new (MoreGo before one first middle last all goes) none_said none_begun = by (λ said begun. settled_all moment before first middle all said begun) goes
+  where
+    on : (middle.said.items ≡ [] → middle.begun ≡ None → middle.waiting.items ≡ first.waiting.items ++ before) → last.waiting.items ≡ middle.waiting.items ++ one ∷ [] → last.said.items ≡ middle.said.items → last.begun ≡ middle.begun
+        → last.waiting.items ≡ first.waiting.items ++ (before ++ one ∷ [])
+    on earlier waits said begun = waits ∙ ap (λ (l : List Waiting). l ++ one ∷ []) (earlier (sym said ∙ none_said) (sym begun ∙ none_begun)) ∙ append_assoc first.waiting.items before (one ∷ [])
+
+    by : (middle.said.items ≡ [] → middle.begun ≡ None → middle.waiting.items ≡ first.waiting.items ++ before) → Goes moment one middle last → last.waiting.items ≡ first.waiting.items ++ (before ++ one ∷ [])
+    by earlier (Stays waits said begun needs) = on earlier waits said begun
+    by earlier (Needing wants waits said begun needs) = on earlier waits said begun
+    by earlier (Answered answer is said waits begun needs) = absurd (let e = ap (λ (l : List Said). length l) (sym said ∙ none_said) in let n = length-append middle.said.items (answer ∷ []) in omega (arith, e, n))
+    by earlier (Begins none begun said waits needs) = absurd (subst (λ b. IsSomeAnd b (λ begins. begins.call ≡ one)) none_begun begun)
+
+-- Where none begins a record, each waits on or is answered.
+settled_each : (moment : ℕ) (calls : List Waiting) (old new : Round) → AllGo moment calls old new → new.begun ≡ None → (call : Waiting) → Contains calls call → Contains new.waiting.items call ⊎ IsAnswered new.said.items call.number
+settled_each moment calls old new (NoneGo round) none_begun call has = absurd (nothing call has)
+settled_each moment calls old new (MoreGo before one first middle last all goes) none_begun call has = by (λ begun before_it. settled_each moment before first middle all begun call before_it) goes
+  where
+    Earlier : Type 0
+    Earlier = middle.begun ≡ None → Contains before call → Contains middle.waiting.items call ⊎ IsAnswered middle.said.items call.number
+
+    on : Earlier → last.waiting.items ≡ middle.waiting.items ++ one ∷ [] → last.said.items ≡ middle.said.items → last.begun ≡ middle.begun → Contains last.waiting.items call ⊎ IsAnswered last.said.items call.number
+    on earlier waits said begun = ⊎_elim
+        (λ older. ⊎_elim (λ waiting. inl (subst (λ (l : List Waiting). Contains l call) (sym waits) (Contains-append_left middle.waiting.items (one ∷ []) call waiting)))
+        (λ answered. inr (subst (λ (l : List Said). IsAnswered l call.number) (sym said) answered)) (earlier (sym begun ∙ none_begun) older))
+        (λ is. inl (subst (λ (l : List Waiting). Contains l call) (sym waits) (subst (Contains (middle.waiting.items ++ one ∷ [])) is (Contains-push middle.waiting.items one))))
+        (Contains-push_cases before one call has)
+
+    by : Earlier → Goes moment one middle last → Contains last.waiting.items call ⊎ IsAnswered last.said.items call.number
+    by earlier (Stays waits said begun needs) = on earlier waits said begun
+    by earlier (Needing wants waits said begun needs) = on earlier waits said begun
+    by earlier (Answered answer is said waits begun needs) = ⊎_elim
+        (λ older. ⊎_elim (λ waiting. inl (subst (λ (l : List Waiting). Contains l call) (sym waits) waiting))
+        (λ answered. inr (record { one = answered.one; there = subst (λ (l : List Said). Contains l answered.one) (sym said) (Contains-append_left middle.said.items (answer ∷ []) answered.one answered.there); same = answered.same }))
+        (earlier (sym begun ∙ none_begun) older))
+        (λ same. inr (record { one = answer; there = subst (λ (l : List Said). Contains l answer) (sym said) (Contains-push middle.said.items answer); same = is.number ∙ ap (λ (w : Waiting). w.number) same }))
+        (Contains-push_cases before one call has)
+    by earlier (Begins none begun said waits needs) = absurd (subst (λ b. IsSomeAnd b (λ begins. begins.call ≡ one)) none_begun begun)
+
+-- So at a node.
+pub settles_of : (moment : ℕ) (a b : Machine) (attempted : Attempted) → Settle moment (Some a) (Some b) attempted → AreOf a.calls.items b.calls.items
+settles_of moment a b attempted settles call has = ⊎_elim
+    (λ none. absurd (nothing call (subst (λ (l : List Waiting). Contains l call) settles.none.waiting none))) (λ is. is)
+    (settled_from moment a.calls.items settles.first (record { said = attempted.said; waiting = b.calls; begun = attempted.begun; needs = attempted.needs }) settles.go call has)
+
+pub settles_each : (moment : ℕ) (a b : Machine) (attempted : Attempted) → Settle moment (Some a) (Some b) attempted → attempted.begun ≡ None → (call : Waiting) → Contains a.calls.items call → Contains b.calls.items call ⊎ IsAnswered attempted.said.items call.number
+settles_each moment a b attempted settles none_begun =
+    settled_each moment a.calls.items settles.first (record { said = attempted.said; waiting = b.calls; begun = attempted.begun; needs = attempted.needs }) settles.go none_begun
+
+pub settles_all : (moment : ℕ) (a b : Machine) (attempted : Attempted) → Settle moment (Some a) (Some b) attempted → attempted.said.items ≡ [] → attempted.begun ≡ None → b.calls.items ≡ a.calls.items
+settles_all moment a b attempted settles none_said none_begun =
+    settled_all moment a.calls.items settles.first (record { said = attempted.said; waiting = b.calls; begun = attempted.begun; needs = attempted.needs }) settles.go none_said none_begun
+    ∙ ap (λ (l : List Waiting). l ++ a.calls.items) settles.none.waiting
+
+pub none_said : (said : List Said) → length said ≡ 0 → said ≡ []
+none_said [] is = refl
+none_said (one ∷ said) is = absurd (omega (arith, is))
+
 -- ---- why calls wait
 
-module _ {O E T : Type 0} (o : owners.Ghosts O) (e : engine.Ghosts E T) (engine_is : E) (owners_are : O) (node moment session : ℕ) (out : Option Sent) (IsAsked : ℕ → Type 0) where
-  -- A write is out.
-  pub busy : (machine : Machine) → IsSome out → Waits o e engine_is node moment session out IsAsked machine
-  busy machine some = record {
-    owners_are = owners_are;
-    middle = machine;
-    given = inr some;
-    newest = None;
-    noted = inr some;
+-- a node of which only what it has of blocks changed, with the calls that wait at it then
+same_calls : (a b : Machine) → OnlyHolds a b → record a { calls = b.calls } ≡ a
+same_calls a b only = ap (λ (m : Machine). record a { calls = m.calls }) only
+
+module _ {O E T : Type 0} (o : owners.Ghosts O) (e : engine.Ghosts E T) (engine_is : E) (node moment session : ℕ) (said : List Said) (before between after : O) (back : List ℕ) (out : Option Sent) (IsAsked : ℕ → Type 0) (old given : Machine)
+    (gives : GivesBack o node session back before old between given) (held : OnlyHolds old given) where
+  first_calls : given.calls.items ≡ old.calls.items
+  first_calls = ap (λ (m : Machine). m.calls.items) held
+
+  first_given : GivesBack o node session back before (record old { calls = given.calls }) between given
+  first_given = subst (λ (m : Machine). GivesBack o node session back before m between given) (sym (same_calls old given held)) gives
+
+  -- A record begins.
+  pub begun : (machine : Machine) → IsSome out → after ≡ between → Waits o e engine_is node moment session said before after out IsAsked old machine
+  begun machine some same = record {
+    middle = given;
+    between = between;
+    back = back;
+    given = first_given;
+    calls = λ call has. subst (λ (l : List Waiting). Contains l call) first_calls has;
+    answered = λ call has. inl (subst (λ (l : List Waiting). Contains l call) (sym first_calls) has);
+    newest = newest_of (first_of (o.asks between node)) given;
+    noted = refl;
     needs = [];
+    needed = All-nil (AreNeededBy e engine_is [] old given machine moment);
+    wanted = wanted_none o node (IsInNeeds []) between after same;
     causes = λ k d less. Writes some;
+    left = inl some;
     asking = inl some;
     keeps = inl some;
   }
 
-  cause : (middle : Machine) (newest : Option ℕ) (needs : List (List (ℕ × Mode))) (call : Waiting) → MayWait e engine_is (held_in middle.cache.kept) (hint_in middle.cache.hinted) moment newest true needs call
-      → HasCause e engine_is middle moment out newest needs call
-  cause middle newest needs call (IsOver is) = Over is
-  cause middle newest needs call (Newer is) = AskedBack is
-  cause middle newest needs call (Wants wants tried there) = Needs wants tried there
-  cause middle newest needs call (Changes attempt may changes tried) = absurd cc
+  cause : (newest : Option ℕ) (needs : List (List (ℕ × Mode))) (call : Waiting) → MayWait e engine_is (held_in given.cache.kept) (hint_in given.cache.hinted) moment newest true needs call
+      → HasCause e engine_is given moment out newest needs call
+  cause newest needs call (IsOver is) = Over is
+  cause newest needs call (Newer is) = AskedBack is
+  cause newest needs call (Wants wants tried there) = Needs wants tried there
+  cause newest needs call (Changes attempt may changes tried) = absurd cc
 
   -- Its calls were attempted, none began a record, and what they need was asked for.
-  pub rested : (given tried machine : Machine) (newest : Option ℕ) (needs : List (List (ℕ × Mode))) → IfSome (first_of (o.asks owners_are node)) (λ asked. MayKeep (o.hold owners_are node asked.0) session asked (Some given))
-      → newest ≡ newest_of (first_of (o.asks owners_are node)) given → tried ≡ record given { calls = tried.calls } → OnlyHolds tried machine → KeepsUnneeded needs tried machine
-      → All (MayWait e engine_is (held_in tried.cache.kept) (hint_in tried.cache.hinted) moment newest true needs) tried.calls.items → AllByRecursion (AllByRecursion (λ wanted. IsAsked wanted.0)) needs
-      → Waits o e engine_is node moment session out IsAsked machine
-  rested given tried machine newest needs left noted attempted only keeps waits asking =
+  pub rested : (tried machine : Machine) (newest : Option ℕ) (needs : List (List (ℕ × Mode))) → newest ≡ newest_of (first_of (o.asks between node)) given
+      → tried ≡ record given { calls = tried.calls } → (newest ≡ None) ⊎ (tried.calls.items ≡ given.calls.items) → OnlyHolds tried machine → KeepsUnneeded needs tried machine → AreWanted o node (IsInNeeds needs) between after
+      → All (MayWait e engine_is (held_in tried.cache.kept) (hint_in tried.cache.hinted) moment newest true needs) tried.calls.items
+      → All (AreNeeded e engine_is (held_in tried.cache.kept) (hint_in tried.cache.hinted) moment tried.calls.items) needs → AllByRecursion (AllByRecursion (λ wanted. IsAsked wanted.0)) needs
+      → Waits o e engine_is node moment session said before after out IsAsked old machine
+  rested tried machine newest needs noted attempted left only keeps wanted waits needed asking =
       let calls : machine.calls.items ≡ tried.calls.items = ap (λ (m : Machine). m.calls.items) only in
       let cache : tried.cache ≡ given.cache = ap (λ (m : Machine). m.cache) attempted in
       record {
-        owners_are = owners_are;
         middle = given;
-        given = inl left;
+        between = between;
+        back = back;
+        given = first_given;
+        calls = λ call has. subst (λ (l : List Waiting). Contains l call) first_calls has;
+        answered = λ call has. inl (subst (λ (l : List Waiting). Contains l call) (sym first_calls) has);
         newest = newest;
-        noted = inl noted;
+        noted = noted;
         needs = needs;
+        needed = All-weaker (AreNeeded e engine_is (held_in tried.cache.kept) (hint_in tried.cache.hinted) moment tried.calls.items) (AreNeededBy e engine_is needs old given machine moment)
+            (λ wants need. inl (subst (λ (l : List Waiting). AreNeeded e engine_is (held_in given.cache.kept) (hint_in given.cache.hinted) moment l wants) (sym calls)
+            (subst (λ k. AreNeeded e engine_is (held_in k.kept) (hint_in k.hinted) moment tried.calls.items wants) cache need))) needs needed;
+        wanted = wanted;
         causes = subst (λ (l : List Waiting). All (HasCause e engine_is given moment out newest needs) l) (sym calls)
             (All-weaker _ (HasCause e engine_is given moment out newest needs)
-            (λ call waits. cause given newest needs call (subst (λ k. MayWait e engine_is (held_in k.kept) (hint_in k.hinted) moment newest true needs call) cache waits)) tried.calls.items waits);
+            (λ call waits. cause newest needs call (subst (λ k. MayWait e engine_is (held_in k.kept) (hint_in k.hinted) moment newest true needs call) cache waits)) tried.calls.items waits);
+        left = inr (⊎_elim (λ none. inl none) (λ same. inr (calls ∙ same)) left);
         asking = inr asking;
         keeps = inr (λ at. subst (λ k. (kept_in machine.cache.kept at ≡ kept_in k.kept at) ⊎ ((wants : List (ℕ × Mode)) × Contains needs wants × ((mode : Mode) × Contains wants (at, mode)))) cache (keeps at));
       }
 
-  -- So of nodes in their list.
-  pub rested_there : (given tried found : Option Machine) (newest : Option ℕ) (needs : List (List (ℕ × Mode))) → (given ≡ None → ⊥) → (tried ≡ None → ⊥)
-      → IfSome (first_of (o.asks owners_are node)) (λ asked. MayKeep (o.hold owners_are node asked.0) session asked given) → IfSome given (λ machine. newest ≡ newest_of (first_of (o.asks owners_are node)) machine)
-      → IfSome given (λ a. IfSome tried (λ b. b ≡ record a { calls = b.calls })) → IfSome tried (λ a. IfSome found (OnlyHolds a)) → IfSome tried (λ a. IfSome found (KeepsUnneeded needs a))
-      → IfSome tried (λ machine. All (MayWait e engine_is (held_in machine.cache.kept) (hint_in machine.cache.hinted) moment newest true needs) machine.calls.items) → AllByRecursion (AllByRecursion (λ wanted. IsAsked wanted.0)) needs
-      → IfSome found (Waits o e engine_is node moment session out IsAsked)
-  rested_there None tried found newest needs some some_then left noted attempted only keeps waits asking = absurd (some refl)
-  rested_there (Some given) None found newest needs some some_then left noted attempted only keeps waits asking = absurd (some_then refl)
-  rested_there (Some given) (Some tried) None newest needs some some_then left noted attempted only keeps waits asking = tt
-  rested_there (Some given) (Some tried) (Some found) newest needs some some_then left noted attempted only keeps waits asking = rested given tried found newest needs left noted attempted only keeps waits asking
+  -- They were attempted, and then it went on with a further round.
+  pub again : (earlier later : List Said) (tried machine : Machine) → said ≡ earlier ++ later → tried ≡ record given { calls = tried.calls } → AreOf given.calls.items tried.calls.items
+      → ((call : Waiting) → Contains given.calls.items call → Contains tried.calls.items call ⊎ IsAnswered earlier call.number) → Waits o e engine_is node moment session later between after out IsAsked tried machine
+      → Waits o e engine_is node moment session said before after out IsAsked old machine
+  again earlier later tried machine is attempted of answered waits =
+      let from : (call : Waiting) → Contains waits.middle.calls.items call → Contains old.calls.items call = λ call has. subst (λ (l : List Waiting). Contains l call) first_calls (of call (waits.calls call has)) in
+      let tidy : tried.tidy ≡ old.tidy = ap (λ (m : Machine). m.tidy) attempted ∙ ap (λ (m : Machine). m.tidy) held in
+      record {
+        middle = waits.middle;
+        between = waits.between;
+        back = back ++ waits.back;
+        given = gives_on o node session waits.middle back waits.back before between waits.between old given waits.middle gives from
+            (subst (λ (m : Machine). GivesBack o node session waits.back between m waits.between waits.middle) (ap (λ (m : Machine). record m { calls = waits.middle.calls }) attempted) waits.given);
+        calls = from;
+        answered = λ call has. ⊎_elim
+            (λ still. ⊎_elim (λ on. inl on) (λ one. inr (subst (λ (l : List Said). IsAnswered l call.number) (sym is) (record { one = one.one; there = Contains-append_right earlier later one.one one.there; same = one.same })))
+            (waits.answered call still))
+            (λ one. inr (subst (λ (l : List Said). IsAnswered l call.number) (sym is) (record { one = one.one; there = Contains-append_left earlier later one.one one.there; same = one.same })))
+            (answered call (subst (λ (l : List Waiting). Contains l call) (sym first_calls) has));
+        newest = waits.newest;
+        noted = waits.noted;
+        needs = waits.needs;
+        needed = All-weaker (AreNeededBy e engine_is waits.needs tried waits.middle machine moment) (AreNeededBy e engine_is waits.needs old waits.middle machine moment)
+            (λ wants need. ⊎_elim (λ calls. inl calls)
+            (λ of_tidy. inr (record { before = of_tidy.before; tidy = of_tidy.tidy; is = sym tidy ∙ of_tidy.is; fair = of_tidy.fair; keeps = of_tidy.keeps })) need) waits.needs waits.needed;
+        wanted = waits.wanted;
+        causes = waits.causes;
+        left = waits.left;
+        asking = waits.asking;
+        keeps = waits.keeps;
+      }
+
+-- What was answered before counts too.
+pub answered_more : {O E T : Type 0} (o : owners.Ghosts O) (e : engine.Ghosts E T) (engine_is : E) (node moment session : ℕ) (earlier later said : List Said) (before after : O) (out : Option Sent) (IsAsked : ℕ → Type 0) (first machine : Machine) → said ≡ earlier ++ later
+    → Waits o e engine_is node moment session later before after out IsAsked first machine → Waits o e engine_is node moment session said before after out IsAsked first machine
+answered_more o e engine_is node moment session earlier later said before after out IsAsked first machine is waits = record {
+  middle = waits.middle;
+  between = waits.between;
+  back = waits.back;
+  given = waits.given;
+  calls = waits.calls;
+  answered = λ call has. ⊎_elim (λ on. inl on)
+      (λ one. inr (subst (λ (l : List Said). IsAnswered l call.number) (sym is) (record { one = one.one; there = Contains-append_right earlier later one.one one.there; same = one.same }))) (waits.answered call has);
+  newest = waits.newest;
+  noted = waits.noted;
+  needs = waits.needs;
+  needed = waits.needed;
+  wanted = waits.wanted;
+  causes = waits.causes;
+  left = waits.left;
+  asking = waits.asking;
+  keeps = waits.keeps;
+}
 
 -- ---- fewer calls wait
 
@@ -162,6 +314,20 @@ steps_rest own until None out_then old new said some (None, goes, sent) none = b
     by runs said nothing (SendsClosing stage same volume settles) = absurd (let h = nothing in cc)
     by runs said nothing (SendsShut stage work same) = absurd (let h = nothing in cc)
     by runs said nothing (Closed stage work same) = ap (λ (m : Machine). m.stage) same
+
+-- .. and nothing changed but the log.
+pub steps_only : (own : Option ℕ) (until : ℕ) (out out_then : Option Sent) (old new : Machine) (said : Option Said) → IsSome own → StepsLog own until out out_then old new said → out_then ≡ None → new ≡ record old { log = new.log; stage = Idle }
+steps_only own until (Some write) out_then old new said some steps none = absurd (let h = sym steps.2 ∙ none in cc)
+steps_only own until None out_then old new said some (Some runs, goes, sent) none = absurd (let h = subst (λ (o : Option Sent). IsSome o) none (some_sent own until runs out_then some sent) in cc)
+steps_only own until None out_then old new said some (None, goes, sent) none = by None said refl goes
+  where
+    by : (runs : Option KindAndRuns) (said : Option Said) → runs ≡ None → LogGoes old new runs said → new ≡ record old { log = new.log; stage = Idle }
+    by runs said nothing_sent (Rests stage same) = same ∙ ap (λ (s : Stage). record old { stage = s }) stage ∙ ap (λ (m : Machine). record old { log = m.log; stage = Idle }) (sym same)
+    by runs said nothing_sent (SendsGate pending text point stage work same) = absurd (let h = nothing_sent in cc)
+    by runs said nothing_sent (SendsHomes pending point stage work same volume commits homes) = absurd (let h = nothing_sent in cc)
+    by runs said nothing_sent (SendsClosing stage same volume settles) = absurd (let h = nothing_sent in cc)
+    by runs said nothing_sent (SendsShut stage work same) = absurd (let h = nothing_sent in cc)
+    by runs said nothing_sent (Closed stage work same) = same ∙ ap (λ (m : Machine). record old { log = m.log; stage = Idle }) (sym same)
 
 pub rest_there : (own : Option ℕ) (until : ℕ) (out out_then : Option Sent) (old new : Option Machine) (said : Option Said) → IsSome own → (old ≡ None → ⊥) → IfSome old (λ a. IfSome new (λ b. StepsLog own until out out_then a b said)) → out_then ≡ None → IfSome new (λ b. b.stage ≡ Idle)
 rest_there own until out out_then None new said some_own some steps none = absurd (some refl)

@@ -13,13 +13,13 @@ use Rattle.bx_nodes.specs.Asks.{KeepsUnwanted}
 use Rattle.bx_views.specs.Attempts.{IsFairNeed}
 use Rattle.bx_views.specs.declared.engine.Engine as engine
 
--- Where a tidy was under way and none is any more, its area is clean.
+-- Where there was a tidy and there is none any more, its area is clean.
 abbrev pub CleansArea : (ℕ → Type 0) → ℕ → Option Tidy → Option Tidy → Type 0
 CleansArea IsClean areas None then_is = Unit {0}
 CleansArea IsClean areas (Some tidy) None = IsClean (area_of areas tidy)
 CleansArea IsClean areas (Some tidy) (Some later) = Unit {0}
 
--- Why a tidy is under way still at the end of a turn: it rests until the next tick; a call waits; the log is at work; a write is out; or it wants blocks for its area, over what the node had then,
+-- Why a tidy isn't over at the end of a turn: it rests; a call waits; the log is at work; a write is out; or it wants blocks for its area, over what the node had then,
 -- for each of which something is out, and all else is kept.
 pub data HoldsUp {E T : Type 0} (e : engine.Ghosts E T) (engine_is : E) (out : Option Sent) (IsAsked : ℕ → Type 0) (machine : Machine) (tidy : Tidy) : Type 0 where
   Rested : tidy.rests ≡ true → HoldsUp e engine_is out IsAsked machine tidy

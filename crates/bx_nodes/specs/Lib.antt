@@ -1,6 +1,7 @@
 pub mod Asks
 pub mod Calls
 pub mod Cleaning
+pub mod Giving
 pub mod Going
 pub mod Opening
 pub mod Renewing

@@ -1,22 +1,27 @@
 -- What a turn does.
-use Rattle.std.specs.Prelude.{◌≡◌, ◌≢◌, ◌⊎◌, ℕ, false, true, All, Contains, List, Option, None, Some, IfSome, IsSome, reverse, slice_get}
+use Rattle.std.specs.Prelude.{◌≡◌, ◌≢◌, ◌⊎◌, ℕ, false, true, All, Contains, List, Option, None, Some, IsSome, reverse, slice_get}
 use Rattle.std.specs.List.{AllByRecursion}
 use Rattle.bx_base.specs.declared.names.Mode.{Mode}
 use Rattle.bx_facts.specs.declared.store.Store as store
 use Rattle.bx_facts.specs.Holds.{first_of}
-use Rattle.bx_facts.specs.Writes.{Sent}
+use Rattle.bx_facts.specs.Writes.{Asked, Sent}
 use Rattle.bx_node_cache.specs.Kept.{held_in, hint_in}
 use Rattle.bx_node_steps.specs.Calls.{IsAnswered}
-use Rattle.bx_node_steps.specs.Gives.{MayKeep, since}
+use Rattle.bx_node_steps.specs.Changing.{TakesAnswer}
+use Rattle.bx_node_steps.specs.Gives.{marked, since}
+use Rattle.bx_node_steps.specs.Tidying.{area_of}
 use Rattle.bx_node_steps.specs.declared.machine.Machine.{Machine}
-use Rattle.bx_node_tries.specs.Tries.{LeadsBack, Tried, is_attempted, is_newer}
+use Rattle.bx_node_steps.specs.declared.machine.Stage.TheVariants.{Idle}
+use Rattle.bx_node_steps.specs.declared.machine.Tidy.{Tidy}
+use Rattle.bx_node_tries.specs.Tries.{AreNeeded, LeadsBack, Tried, is_attempted, is_newer}
 use Rattle.bx_node_tries.specs.declared.round.Said.{Said}
 use Rattle.bx_node_tries.specs.declared.round.Waiting.{Waiting}
 use Rattle.bx_nodes.specs.Asks.{KeepsUnneeded}
+use Rattle.bx_nodes.specs.Giving.{AreWanted, GivesBack, IsInNeeds}
 use Rattle.bx_owners.specs.declared.owners.Owners as owners
 use Rattle.bx_views.specs.declared.attempt.Attempt.TheVariants.{Need}
 use Rattle.bx_views.specs.declared.engine.Engine as engine
-use Rattle.bx_views.specs.Attempts.{Deed}
+use Rattle.bx_views.specs.Attempts.{Deed, IsFairNeed}
 use Rattle.bx_volume.specs.Overlay.{Logs}
 use Rattle.bx_volume.specs.Records.{Logged}
 use Rattle.bx_world_standing.specs.Standing.{Course}
@@ -47,6 +52,20 @@ abbrev pub newest_of : Option (ℕ × ℕ) → Machine → Option ℕ
 newest_of None machine = None
 newest_of (Some asked) machine = Some (since asked.0 asked.1 machine)
 
+-- What a node has once a turn begins to give back, of what it had before: what came of its read is taken in, and its log rests.
+pub record ComesTo (answer : Option (List ℕ)) (asked : Option Asked) (old first : Machine) : Type 0 where
+  pub received : Machine
+  pub takes : TakesAnswer answer asked old received
+  pub only : first ≡ record received { log = first.log; stage = Idle }
+
+-- Blocks are wanted for the area that a node's tidy cleans, over what the node had before it asked for them; it still has that, but for blocks that are needed.
+pub record IsForTidy {E T : Type 0} (e : engine.Ghosts E T) (engine_is : E) (needs : List (List (ℕ × Mode))) (first machine : Machine) (wants : List (ℕ × Mode)) : Type 0 where
+  pub before : Machine
+  pub tidy : Tidy
+  pub is : first.tidy ≡ Some tidy
+  pub fair : IsFairNeed (e.areas engine_is) (held_in before.cache.kept) (e.tidy_path engine_is (area_of (e.areas engine_is) tidy) (held_in before.cache.kept) (hint_in before.cache.hinted)) wants
+  pub keeps : KeepsUnneeded needs before machine
+
 -- Why a call waits on at the end of a turn: it is attempted no more; a write of the node is out; a block is asked back that is kept for older calls; or its attempt,
 -- over what the node had then, wants blocks, which are among these.
 pub data HasCause {E T : Type 0} (e : engine.Ghosts E T) (engine_is : E) (middle : Machine) (moment : ℕ) (out : Option Sent) (newest : Option ℕ) (needs : List (List (ℕ × Mode))) (call : Waiting) : Type 0 where
@@ -55,15 +74,35 @@ pub data HasCause {E T : Type 0} (e : engine.Ghosts E T) (engine_is : E) (middle
   AskedBack : is_newer newest call.number ≡ true → HasCause e engine_is middle moment out newest needs call
   Needs : (wants : List (ℕ × Mode)) → Tried e engine_is (held_in middle.cache.kept) (hint_in middle.cache.hinted) moment call (Need wants) → Contains needs wants → HasCause e engine_is middle moment out newest needs call
 
--- What a node waits for at the end of a turn at a moment: it gave back what it may, attempted its calls over what it had then, and each that waits has its cause; where no write is out,
--- something is out for each of the blocks that they need, or there is a reason why not.
-pub record Waits {O E T : Type 0} (o : owners.Ghosts O) (e : engine.Ghosts E T) (engine_is : E) (node moment session : ℕ) (out : Option Sent) (IsAsked : ℕ → Type 0) (machine : Machine) : Type 0 where
-  pub owners_are : O
+-- Blocks are needed: by a call that waits, over what the node had at the attempts, or for its tidy.
+abbrev pub AreNeededBy : {E T : Type 0} → engine.Ghosts E T → E → List (List (ℕ × Mode)) → Machine → Machine → Machine → ℕ → List (ℕ × Mode) → Type 0
+AreNeededBy e engine_is needs first middle machine moment wants = AreNeeded e engine_is (held_in middle.cache.kept) (hint_in middle.cache.hinted) moment machine.calls.items wants ⊎ IsForTidy e engine_is needs first machine wants
+
+-- What a node waits for at the end of a turn at a moment, of what it and owners had when it began to give back. It gave back what it may, by the calls that waited at the last attempts: those that
+-- waited when it began, but for some that are answered. These were attempted over what it had then, and each that waits still has its cause; none of them was answered there, unless no block is
+-- asked back any more. Of owners it wants nothing but what they need, or its tidy; and where no write is out, something is out for each of these blocks, or there is a reason why not.
+pub record Waits {O E T : Type 0} (o : owners.Ghosts O) (e : engine.Ghosts E T) (engine_is : E) (node moment session : ℕ) (said : List Said) (before after : O) (out : Option Sent) (IsAsked : ℕ → Type 0) (first machine : Machine) : Type 0 where
   pub middle : Machine
-  pub given : IfSome (first_of (o.asks owners_are node)) (λ asked. MayKeep (o.hold owners_are node asked.0) session asked (Some middle)) ⊎ IsSome out
+  pub between : O
+  pub back : List ℕ
+  pub given : GivesBack o node session back before (record first { calls = middle.calls }) between middle
+  pub calls : (call : Waiting) → Contains middle.calls.items call → Contains first.calls.items call
+  pub answered : (call : Waiting) → Contains first.calls.items call → Contains middle.calls.items call ⊎ IsAnswered said call.number
   pub newest : Option ℕ
-  pub noted : (newest ≡ newest_of (first_of (o.asks owners_are node)) middle) ⊎ IsSome out
+  pub noted : newest ≡ newest_of (first_of (o.asks between node)) middle
   pub needs : List (List (ℕ × Mode))
+  pub needed : All (AreNeededBy e engine_is needs first middle machine moment) needs
+  pub wanted : AreWanted o node (IsInNeeds needs) between after
   pub causes : All (HasCause e engine_is middle moment out newest needs) machine.calls.items
+  pub left : IsSome out ⊎ ((newest ≡ None) ⊎ (machine.calls.items ≡ middle.calls.items))
   pub asking : IsSome out ⊎ AllByRecursion (AllByRecursion (λ wanted. IsAsked wanted.0)) needs
   pub keeps : IsSome out ⊎ KeepsUnneeded needs middle machine
+
+-- How a turn leaves a node: a write was out all the time, and owners are as they were; or it began to give back, and waits.
+pub data TurnEnds {O E T : Type 0} (o : owners.Ghosts O) (e : engine.Ghosts E T) (engine_is : E) (node moment session : ℕ) (answer : Option (List ℕ)) (asked : Option Asked) (said : List Said) (before after : O) (out : Option Sent) (IsAsked : ℕ → Type 0) (old new : Machine) : Type 0 where
+  Writing : IsSome out → after ≡ before → TurnEnds o e engine_is node moment session answer asked said before after out IsAsked old new
+  Worked : (first : Machine) → ComesTo answer asked old first → Waits o e engine_is node moment session said before after out IsAsked first new → TurnEnds o e engine_is node moment session answer asked said before after out IsAsked old new
+
+-- a machine that has noted what it is asked for
+abbrev pub noting : List (ℕ × ℕ) → Machine → Machine
+noting asks machine = record machine { mark = marked (first_of asks) machine }

@@ -1,10 +1,11 @@
 //! What a node wants.
 
-ghost use Rattle.std.specs.Prelude.{◌≡◌, ◌≢◌, ◌⊎◌, ◌++◌, ℕ, ◌<◌, false, true, length, List, IfSome, IsSome, IsSomeAnd, OnOk, None, Some, slice_get};
+ghost use Rattle.std.specs.Prelude.{◌≡◌, ◌≢◌, ◌⊎◌, ◌++◌, ℕ, ◌<◌, false, true, length, List, Contains, IfSome, IsSome, IsSomeAnd, OnOk, None, Some, slice_get};
 ghost use Rattle.std.specs.List.{AllByRecursion};
 ghost use Rattle.bx_base.specs.declared.names.Actor.TheVariants.{Node};
 ghost use Rattle.bx_disk.specs.Disks.{Disks};
 ghost use Rattle.bx_facts.specs.Chains.{LivesIn, last};
+ghost use Rattle.bx_facts.specs.Holds.{without_block};
 ghost use Rattle.bx_node_cache.specs.Kept.{kept_in};
 ghost use Rattle.bx_node_machines.specs.Machines.{home_of};
 ghost use Rattle.bx_node_steps.specs.Changing.{LetsGo};
@@ -12,6 +13,7 @@ ghost use Rattle.bx_node_steps.specs.declared.machine.Fetch.TheVariants.{Block};
 ghost use Rattle.bx_node_steps.specs.declared.machine.Machine.{Machine};
 ghost use Rattle.bx_node_steps.specs.declared.machine.Stage.TheVariants.{Idle};
 ghost use Rattle.bx_nodes.specs.Asks.{Gets, IsWanted, KeepsUnneeded, KeepsUnwanted, Later, MayRead, OnlyHolds, is_less, is_weaker};
+ghost use Rattle.bx_nodes.specs.Giving.{AreWanted, IsInNeeds};
 ghost use Rattle.bx_nodes.specs.Standing.{Asking, IsUnder, OfBoth, OfNode, Ready, Rests, Stand};
 ghost use Rattle.bx_nodes.specs.Turns.{OnlyMachine};
 ghost use Rattle.bx_places.specs.Places.{IsBlock};
@@ -53,6 +55,7 @@ impl<G: Register, O: Owners, S: Store, E: Engine> Nodes<G, O, S, E> {
         ensures wants { O.request self.old.owners node wanted.0 ≡ None → is_weaker (O.hold self.old.owners node wanted.0) wanted.1 ≡ true
             → OnOk result (O.grants self.old.owners node wanted.0 wanted.1 self.new.owners × IsWanted (O.request self.new.owners node wanted.0) (O.hold self.new.owners node wanted.0) wanted.1 (O.is_spent self.new.owners node)
             × OfBoth self.old self.new node (λ old new. (middle : Machine) × LetsGo wanted.0 old middle × Gets (O.hold self.new.owners node wanted.0) (G.knows self.old.register (Node node)).index wanted.0 (S.asked self.new.store node ≡ Some (home_of (S.made self.old.store).devices wanted.0)) (self.new.store ≡ self.old.store) middle new)) }
+        ensures owners { OnOk result (AreWanted O.Owners node (λ at mode. (at, mode) ≡ wanted) self.old.owners self.new.owners) }
         ensures asking { OnOk result (Asking G.Register O.Owners self.new node wanted.0) }
         ensures asks_on { (at : ℕ) → Asking G.Register O.Owners self.old node at → OnOk result (Asking G.Register O.Owners self.new node at) }
         ensures keeps { OnOk result (OfBoth self.old self.new node (λ old new. (at : ℕ) → at ≢ wanted.0 → kept_in new.cache.kept at ≡ kept_in old.cache.kept at)) }
@@ -94,6 +97,7 @@ impl<G: Register, O: Owners, S: Store, E: Engine> Nodes<G, O, S, E> {
             → O.own self.old.owners node ≡ Some session → LivesIn (last c.register.chain) session → IsUnder self.old node session
             → OnOk result (Later (λ later. Stand G.Register O.Owners S.Store E.Engine self.new x (letters ++ out.new) clocks later tree) c) }
         ensures keeps { OnOk result (OfBoth self.old self.new node (KeepsUnneeded needs.now)) }
+        ensures owners { OnOk result (AreWanted O.Owners node (IsInNeeds needs.now) self.old.owners self.new.owners) }
         ensures asking { OnOk result (AllByRecursion (AllByRecursion (λ wanted. Asking G.Register O.Owners self.new node wanted.0)) needs.now) }
         ensures asks_on { (at : ℕ) → Asking G.Register O.Owners self.old node at → OnOk result (Asking G.Register O.Owners self.new node at) }
         ensures ready { OnOk result (Ready S.Store E.Engine self.new node) }
@@ -130,6 +134,7 @@ impl<G: Register, O: Owners, S: Store, E: Engine> Nodes<G, O, S, E> {
             → O.own self.old.owners node ≡ Some session → LivesIn (last c.register.chain) session → IsUnder self.old node session
             → OnOk result (Later (λ later. Stand G.Register O.Owners S.Store E.Engine self.new x (letters ++ out.new) clocks later tree) c) }
         ensures keeps { OnOk result (OfBoth self.old self.new node (KeepsUnwanted wants.now)) }
+        ensures owners { OnOk result (AreWanted O.Owners node (λ at mode. Contains wants.now (at, mode)) self.old.owners self.new.owners) }
         ensures asking { OnOk result (AllByRecursion (λ wanted. Asking G.Register O.Owners self.new node wanted.0) wants.now) }
         ensures asks_on { (at : ℕ) → Asking G.Register O.Owners self.old node at → OnOk result (Asking G.Register O.Owners self.new node at) }
         ensures ready { OnOk result (Ready S.Store E.Engine self.new node) }
@@ -162,6 +167,7 @@ impl<G: Register, O: Owners, S: Store, E: Engine> Nodes<G, O, S, E> {
             → OnOk result (Later (λ later. Stand G.Register O.Owners S.Store E.Engine self.new x (letters ++ out.new) clocks later tree) c) }
         ensures goes { OnOk result (OfBoth self.old self.new node (LetsGo at)) }
         ensures wants { OnOk result (O.grants self.old.owners node at mode self.new.owners × IsWanted (O.request self.new.owners node at) (O.hold self.new.owners node at) mode (O.is_spent self.new.owners node)) }
+        ensures asks { OnOk result (without_block at (O.asks self.new.owners node) ≡ without_block at (O.asks self.old.owners node)) }
         ensures asks_on { (other : ℕ) → other ≢ at → Asking G.Register O.Owners self.old node other → OnOk result (Asking G.Register O.Owners self.new node other) }
         ensures rests { OnOk result (Rests self.new node) }
         ensures ready { OnOk result (Ready S.Store E.Engine self.new node) }

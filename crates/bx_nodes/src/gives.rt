@@ -6,6 +6,7 @@ ghost use Rattle.bx_disk.specs.Disks.{Disks};
 ghost use Rattle.bx_facts.specs.Chains.{LivesIn, last};
 ghost use Rattle.bx_facts.specs.Holds.{first_of, without_block};
 ghost use Rattle.bx_nodes.specs.Asks.{Later, OnlyHolds};
+ghost use Rattle.bx_nodes.specs.Giving.{GivesBack};
 ghost use Rattle.bx_node_steps.specs.Changing.{LetsGo};
 ghost use Rattle.bx_node_steps.specs.Gives.{KeepsRest, MayKeep, marked, newest, since, waits_since};
 ghost use Rattle.bx_nodes.specs.Standing.{IsUnder, OfBoth, OfNode, Ready, Rests, Stand};
@@ -54,6 +55,7 @@ impl<G: Register, O: Owners, S: Store, E: Engine> Nodes<G, O, S, E> {
             → Stand G.Register O.Owners S.Store E.Engine self.old x (letters ++ out.old) clocks c tree
             → O.own self.old.owners node ≡ Some session → LivesIn (last c.register.chain) session → IsUnder self.old node session
             → OnOk result (Later (λ later. Stand G.Register O.Owners S.Store E.Engine self.new x (letters ++ out.new) clocks later tree) c) }
+        ensures gives { OnOk result (OfBoth self.old self.new node (λ old new. (back : List ℕ) × GivesBack O.Owners node session back self.old.owners old self.new.owners new)) }
         ensures left { OnOk result (IfSome (first_of (O.asks self.new.owners node)) (λ asked. MayKeep (O.hold self.new.owners node asked.0) session asked (slice_get self.new.machines.items node))) }
         ensures keeps { OnOk result (OfBoth self.old self.new node (KeepsRest session (O.asks self.old.owners node))) }
         ensures fewer { OnOk result (length (O.asks self.new.owners node) ≤ length (O.asks self.old.owners node)) }

@@ -6,6 +6,8 @@ ghost use Rattle.bx_disk.specs.Disks.{Disks};
 ghost use Rattle.bx_facts.specs.Chains.{LivesIn, last};
 ghost use Rattle.bx_node_steps.specs.Calls.{AnswersCalls, AreApart};
 ghost use Rattle.bx_node_steps.specs.Seen.{seen};
+ghost use Rattle.bx_node_steps.specs.declared.machine.Machine.{Machine};
+ghost use Rattle.bx_node_tries.specs.declared.round.Said.{Said};
 ghost use Rattle.bx_node_steps.specs.Tidying.{Ticks, TidyGoes, is_tidying};
 ghost use Rattle.bx_nodes.specs.Cleaning.{CleansArea, IsHeldUp};
 ghost use Rattle.bx_nodes.specs.Standing.{Asking, BeReady, IsUnder, OfBoth, OfNode, Ready, Stand};
@@ -23,7 +25,7 @@ use bx_owners::Owners;
 use bx_views::{Attempt, Engine};
 
 impl<G: Register, O: Owners, S: Store, E: Engine> Nodes<G, O, S, E> {
-    /// The clock of a node ticks: a tidy that rested goes on, and where none is under way and no call waits, one begins.
+    /// The clock of a node ticks: where no call waits, a tidy that rests does so no more, and where there is none one begins.
     pub fn tick(&mut self, node: u32)
         requires there { node < length self.old.machines.items }
         ensures ticks { OfBoth self.old self.new node Ticks }
@@ -43,11 +45,11 @@ impl<G: Register, O: Owners, S: Store, E: Engine> Nodes<G, O, S, E> {
         requires there { node < length self.now.machines.items }
         ensures { OfNode self.now node (λ machine. result ≡ is_tidying machine) }
     {
-        self.machines[node as usize].tidy.is_some()
+        self.machines[node as usize].is_tidying()
     }
 
-    /// Goes on with the tidy that is under way, at a moment in milliseconds. Where no call waits, the log rests and no write is out, what it wants is asked for, or its
-    /// record begins, or it ends, as its area is clean. Where the node is asked for a block it rests until the next tick.
+    /// Goes on with the tidy that is under way, at a moment in milliseconds, where no call waits and the log rests. Where the node is asked for a block the tidy rests, until a
+    /// tick at which no call waits; else, where no write is out, what it wants is asked for, or its record begins, or it ends, as its area is clean.
     pub(crate) fn tidy(
         &mut self,
         node: u32,
@@ -61,10 +63,11 @@ impl<G: Register, O: Owners, S: Store, E: Engine> Nodes<G, O, S, E> {
         ensures stands { (x : Disks) (letters : List Letter) (clocks : Clocks) (c : Course) (tree : E.Tree) (session : ℕ) → clocks.down (Node node) ≡ false → Stand G.Register O.Owners S.Store E.Engine self.old x (letters ++ out.old) clocks c tree
             → O.own self.old.owners node ≡ Some session → O.end_of self.old.owners node ≡ Some lease.until → LivesIn (last c.register.chain) session → IsUnder self.old node session
             → OnOk result (Turned (E.step self.old.engine) (Stand G.Register O.Owners S.Store E.Engine self.new x (letters ++ out.new) clocks) c tree []) }
-        ensures waits { OfNode self.old node (Waits O.Owners E.Engine self.old.engine node moment lease.session (S.out_of self.old.store node) (Asking G.Register O.Owners self.old node))
-            → OnOk result (OfNode self.new node (Waits O.Owners E.Engine self.new.engine node moment lease.session (S.out_of self.new.store node) (Asking G.Register O.Owners self.new node))) }
+        ensures waits { (said : List Said) (owners : O) (first : Machine) → OfNode self.old node (λ machine. machine.tidy ≡ first.tidy)
+            → OfNode self.old node (Waits O.Owners E.Engine self.old.engine node moment lease.session said owners self.old.owners (S.out_of self.old.store node) (Asking G.Register O.Owners self.old node) first)
+            → OnOk result (OfNode self.new node (Waits O.Owners E.Engine self.new.engine node moment lease.session said owners self.new.owners (S.out_of self.new.store node) (Asking G.Register O.Owners self.new node) first)) }
         ensures answers { OnOk result (OfBoth self.old self.new node (λ old new. AreApart old → AnswersCalls moment old new [])) }
-        ensures goes { OnOk result (OfBoth self.old self.new node TidyGoes) }
+        ensures goes { OnOk result (OfBoth self.old self.new node (λ old new. TidyGoes (IsSome old.mark) old new)) }
         ensures cleans { (x : Disks) (letters : List Letter) (clocks : Clocks) (c : Course) (tree : E.Tree) (session : ℕ) → clocks.down (Node node) ≡ false → Stand G.Register O.Owners S.Store E.Engine self.new x letters clocks c tree
             → O.own self.new.owners node ≡ Some session → LivesIn (last c.register.chain) session → IsUnder self.new node session
             → OnOk result (OfBoth self.old self.new node (λ old new. CleansArea (E.is_clean self.old.engine c.truth) (S.made self.old.store).areas old.tidy new.tidy)) }
@@ -81,13 +84,13 @@ impl<G: Register, O: Owners, S: Store, E: Engine> Nodes<G, O, S, E> {
         ensures count { length self.new.machines.items ≡ length self.old.machines.items }
     {
         let place = node as usize;
+        let Some(area) = self.machines[place].to_clean() else {
+            return Ok(());
+        };
         if self.machines[place].mark.is_some() {
             self.machines[place].rest();
             return Ok(());
         }
-        let Some(area) = self.machines[place].to_clean() else {
-            return Ok(());
-        };
         if !self.store.done(node) {
             return Ok(());
         }

@@ -1,6 +1,6 @@
 //! Turns.
 
-ghost use Rattle.std.specs.Prelude.{◌≡◌, ℕ, ◌+◌, ◌++◌, ◌<◌, ◌≤◌, [], false, true, length, List, IfOk, IfSome, IsSome, None, OnOk, Some, option_to_list, slice_get};
+ghost use Rattle.std.specs.Prelude.{◌≡◌, ◌⊎◌, ℕ, ◌+◌, ◌++◌, ◌<◌, ◌≤◌, [], false, true, length, List, IfOk, IfSome, IsSome, None, OnOk, Some, option_to_list, slice_get};
 ghost use Rattle.bx_base.specs.declared.names.Actor.TheVariants.{Node};
 ghost use Rattle.bx_disk.specs.Disks.{Disks};
 ghost use Rattle.bx_facts.specs.Chains.{LivesIn, last};
@@ -10,7 +10,7 @@ ghost use Rattle.bx_node_steps.specs.Gives.{marked};
 ghost use Rattle.bx_node_steps.specs.Tidying.{TidyGoes};
 ghost use Rattle.bx_nodes.specs.Cleaning.{CleansArea, IsHeldUp};
 ghost use Rattle.bx_nodes.specs.Standing.{Asking, BeReady, HasLease, IsUnder, OfBoth, OfNode, Ready, Rests, Stand};
-ghost use Rattle.bx_nodes.specs.Turns.{OnlyMachine, OnlyStore, Turned, Waits, newest_of};
+ghost use Rattle.bx_nodes.specs.Turns.{OnlyMachine, OnlyStore, TurnEnds, Turned, Waits, newest_of, noting};
 ghost use Rattle.bx_post.specs.declared.packets.Letter.{Letter};
 ghost use Rattle.bx_world_standing.specs.Parts.{Clocks};
 ghost use Rattle.bx_world_standing.specs.Standing.{Course};
@@ -49,11 +49,11 @@ impl<G: Register, O: Owners, S: Store, E: Engine> Nodes<G, O, S, E> {
         ensures stands { (x : Disks) (letters : List Letter) (clocks : Clocks) (c : Course) (tree : E.Tree) → clocks.down (Node node) ≡ false → clocks.greatest ≤ reading + 500
             → Stand G.Register O.Owners S.Store E.Engine self.old x (letters ++ out.old) clocks c tree
             → IfOk result (λ said. Turned (E.step self.old.engine) (Stand G.Register O.Owners S.Store E.Engine self.new x (letters ++ out.new) clocks) c tree said.items) }
-        ensures waits { (lease : Lease) → HasLease O.Owners S.Store self.old node reading lease → OnOk result (OfNode self.new node (Waits O.Owners E.Engine self.new.engine node reading lease.session (S.out_of self.new.store node) (Asking G.Register O.Owners self.new node))) }
+        ensures waits { (lease : Lease) → HasLease O.Owners S.Store self.old node reading lease → IfOk result (λ said. OfBoth self.old self.new node (λ old new. TurnEnds O.Owners E.Engine self.new.engine node reading lease.session (S.answer self.old.store node) (S.asked self.old.store node) said.items self.old.owners self.new.owners (S.out_of self.new.store node) (Asking G.Register O.Owners self.new node) (noting (O.asks self.old.owners node) old) new)) }
         ensures answers { IfOk result (λ said. OfBoth self.old self.new node (λ old new. AreApart old → AnswersCalls reading old new said.items)) }
         ensures notes { OnOk result (OfNode self.new node (λ machine. machine.mark ≡ marked (first_of (O.asks self.new.owners node)) machine)) }
         ensures session { OnOk result (OfBoth self.old self.new node (λ old new. new.session ≡ old.session)) }
-        ensures tidies { OnOk result (OfBoth self.old self.new node TidyGoes) }
+        ensures tidies { OnOk result (OfBoth self.old self.new node (TidyGoes (IsSome (first_of (O.asks self.old.owners node))))) }
         ensures cleans { (x : Disks) (letters : List Letter) (clocks : Clocks) (c later : Course) (tree next : E.Tree) → clocks.down (Node node) ≡ false → clocks.greatest ≤ reading + 500
             → Stand G.Register O.Owners S.Store E.Engine self.old x (letters ++ out.old) clocks c tree → later.register.chain ≡ c.register.chain → Stand G.Register O.Owners S.Store E.Engine self.new x (letters ++ out.new) clocks later next
             → OnOk result (OfBoth self.old self.new node (λ old new. CleansArea (E.is_clean self.old.engine later.truth) (S.made self.old.store).areas old.tidy new.tidy)) }
@@ -82,10 +82,10 @@ impl<G: Register, O: Owners, S: Store, E: Engine> Nodes<G, O, S, E> {
         ensures stands { (x : Disks) (letters : List Letter) (clocks : Clocks) (c : Course) (tree : E.Tree) → clocks.down (Node node) ≡ false → clocks.greatest ≤ reading + 500
             → Stand G.Register O.Owners S.Store E.Engine self.old x (letters ++ out.old) clocks c tree
             → IfOk result (λ said. Turned (E.step self.old.engine) (Stand G.Register O.Owners S.Store E.Engine self.new x (letters ++ out.new) clocks) c tree said.items) }
-        ensures waits { (lease : Lease) → HasLease O.Owners S.Store self.old node reading lease → OnOk result (OfNode self.new node (Waits O.Owners E.Engine self.new.engine node reading lease.session (S.out_of self.new.store node) (Asking G.Register O.Owners self.new node))) }
+        ensures waits { (lease : Lease) → HasLease O.Owners S.Store self.old node reading lease → IfOk result (λ said. OfBoth self.old self.new node (λ old new. TurnEnds O.Owners E.Engine self.new.engine node reading lease.session (S.answer self.old.store node) (S.asked self.old.store node) said.items self.old.owners self.new.owners (S.out_of self.new.store node) (Asking G.Register O.Owners self.new node) old new)) }
         ensures answers { IfOk result (λ said. OfBoth self.old self.new node (λ old new. AreApart old → AnswersCalls reading old new said.items)) }
         ensures session { OnOk result (OfBoth self.old self.new node (λ old new. new.session ≡ old.session)) }
-        ensures tidies { OnOk result (OfBoth self.old self.new node TidyGoes) }
+        ensures tidies { OnOk result (OfBoth self.old self.new node (λ old new. TidyGoes (IsSome old.mark) old new)) }
         ensures cleans { (x : Disks) (letters : List Letter) (clocks : Clocks) (c later : Course) (tree next : E.Tree) → clocks.down (Node node) ≡ false → clocks.greatest ≤ reading + 500
             → Stand G.Register O.Owners S.Store E.Engine self.old x (letters ++ out.old) clocks c tree → later.register.chain ≡ c.register.chain → Stand G.Register O.Owners S.Store E.Engine self.new x (letters ++ out.new) clocks later next
             → OnOk result (OfBoth self.old self.new node (λ old new. CleansArea (E.is_clean self.old.engine later.truth) (S.made self.old.store).areas old.tidy new.tidy)) }
@@ -125,10 +125,10 @@ impl<G: Register, O: Owners, S: Store, E: Engine> Nodes<G, O, S, E> {
         ensures stands { (x : Disks) (letters : List Letter) (clocks : Clocks) (c : Course) (tree : E.Tree) (session : ℕ) → clocks.down (Node node) ≡ false → Stand G.Register O.Owners S.Store E.Engine self.old x (letters ++ out.old) clocks c tree
             → O.own self.old.owners node ≡ Some session → O.end_of self.old.owners node ≡ Some lease.until → LivesIn (last c.register.chain) session → IsUnder self.old node session
             → IfOk result (λ said. Turned (E.step self.old.engine) (Stand G.Register O.Owners S.Store E.Engine self.new x (letters ++ out.new) clocks) c tree said.items) }
-        ensures waits { OnOk result (OfNode self.new node (Waits O.Owners E.Engine self.new.engine node reading lease.session (S.out_of self.new.store node) (Asking G.Register O.Owners self.new node))) }
+        ensures waits { IfOk result (λ said. (IsSome (S.out_of self.new.store node) × (self.new.owners ≡ self.old.owners)) ⊎ ((S.out_of self.old.store node ≡ None) × OfBoth self.old self.new node (Waits O.Owners E.Engine self.new.engine node reading lease.session said.items self.old.owners self.new.owners (S.out_of self.new.store node) (Asking G.Register O.Owners self.new node)))) }
         ensures answers { IfOk result (λ said. OfBoth self.old self.new node (λ old new. AreApart old → AnswersCalls reading old new said.items)) }
         ensures session { OnOk result (OfBoth self.old self.new node (λ old new. new.session ≡ old.session)) }
-        ensures tidies { OnOk result (OfBoth self.old self.new node TidyGoes) }
+        ensures tidies { OnOk result (OfBoth self.old self.new node (λ old new. TidyGoes (IsSome old.mark) old new)) }
         ensures cleans { (x : Disks) (letters : List Letter) (clocks : Clocks) (c : Course) (tree : E.Tree) (session : ℕ) → clocks.down (Node node) ≡ false → Stand G.Register O.Owners S.Store E.Engine self.new x letters clocks c tree
             → O.own self.old.owners node ≡ Some session → LivesIn (last c.register.chain) session → IsUnder self.old node session
             → OnOk result (OfBoth self.old self.new node (λ old new. CleansArea (E.is_clean self.old.engine c.truth) (S.made self.old.store).areas old.tidy new.tidy)) }
@@ -170,10 +170,10 @@ impl<G: Register, O: Owners, S: Store, E: Engine> Nodes<G, O, S, E> {
         ensures stands { (x : Disks) (letters : List Letter) (clocks : Clocks) (c : Course) (tree : E.Tree) (session : ℕ) → clocks.down (Node node) ≡ false → Stand G.Register O.Owners S.Store E.Engine self.old x (letters ++ out.old) clocks c tree
             → O.own self.old.owners node ≡ Some session → O.end_of self.old.owners node ≡ Some lease.until → LivesIn (last c.register.chain) session → IsUnder self.old node session
             → IfOk result (λ said. Turned (E.step self.old.engine) (Stand G.Register O.Owners S.Store E.Engine self.new x (letters ++ out.new) clocks) c tree said.items) }
-        ensures waits { OnOk result (OfNode self.new node (Waits O.Owners E.Engine self.new.engine node reading lease.session (S.out_of self.new.store node) (Asking G.Register O.Owners self.new node))) }
+        ensures waits { IfOk result (λ said. OfBoth self.old self.new node (Waits O.Owners E.Engine self.new.engine node reading lease.session said.items self.old.owners self.new.owners (S.out_of self.new.store node) (Asking G.Register O.Owners self.new node))) }
         ensures answers { IfOk result (λ said. OfBoth self.old self.new node (λ old new. AreApart old → AnswersCalls reading old new said.items)) }
         ensures session { OnOk result (OfBoth self.old self.new node (λ old new. new.session ≡ old.session)) }
-        ensures tidy { OnOk result (OfBoth self.old self.new node (λ old new. new.tidy ≡ old.tidy)) }
+        ensures tidy { OnOk result (OfBoth self.old self.new node (λ old new. (new.tidy ≡ old.tidy) × (new.mark ≡ old.mark))) }
         ensures store { S.own self.new.store node ≡ S.own self.old.store node }
         ensures own { (other : ℕ) → (O.own self.new.owners other ≡ O.own self.old.owners other) × (O.end_of self.new.owners other ≡ O.end_of self.old.owners other) }
         ensures nodes { O.nodes self.new.owners ≡ O.nodes self.old.owners }

@@ -1,34 +1,25 @@
 -- What a node is asked for, when rows of one block change.
-use Rattle.std.proofs.Common.{◌≡◌, ◌≢◌, inr, ℕ, zero, suc, ◌+◌, ◌-◌, ◌<◌, Bool, true, false, ◌==◌, ◌&&◌, List, [], ◌∷◌, ◌++◌, Option, Some, None, refl, sym, ap, subst, ◌∙◌, arith}
+use Rattle.std.proofs.Common.{◌≡◌, ◌≢◌, inr, ℕ, zero, suc, ◌+◌, ◌-◌, ◌<◌, ltb, Bool, true, false, ◌==◌, ◌&&◌, List, [], ◌∷◌, ◌++◌, Option, Some, None, refl, sym, ap, subst, ◌∙◌, arith}
 use Rattle.std.specs.Prelude.{if◌then◌else◌, is_some, not}
 use Rattle.std.proofs.lemmas.Bool.Decides.{nat_tests}
 use Rattle.bx_facts.specs.Holds.{Hold, first_of, without_block}
 use Rattle.bx_plain.specs.declared.rows.Row.{Row}
-use Rattle.bx_plain.specs.Asks.{AlikeBut, AreOf, asked_by, asked_of, asks_from, conflicts, is_asked}
-use Rattle.bx_plain.specs.Rows.{hold_in, hold_of_row, is_row, with_row}
+use Rattle.bx_plain.specs.Asks.{AlikeBut, asked_by, asked_of, asks_from, conflicts, is_asked}
+use Rattle.bx_plain.specs.Rows.{hold_in, hold_of_row, is_row, rows_at, rows_but, with_row}
+use Rattle.bx_plain.specs.Tables.{gather, wanted}
 use Rattle.bx_plain.proofs.Puts.{not_row, row_is}
 
-pub alike_self : (block : ℕ) (rows : List Row) → AlikeBut block rows rows
-alike_self block [] = tt
-alike_self block (row ∷ rows) = (refl, refl, λ other. refl, alike_self block rows)
-
-all_of : (block : ℕ) (rows new : List Row) → AreOf block rows → AlikeBut block rows new → AreOf block new
-all_of block [] new are alike = alike
-all_of block (row ∷ rows) [] are alike = absurd alike
-all_of block (row ∷ rows) (other ∷ others) are alike = (alike.1 ∙ are.0, all_of block rows others are.1 alike.3)
-
-pub alike_then : (block : ℕ) (rows new later : List Row) → AlikeBut block rows new → AlikeBut block new later → AlikeBut block rows later
-alike_then block [] new later one two = all_of block new later one two
-alike_then block (row ∷ rows) [] later one two = absurd one
-alike_then block (row ∷ rows) (other ∷ others) [] one two = absurd two
-alike_then block (row ∷ rows) (other ∷ others) (last ∷ rest) one two =
-    (two.0 ∙ one.0, two.1 ∙ one.1, λ apart. two.2 (λ same. apart (sym one.1 ∙ same)) ∙ one.2 apart, alike_then block rows others rest one.3 two.3)
-
 pub alike_put : (rows : List Row) (new : Row) → AlikeBut new.block rows (with_row rows new)
-alike_put [] new = (refl, tt)
+alike_put [] new = let its : (new.block == new.block) ≡ true = grind (arith, nat_tests) in rw its refl
 alike_put (row ∷ rows) new = (elim (is_row new.session new.block row) as (λ b. is_row new.session new.block row ≡ b → AlikeBut new.block (row ∷ rows) (with_row (row ∷ rows) new)) [
-  | true ↦ λ t. let e = row_is new.session new.block row t in rw t (sym e.0, sym e.1, λ apart. absurd (apart e.1), alike_self new.block rows)
-  | false ↦ λ t. rw t (refl, refl, λ apart. refl, alike_put rows new)
+  | true ↦ λ t.
+      let its : (new.block == new.block) ≡ true = grind (arith, nat_tests) in
+      let same : (row.block == new.block) ≡ true = let e = (row_is new.session new.block row t).1 in grind (arith, nat_tests, e) in
+      rw (t, its, same) refl
+  | false ↦ λ t. (elim (ltb new.block row.block) as (λ b. ltb new.block row.block ≡ b → AlikeBut new.block (row ∷ rows) (with_row (row ∷ rows) new)) [
+    | true ↦ λ l. let its : (new.block == new.block) ≡ true = grind (arith, nat_tests) in rw (t, l, its) refl
+    | false ↦ λ l. rw (t, l) (ap (λ (xs : List Row). if not (row.block == new.block) then row ∷ xs else xs) (alike_put rows new))
+  ]) refl
 ]) refl
 
 -- ---- the first that asks
@@ -47,15 +38,49 @@ asks_later held session rows node nodes less none =
     let left : nodes - node ≡ suc (nodes - (node + 1)) = omega arith in
     sym (ap (λ n. first_of (asks_from held session rows (node + 1) n)) left ∙ first_none (asked_of held session (node + 1) rows) (asks_from held session rows (node + 1 + 1) (nodes - (node + 1))) none)
 
-pub asks_now : (held : ℕ → Option Hold) (session : ℕ) (rows : List Row) (node nodes : ℕ) (one : ℕ × ℕ) → node < nodes → first_of (asked_of held session (node + 1) rows) ≡ Some one
-    → first_of (asks_from held session rows (node + 1) (nodes - node)) ≡ Some one
-asks_now held session rows node nodes one less some =
-    let left : nodes - node ≡ suc (nodes - (node + 1)) = omega arith in
-    ap (λ n. first_of (asks_from held session rows (node + 1) n)) left ∙ first_some (asked_of held session (node + 1) rows) (asks_from held session rows (node + 1 + 1) (nodes - (node + 1))) one some
-
 pub is_none : {A : Type 0} (o : Option A) → is_some o ≡ false → o ≡ None
 is_none None free = refl
 is_none (Some x) free = absurd cc
+
+-- ---- what is asked by the rows of one block and then those of others
+
+asked_first : (held : ℕ → Option Hold) (by : ℕ) (row : Row) (rows : List Row) (t : Bool) → is_asked held by row ≡ t → asked_by held by (row ∷ rows) ≡ (if t then (row.block, by) ∷ asked_by held by rows else asked_by held by rows)
+asked_first held by row rows t is = ap (λ b. if b then (row.block, by) ∷ asked_by held by rows else asked_by held by rows) is
+
+pub asked_both : (held : ℕ → Option Hold) (by : ℕ) (rows more : List Row) → asked_by held by (rows ++ more) ≡ asked_by held by rows ++ asked_by held by more
+asked_both held by [] more = refl
+asked_both held by (row ∷ rows) more = by_test (is_asked held by row) refl (asked_both held by rows more)
+  where
+    by_test : (t : Bool) → is_asked held by row ≡ t → asked_by held by (rows ++ more) ≡ asked_by held by rows ++ asked_by held by more → asked_by held by (row ∷ rows ++ more) ≡ asked_by held by (row ∷ rows) ++ asked_by held by more
+    by_test true is later = asked_first held by row (rows ++ more) true is ∙ ap (λ xs. (row.block, by) ∷ xs) later ∙ sym (ap (λ xs. xs ++ asked_by held by more) (asked_first held by row rows true is))
+    by_test false is later = asked_first held by row (rows ++ more) false is ∙ later ∙ sym (ap (λ xs. xs ++ asked_by held by more) (asked_first held by row rows false is))
+
+-- only what is wanted is asked for
+asked_wanted : (held : ℕ → Option Hold) (by : ℕ) (rows : List Row) → asked_by held by (wanted rows) ≡ asked_by held by rows
+asked_wanted held by [] = refl
+asked_wanted held by (row ∷ rows) = by_test row.is_wanted refl (asked_wanted held by rows)
+  where
+    by_test : (w : Bool) → row.is_wanted ≡ w → asked_by held by (wanted rows) ≡ asked_by held by rows → asked_by held by (wanted (row ∷ rows)) ≡ asked_by held by (row ∷ rows)
+    by_test true is more =
+        ap (λ t. asked_by held by (if t then row ∷ wanted rows else wanted rows)) is ∙ ap (λ xs. if is_asked held by row then (row.block, by) ∷ xs else xs) more
+    by_test false is more =
+        let no : is_asked held by row ≡ false = ap (λ w. (row.session == by) && w && conflicts (held row.block) row.mode) is ∙ and_none (row.session == by) in
+        ap (λ t. asked_by held by (if t then row ∷ wanted rows else wanted rows)) is ∙ more ∙ sym (asked_first held by row rows false no)
+      where
+        and_none : (b : Bool) → (b && false && conflicts (held row.block) row.mode) ≡ false
+        and_none true = refl
+        and_none false = refl
+
+pub asked_gathered : (held : ℕ → Option Hold) (by : ℕ) (blocks : List ℕ) (rows : List Row) → wanted (gather blocks rows) ≡ wanted rows → asked_by held by (gather blocks rows) ≡ asked_by held by rows
+asked_gathered held by blocks rows same = sym (asked_wanted held by (gather blocks rows)) ∙ ap (asked_by held by) same ∙ asked_wanted held by rows
+
+pub asked_later : (held : ℕ → Option Hold) (by block : ℕ) (blocks : List ℕ) (rows : List Row) → first_of (asked_by held by (rows_at block rows)) ≡ None → first_of (asked_by held by (gather (block ∷ blocks) rows)) ≡ first_of (asked_by held by (gather blocks rows))
+asked_later held by block blocks rows none = ap first_of (asked_both held by (rows_at block rows) (gather blocks rows)) ∙ first_none (asked_by held by (rows_at block rows)) (asked_by held by (gather blocks rows)) none
+
+pub asked_now : (held : ℕ → Option Hold) (by block : ℕ) (blocks : List ℕ) (rows : List Row) (one : Option (ℕ × ℕ)) → is_some one ≡ true → one ≡ first_of (asked_by held by (rows_at block rows)) → one ≡ first_of (asked_by held by (gather (block ∷ blocks) rows))
+asked_now held by block blocks rows None some is = absurd cc
+asked_now held by block blocks rows (Some one) some is =
+    sym (ap first_of (asked_both held by (rows_at block rows) (gather blocks rows)) ∙ first_some (asked_by held by (rows_at block rows)) (asked_by held by (gather blocks rows)) one (sym is))
 
 -- ---- what is asked when rows of a block change
 
@@ -73,47 +98,50 @@ none_asked held by row none =
     and_false true = refl
     and_false false = refl
 
--- of rows of one block nothing is left without it
-only_cut : (held : ℕ → Option Hold) (by block : ℕ) (rows : List Row) → AreOf block rows → without_block block (asked_by held by rows) ≡ []
-only_cut held by block [] are = refl
-only_cut held by block (row ∷ rows) are = by_test (is_asked held by row) refl (only_cut held by block rows are.1)
+-- without a block, what is asked for is what is asked for by the rows of others
+cut_asked : (held : ℕ → Option Hold) (by block : ℕ) (rows : List Row) → without_block block (asked_by held by rows) ≡ asked_by held by (rows_but block rows)
+cut_asked held by block [] = refl
+cut_asked held by block (row ∷ rows) = by_test (is_asked held by row) (row.block == block) refl refl (cut_asked held by block rows)
   where
-    by_test : (t : Bool) → is_asked held by row ≡ t → without_block block (asked_by held by rows) ≡ [] → without_block block (asked_by held by (row ∷ rows)) ≡ []
-    by_test true is more =
-        let its : (row.block == block) ≡ true = let e = are.0 in grind (arith, nat_tests, e) in
-        ap (λ t. without_block block (if t then (row.block, by) ∷ asked_by held by rows else asked_by held by rows)) is ∙ cut true block by row.block (asked_by held by rows) its ∙ more
-    by_test false is more = ap (λ t. without_block block (if t then (row.block, by) ∷ asked_by held by rows else asked_by held by rows)) is ∙ more
+    first : (b : Bool) → (row.block == block) ≡ b → rows_but block (row ∷ rows) ≡ (if not b then row ∷ rows_but block rows else rows_but block rows)
+    first b is = ap (λ t. if not t then row ∷ rows_but block rows else rows_but block rows) is
+
+    asks : (t : Bool) (rest : List Row) → is_asked held by row ≡ t → asked_by held by (row ∷ rest) ≡ (if t then (row.block, by) ∷ asked_by held by rest else asked_by held by rest)
+    asks t rest is = ap (λ b. if b then (row.block, by) ∷ asked_by held by rest else asked_by held by rest) is
+
+    by_test : (t b : Bool) → is_asked held by row ≡ t → (row.block == block) ≡ b → without_block block (asked_by held by rows) ≡ asked_by held by (rows_but block rows)
+        → without_block block (asked_by held by (row ∷ rows)) ≡ asked_by held by (rows_but block (row ∷ rows))
+    by_test true true is its more = ap (without_block block) (asks true rows is) ∙ cut true block by row.block (asked_by held by rows) its ∙ more ∙ sym (ap (asked_by held by) (first true its))
+    by_test true false is its more =
+        ap (without_block block) (asks true rows is) ∙ cut false block by row.block (asked_by held by rows) its ∙ ap (λ xs. (row.block, by) ∷ xs) more
+        ∙ sym (ap (asked_by held by) (first false its) ∙ asks true (rows_but block rows) is)
+    by_test false true is its more = ap (without_block block) (asks false rows is) ∙ more ∙ sym (ap (asked_by held by) (first true its))
+    by_test false false is its more = ap (without_block block) (asks false rows is) ∙ more ∙ sym (ap (asked_by held by) (first false its) ∙ asks false (rows_but block rows) is)
+
+-- rows of other blocks ask the same where what is held of these is the same
+asked_same : (held other : ℕ → Option Hold) (by block : ℕ) (rows : List Row) → ((at : ℕ) → at ≢ block → other at ≡ held at) → asked_by other by (rows_but block rows) ≡ asked_by held by (rows_but block rows)
+asked_same held other by block [] same = refl
+asked_same held other by block (row ∷ rows) same = by_test (row.block == block) refl (asked_same held other by block rows same)
+  where
+    by_test : (b : Bool) → (row.block == block) ≡ b → asked_by other by (rows_but block rows) ≡ asked_by held by (rows_but block rows) → asked_by other by (rows_but block (row ∷ rows)) ≡ asked_by held by (rows_but block (row ∷ rows))
+    by_test true its more =
+        let e = ap (λ t. if not t then row ∷ rows_but block rows else rows_but block rows) its in
+        ap (asked_by other by) e ∙ more ∙ sym (ap (asked_by held by) e)
+    by_test false apart more =
+        let ne : row.block ≢ block = λ e. grind (arith, nat_tests, e, apart) in
+        let e = ap (λ t. if not t then row ∷ rows_but block rows else rows_but block rows) apart in
+        let there : other row.block ≡ held row.block = same row.block ne in
+        let asked : is_asked other by row ≡ is_asked held by row = ap (λ h. (row.session == by) && row.is_wanted && conflicts h row.mode) there in
+        ap (asked_by other by) e
+        ∙ ap (λ t. if t then (row.block, by) ∷ asked_by other by (rows_but block rows) else asked_by other by (rows_but block rows)) asked
+        ∙ ap (λ xs. if is_asked held by row then (row.block, by) ∷ xs else xs) more
+        ∙ sym (ap (asked_by held by) e)
 
 -- all but the block are asked for as before
 pub asked_alike : (held other : ℕ → Option Hold) (by block : ℕ) (rows new : List Row) → AlikeBut block rows new → ((at : ℕ) → at ≢ block → other at ≡ held at)
     → without_block block (asked_by other by new) ≡ without_block block (asked_by held by rows)
-asked_alike held other by block [] new alike same = only_cut other by block new alike
-asked_alike held other by block (row ∷ rows) [] alike same = absurd alike
-asked_alike held other by block (row ∷ rows) (next ∷ others) alike same = by_test (row.block == block) refl (asked_alike held other by block rows others alike.3 same)
-  where
-    kept : (h : ℕ → Option Hold) (one : Row) (rest : List Row) → (one.block == block) ≡ true → without_block block (asked_by h by (one ∷ rest)) ≡ without_block block (asked_by h by rest)
-    kept h one rest its = by_asked (is_asked h by one) refl
-      where
-        by_asked : (t : Bool) → is_asked h by one ≡ t → without_block block (asked_by h by (one ∷ rest)) ≡ without_block block (asked_by h by rest)
-        by_asked true is = ap (λ t. without_block block (if t then (one.block, by) ∷ asked_by h by rest else asked_by h by rest)) is ∙ cut true block by one.block (asked_by h by rest) its
-        by_asked false is = ap (λ t. without_block block (if t then (one.block, by) ∷ asked_by h by rest else asked_by h by rest)) is
-
-    by_test : (t : Bool) → (row.block == block) ≡ t → without_block block (asked_by other by others) ≡ without_block block (asked_by held by rows)
-        → without_block block (asked_by other by (next ∷ others)) ≡ without_block block (asked_by held by (row ∷ rows))
-    by_test true its more = kept other next others (ap (λ n. n == block) alike.1 ∙ its) ∙ more ∙ sym (kept held row rows its)
-    by_test false apart more =
-        let ne : row.block ≢ block = λ e. grind (arith, nat_tests, e, apart) in
-        let one : next ≡ row = alike.2 ne in
-        let there : other row.block ≡ held row.block = same row.block ne in
-        let asked : is_asked other by row ≡ is_asked held by row = ap (λ h. (row.session == by) && row.is_wanted && conflicts h row.mode) there in
-        ap (λ (r : Row). without_block block (asked_by other by (r ∷ others))) one
-        ∙ ap (λ t. without_block block (if t then (row.block, by) ∷ asked_by other by others else asked_by other by others)) asked
-        ∙ pass (is_asked held by row) more
-      where
-        pass : (t : Bool) → without_block block (asked_by other by others) ≡ without_block block (asked_by held by rows)
-            → without_block block (if t then (row.block, by) ∷ asked_by other by others else asked_by other by others) ≡ without_block block (if t then (row.block, by) ∷ asked_by held by rows else asked_by held by rows)
-        pass true more = cut false block by row.block (asked_by other by others) apart ∙ ap (λ xs. (row.block, by) ∷ xs) more ∙ sym (cut false block by row.block (asked_by held by rows) apart)
-        pass false more = more
+asked_alike held other by block rows new alike same =
+    cut_asked other by block new ∙ ap (asked_by other by) alike ∙ asked_same held other by block rows same ∙ sym (cut_asked held by block rows)
 
 -- a block that isn't held is asked for by nobody
 pub none_left : (held : ℕ → Option Hold) (by block : ℕ) (rows : List Row) → held block ≡ None → asked_by held by rows ≡ without_block block (asked_by held by rows)
@@ -175,21 +203,18 @@ asks_none held session block rows none by (suc count) =
     by_test true is = let e = ap (λ t. if t then [] else asked_by held by rows) is in e ∙ sym (ap (without_block block) e)
     by_test false is = let e = ap (λ t. if t then [] else asked_by held by rows) is in e ∙ none_left held by block rows none ∙ sym (ap (without_block block) e)
 
--- what is held of other blocks stays where rows are alike
-pub holds_alike : (block session at : ℕ) (rows new : List Row) → AlikeBut block rows new → at ≢ block → hold_in new session at ≡ hold_in rows session at
-holds_alike block session at [] [] alike apart = refl
-holds_alike block session at [] (row ∷ new) alike apart =
-    let no : is_row session at row ≡ false = not_row session at row (inr (λ same. apart (sym same ∙ alike.0))) in
-    ap (λ t. if t then hold_of_row row else hold_in new session at) no ∙ holds_alike block session at [] new alike.1 apart
-holds_alike block session at (row ∷ rows) [] alike apart = absurd alike
-holds_alike block session at (row ∷ rows) (other ∷ others) alike apart = by_test (row.block == block) refl (holds_alike block session at rows others alike.3 apart)
+-- what is held of other blocks is held by the rows of these
+hold_but : (block session at : ℕ) (rows : List Row) → at ≢ block → hold_in (rows_but block rows) session at ≡ hold_in rows session at
+hold_but block session at [] apart = refl
+hold_but block session at (row ∷ rows) apart = by_test (row.block == block) refl (hold_but block session at rows apart)
   where
-    by_test : (t : Bool) → (row.block == block) ≡ t → hold_in others session at ≡ hold_in rows session at → hold_in (other ∷ others) session at ≡ hold_in (row ∷ rows) session at
+    by_test : (b : Bool) → (row.block == block) ≡ b → hold_in (rows_but block rows) session at ≡ hold_in rows session at → hold_in (rows_but block (row ∷ rows)) session at ≡ hold_in (row ∷ rows) session at
     by_test true its more =
         let same : row.block ≡ block = grind (arith, nat_tests, its) in
         let no : is_row session at row ≡ false = not_row session at row (inr (λ e. apart (sym e ∙ same))) in
-        let none : is_row session at other ≡ false = not_row session at other (inr (λ e. apart (sym e ∙ alike.1 ∙ same))) in
-        ap (λ t. if t then hold_of_row other else hold_in others session at) none ∙ more ∙ sym (ap (λ t. if t then hold_of_row row else hold_in rows session at) no)
-    by_test false its more =
-        let one : other ≡ row = alike.2 (λ same. grind (arith, nat_tests, its, same)) in
-        ap (λ (r : Row). hold_in (r ∷ others) session at) one ∙ ap (λ h. if is_row session at row then hold_of_row row else h) more
+        ap (λ t. hold_in (if not t then row ∷ rows_but block rows else rows_but block rows) session at) its ∙ more ∙ sym (ap (λ t. if t then hold_of_row row else hold_in rows session at) no)
+    by_test false other more =
+        ap (λ t. hold_in (if not t then row ∷ rows_but block rows else rows_but block rows) session at) other ∙ ap (λ h. if is_row session at row then hold_of_row row else h) more
+
+pub holds_alike : (block session at : ℕ) (rows new : List Row) → AlikeBut block rows new → at ≢ block → hold_in new session at ≡ hold_in rows session at
+holds_alike block session at rows new alike apart = sym (hold_but block session at new apart) ∙ ap (λ (xs : List Row). hold_in xs session at) alike ∙ hold_but block session at rows apart

@@ -110,9 +110,6 @@ module _ (test : SessionRow → Bool) (node : ℕ) (hits : test (plain_row node)
           let before : node < n = grind (arith, nat_tests, is, less) in
           find_front test (plain_rows n) (plain_row n ∷ []) (plain_row node) (more before)
 
-by_number : ℕ → SessionRow → Bool
-by_number session row = row.number == session
-
 session_row : (nodes node : ℕ) → node < nodes → row_in (plain_rows nodes) (node + 1) ≡ Some (plain_row node)
 session_row nodes node less = is_there (λ row. row.number == node + 1) node (grind (arith, nat_tests)) (λ other apart. grind (arith, nat_tests, apart)) nodes less
 

@@ -1,13 +1,13 @@
 -- Wants that are granted, and wants that wait.
-use Rattle.std.proofs.Common.{◌≡◌, ◌≢◌, ◌⊎◌, inl, inr, ⊎_elim, ℕ, zero, suc, ◌+◌, ◌<◌, ◌≤◌, Bool, true, false, List, [], ◌∷◌, length, Option, Some, None, refl, sym, ◌∙◌, ap, subst, arith, slice_get}
-use Rattle.std.specs.Prelude.{IfSome, IsSome, IsSomeAnd, if◌then◌else◌, nat_lt, not}
+use Rattle.std.proofs.Common.{◌≡◌, ◌≢◌, ◌⊎◌, inl, inr, ⊎_elim, ℕ, zero, suc, ◌+◌, ◌<◌, ◌≤◌, ◌==◌, ltb, Bool, true, false, List, [], ◌∷◌, length, Option, Some, None, refl, sym, ◌∙◌, ap, subst, arith}
+use Rattle.std.specs.Prelude.{IfSome, IsSome, IsSomeAnd, if◌then◌else◌, map, nat_lt, not, slice_index, slice_index_or}
+use Rattle.std.proofs.lemmas.Bool.Decides.{nat_tests}
 use Rattle.bx_base.specs.declared.names.Mode.{Mode}
 use Rattle.bx_facts.specs.Holds.{Hold, Holds, hold_of}
 use Rattle.bx_plain.specs.declared.rows.Row.{Row}
-use Rattle.bx_plain.specs.Asks.{AlikeBut}
 use Rattle.bx_plain.specs.Fits.{own_in}
-use Rattle.bx_plain.specs.Grants.{Grants, IsAlike, IsAnswered, IsGone, IsGranted, IsLeft, NoneLeft, Passes, session_in}
-use Rattle.bx_plain.specs.Rows.{AllLet, floor_in, hold_in, is_row, row_in, want_in, with_row}
+use Rattle.bx_plain.specs.Grants.{Grants, IsAlike, IsAnswered, IsGone, IsGranted, IsLeft, NoneLeft, Passes}
+use Rattle.bx_plain.specs.Rows.{AllLet, floor_in, hold_in, is_row, row_in, rows_at, sessions_at, want_in, with_row}
 use Rattle.bx_plain.proofs.Puts.{held_beside, not_row, row_is}
 use Rattle.bx_plain.proofs.Stands.{asked, decide, grant_floors, granted}
 use Rattle.bx_plain.proofs.Wants.{held_as, hold_of_new, its_block, its_session, not_held, not_wanted, want_beside, want_of_new, wanted_as, was_true}
@@ -22,7 +22,10 @@ lets_put (row ∷ rows) new session block mode free lets = (elim (is_row new.ses
     ⊎_elim (λ none. inl (let h = rw t at none in h)) (λ own. inr (inl ((row_is new.session new.block row t).0 ∙ own))) free,
     (let h = rw t at lets in h).1,
   )
-  | false ↦ λ t. let h = rw t at lets in let f = rw t at free in (h.0, lets_put rows new session block mode f h.1)
+  | false ↦ λ t. let f = rw t at free in (elim (ltb new.block row.block) as (λ b. ltb new.block row.block ≡ b → AllLet session block mode (row ∷ rows)) [
+    | true ↦ λ l. let h = rw (t, l) at lets in h.1
+    | false ↦ λ l. let h = rw (t, l) at lets in (h.0, lets_put rows new session block mode f h.1)
+  ]) refl
 ]) refl
 
 -- ---- a want is granted
@@ -138,34 +141,51 @@ left_before block a b session passes left = ⊎_elim
     (passes.each session block)
 
 -- who wants something has a row
-pub has_place : (rows : List Row) (session block : ℕ) (mode : Mode) → want_in rows session block ≡ Some mode → (place : ℕ) × (place < length rows) × (session_in rows place ≡ session)
+pub has_place : (rows : List Row) (session block : ℕ) (mode : Mode) → want_in rows session block ≡ Some mode → (place : ℕ) × (place < length (sessions_at block rows)) × (slice_index (sessions_at block rows) place ≡ session)
 has_place [] session block mode is = absurd cc
-has_place (row ∷ rows) session block mode is = (elim (is_row session block row) as (λ b. is_row session block row ≡ b → (place : ℕ) × (place < length (row ∷ rows)) × (session_in (row ∷ rows) place ≡ session)) [
-  | true ↦ λ t. (0, omega arith, (row_is session block row t).0)
-  | false ↦ λ t. let found = has_place rows session block mode (let h = rw t at is in h) in (suc found.0, (let less = found.1 in omega (arith, less)), found.2)
-]) refl
+has_place (row ∷ rows) session block mode is = by_block (row.block == block) refl (λ more. has_place rows session block mode more)
+  where
+    Has : List Row → Type 0
+    Has all = (place : ℕ) × (place < length (map (λ (r : Row). r.session) all)) × (slice_index (map (λ (r : Row). r.session) all) place ≡ session)
 
--- rows keep their sessions in their places
-pub same_sessions : (block : ℕ) (rows new : List Row) (place : ℕ) → AlikeBut block rows new → place < length rows → session_in new place ≡ session_in rows place
-same_sessions block [] new place alike less = absurd (omega (arith, less))
-same_sessions block (row ∷ rows) [] place alike less = absurd alike
-same_sessions block (row ∷ rows) (other ∷ others) zero alike less = alike.0
-same_sessions block (row ∷ rows) (other ∷ others) (suc place) alike less = same_sessions block rows others place alike.3 (omega (arith, less))
+    more : Has (rows_at block rows) → Has (row ∷ rows_at block rows)
+    more found = (suc found.0, (let less = found.1 in omega (arith, less)), found.2)
+
+    by_row : (t : Bool) → is_row session block row ≡ t → (want_in rows session block ≡ Some mode → Has (rows_at block rows)) → Has (row ∷ rows_at block rows)
+    by_row true t later = (0, omega arith, (row_is session block row t).0)
+    by_row false t later = more (later (let h = rw t at is in h))
+
+    by_block : (b : Bool) → (row.block == block) ≡ b → (want_in rows session block ≡ Some mode → Has (rows_at block rows)) → Has (rows_at block (row ∷ rows))
+    by_block true its later = subst Has (sym (ap (λ t. if t then row ∷ rows_at block rows else rows_at block rows) its)) (by_row (is_row session block row) refl later)
+    by_block false other later =
+        let ne : row.block ≢ block = λ e. grind (arith, nat_tests, e, other) in
+        let no = not_row session block row (inr ne) in
+        subst Has (sym (ap (λ t. if t then row ∷ rows_at block rows else rows_at block rows) other)) (later (let h = rw no at is in h))
+
+-- the session of a row that is there
+pub session_there : (rows : List Row) (place : ℕ) (none : Row) → none.session ≡ 0 → (slice_index_or rows place none).session ≡ slice_index (map (λ (row : Row). row.session) rows) place
+session_there [] place none is = is
+session_there (row ∷ rows) zero none is = refl
+session_there (row ∷ rows) (suc place) none is = session_there rows place none is
+
+pub how_many : (rows : List Row) → length (map (λ (row : Row). row.session) rows) ≡ length rows
+how_many [] = refl
+how_many (row ∷ rows) = ap suc (how_many rows)
 
 pub none_yet : (block : ℕ) (rows new : List Row) → NoneLeft block rows new 0
 none_yet block rows new = record { each = λ place less. absurd (omega (arith, less)) }
 
-pub one_more : (block : ℕ) (rows mid new : List Row) (count session : ℕ) → NoneLeft block rows mid count → AlikeBut block rows mid → count < length rows → session ≡ session_in mid count → Passes block mid new → (IsLeft new session block → ⊥)
+pub one_more : (block : ℕ) (rows mid new : List Row) (count session : ℕ) → NoneLeft block rows mid count → session ≡ slice_index (sessions_at block rows) count → Passes block mid new → (IsLeft new session block → ⊥)
     → NoneLeft block rows new (count + 1)
-one_more block rows mid new count session none alike less is passes here = record { each = λ place below left. by_place place below left (decide place count) }
+one_more block rows mid new count session none is passes here = record { each = λ place below left. by_place place below left (decide place count) }
   where
-    by_place : (place : ℕ) → place < count + 1 → IsLeft new (session_in rows place) block → (place ≡ count) ⊎ (place ≢ count) → ⊥
+    by_place : (place : ℕ) → place < count + 1 → IsLeft new (slice_index (sessions_at block rows) place) block → (place ≡ count) ⊎ (place ≢ count) → ⊥
     by_place place below left (inl same) =
-        let its : session_in rows place ≡ session = ap (session_in rows) same ∙ sym (same_sessions block rows mid count alike less) ∙ sym is in
+        let its : slice_index (sessions_at block rows) place ≡ session = ap (slice_index (sessions_at block rows)) same ∙ sym is in
         here (subst (λ (n : ℕ). IsLeft new n block) its left)
-    by_place place below left (inr apart) = none.each place (let ne = apart in omega (arith, below, ne)) (left_before block mid new (session_in rows place) passes left)
+    by_place place below left (inr apart) = none.each place (let ne = apart in omega (arith, below, ne)) (left_before block mid new (slice_index (sessions_at block rows) place) passes left)
 
-pub all_places : (block : ℕ) (rows new : List Row) (count session : ℕ) → NoneLeft block rows new count → length rows ≤ count → Passes block rows new → IsLeft new session block → ⊥
+pub all_places : (block : ℕ) (rows new : List Row) (count session : ℕ) → NoneLeft block rows new count → length (sessions_at block rows) ≤ count → Passes block rows new → IsLeft new session block → ⊥
 all_places block rows new count session none long passes left =
     let before = left_before block rows new session passes left in
     let found = has_place rows session block before.mode before.wanted in
@@ -257,14 +277,3 @@ held_by_own nodes node block rows some = by_test (nat_lt node nodes) refl
 pub end_stays : (end : Option ℕ) → IfSome end (λ before. IfSome end (λ now. before ≤ now))
 end_stays None = tt
 end_stays (Some end) = omega arith
-
--- the session of a row that is there
-pub session_there : (rows : List Row) (place : ℕ) (row : Row) → slice_get rows place ≡ Some row → row.session ≡ session_in rows place
-session_there [] place row is = absurd cc
-session_there (one ∷ rows) zero row is = let same : one ≡ row = (let h = is in cc) in ap (λ (r : Row). r.session) (sym same)
-session_there (one ∷ rows) (suc place) row is = session_there rows place row is
-
-pub session_past : (rows : List Row) (place : ℕ) → slice_get rows place ≡ None → 0 ≡ session_in rows place
-session_past [] place is = refl
-session_past (one ∷ rows) zero is = absurd cc
-session_past (one ∷ rows) (suc place) is = session_past rows place is

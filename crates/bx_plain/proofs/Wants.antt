@@ -1,11 +1,11 @@
 -- Wants, where a row is put.
-use Rattle.std.proofs.Common.{◌≡◌, ◌≢◌, ◌⊎◌, inl, inr, ⊎_elim, ℕ, Bool, true, false, List, [], ◌∷◌, Option, Some, None, refl, sym, ap, subst, ◌∙◌}
-use Rattle.std.specs.Prelude.{IsSomeAnd, if◌then◌else◌, not}
+use Rattle.std.proofs.Common.{◌≡◌, ◌≢◌, ◌⊎◌, inl, inr, ⊎_elim, ℕ, ltb, Bool, true, false, List, [], ◌∷◌, Option, Some, None, refl, sym, ap, subst, ◌∙◌}
+use Rattle.std.specs.Prelude.{IsSome, IsSomeAnd, option_map, suc, if◌then◌else◌, not}
 use Rattle.bx_base.specs.declared.names.Mode.{Mode}
 use Rattle.bx_facts.specs.Holds.{Hold}
 use Rattle.bx_plain.specs.declared.rows.Row.{Row}
 use Rattle.bx_plain.specs.Asks.{AlikeBut}
-use Rattle.bx_plain.specs.Rows.{hold_in, hold_of_row, is_row, row_in, want_in, want_of_row, with_row}
+use Rattle.bx_plain.specs.Rows.{hold_in, hold_of_row, is_row, place_in, row_in, want_in, want_of_row, with_row}
 use Rattle.bx_plain.proofs.Asking.{alike_put}
 use Rattle.bx_plain.proofs.Puts.{held_beside, held_here, is_its_own, keys_of_row, not_row, row_is, same_test}
 use Rattle.bx_plain.proofs.Stands.{hold_of_its, want_of_its}
@@ -14,14 +14,20 @@ pub want_here : (rows : List Row) (new : Row) → want_in (with_row rows new) ne
 want_here [] new = rw (is_its_own new) refl
 want_here (row ∷ rows) new = (elim (is_row new.session new.block row) as (λ b. is_row new.session new.block row ≡ b → want_in (with_row (row ∷ rows) new) new.session new.block ≡ want_of_row new) [
   | true ↦ λ t. rw (t, is_its_own new) refl
-  | false ↦ λ t. rw (t, t, want_here rows new) refl
+  | false ↦ λ t. (elim (ltb new.block row.block) as (λ b. ltb new.block row.block ≡ b → want_in (with_row (row ∷ rows) new) new.session new.block ≡ want_of_row new) [
+    | true ↦ λ l. rw (t, l, is_its_own new) refl
+    | false ↦ λ l. rw (t, l, t, want_here rows new) refl
+  ]) refl
 ]) refl
 
 pub want_beside : (rows : List Row) (new : Row) (session block : ℕ) → is_row session block new ≡ false → want_in (with_row rows new) session block ≡ want_in rows session block
 want_beside [] new session block other = rw other refl
 want_beside (row ∷ rows) new session block other = (elim (is_row new.session new.block row) as (λ b. is_row new.session new.block row ≡ b → want_in (with_row (row ∷ rows) new) session block ≡ want_in (row ∷ rows) session block) [
   | true ↦ λ t. rw (t, other, same_test session block row new t ∙ other) refl
-  | false ↦ λ t. rw (t, want_beside rows new session block other) refl
+  | false ↦ λ t. (elim (ltb new.block row.block) as (λ b. ltb new.block row.block ≡ b → want_in (with_row (row ∷ rows) new) session block ≡ want_in (row ∷ rows) session block) [
+    | true ↦ λ l. rw (t, l, other) refl
+    | false ↦ λ l. rw (t, l, want_beside rows new session block other) refl
+  ]) refl
 ]) refl
 
 -- what is held and wanted, by the row
@@ -40,6 +46,21 @@ not_wanted rows session block row its free = want_of_its rows session block ∙ 
 pub was_true : (b : Bool) → not b ≡ false → b ≡ true
 was_true true is = refl
 was_true false is = absurd cc
+
+-- a row by which something is wanted stands there
+place_wanted : (rows : List Row) (session block : ℕ) → (row_in rows session block).is_wanted ≡ true → IsSome (place_in rows session block)
+place_wanted [] session block wanted = absurd cc
+place_wanted (row ∷ rows) session block wanted = (elim (is_row session block row) as (λ b. is_row session block row ≡ b → IsSome (place_in (row ∷ rows) session block)) [
+  | true ↦ λ t. rw t refl
+  | false ↦ λ t. let later : IsSome (place_in rows session block) = place_wanted rows session block (let h = rw t at wanted in h) in rw t (some_more (place_in rows session block) later)
+]) refl
+  where
+    some_more : (o : Option ℕ) → IsSome o → IsSome (option_map suc o)
+    some_more None some = some
+    some_more (Some n) some = refl
+
+pub wanted_place : (rows : List Row) (session block : ℕ) (row : Row) → row ≡ row_in rows session block → row.is_wanted ≡ true → IsSome (place_in rows session block)
+wanted_place rows session block row its wanted = place_wanted rows session block (sym (ap (λ (r : Row). r.is_wanted) its) ∙ wanted)
 
 -- where a row is put that wants nothing, wants only go
 module _ (rows : List Row) (new : Row) (nothing : new.is_wanted ≡ false) where

@@ -1,10 +1,10 @@
 -- Which blocks a node is asked to give back.
-use Rattle.std.specs.Prelude.{◌≡◌, ◌≢◌, ℕ, zero, suc, ◌+◌, Bool, true, false, ◌==◌, ◌&&◌, if◌then◌else◌, List, [], ◌∷◌, ◌++◌, Option, Some, None}
+use Rattle.std.specs.Prelude.{◌≡◌, ℕ, zero, suc, ◌+◌, Bool, true, false, ◌==◌, ◌&&◌, if◌then◌else◌, List, [], ◌∷◌, ◌++◌, Option, Some, None}
 use Rattle.bx_base.specs.declared.names.Mode.{Mode}
 use Rattle.bx_base.specs.declared.names.Mode.TheVariants.{Shared, Exclusive}
 use Rattle.bx_facts.specs.Holds.{Hold}
 use Rattle.bx_plain.specs.declared.rows.Row.{Row}
-use Rattle.bx_plain.specs.Rows.{hold_in}
+use Rattle.bx_plain.specs.Rows.{hold_in, rows_but}
 
 -- whether a hold stands against a want
 abbrev pub conflicts : Option Hold → Mode → Bool
@@ -31,16 +31,9 @@ abbrev pub asks_from : (ℕ → Option Hold) → ℕ → List Row → ℕ → �
 asks_from held session rows by zero = []
 asks_from held session rows by (suc count) = asked_of held session by rows ++ asks_from held session rows (by + 1) count
 
--- all rows are of this block
-abbrev pub AreOf : ℕ → List Row → Type 0
-AreOf block [] = Unit {0}
-AreOf block (row ∷ rows) = (row.block ≡ block) × AreOf block rows
-
--- Rows are as they were but for those of one block, which keep their places, and more of which may stand behind.
+-- rows are as they were but for those of one block
 abbrev pub AlikeBut : ℕ → List Row → List Row → Type 0
-AlikeBut block [] new = AreOf block new
-AlikeBut block (row ∷ rows) [] = ⊥
-AlikeBut block (row ∷ rows) (other ∷ others) = (other.session ≡ row.session) × (other.block ≡ row.block) × ((row.block ≢ block) → other ≡ row) × AlikeBut block rows others
+AlikeBut block old new = rows_but block new ≡ rows_but block old
 
 -- what a node is asked for, by its session
 abbrev pub asks_of : Option ℕ → List Row → ℕ → List (ℕ × ℕ)

@@ -1,8 +1,8 @@
 -- Which wants are granted.
-use Rattle.std.specs.Prelude.{◌≡◌, ◌≢◌, ◌⊎◌, ◌<◌, ℕ, zero, suc, List, [], ◌∷◌, Some, None}
+use Rattle.std.specs.Prelude.{◌≡◌, ◌≢◌, ◌⊎◌, ◌<◌, ℕ, List, Some, None, slice_index}
 use Rattle.bx_base.specs.declared.names.Mode.{Mode}
 use Rattle.bx_plain.specs.declared.rows.Row.{Row}
-use Rattle.bx_plain.specs.Rows.{AllLet, floor_in, hold_in, want_in}
+use Rattle.bx_plain.specs.Rows.{AllLet, floor_in, hold_in, sessions_at, want_in}
 
 -- What a session holds and wants of a block is as it was.
 pub record IsAlike (old new : List Row) (session block : ℕ) : Type 0 where
@@ -47,12 +47,6 @@ pub record Passes (block : ℕ) (old new : List Row) : Type 0 where
   pub fewer : (other : ℕ) (mode : Mode) → AllLet other block mode new → AllLet other block mode old
   pub free : (other : ℕ) (mode : Mode) → want_in old other block ≡ Some mode → want_in new other block ≡ None → AllLet other block mode old
 
--- the session of the row at a place, or 0
-abbrev pub session_in : List Row → ℕ → ℕ
-session_in [] place = 0
-session_in (row ∷ rows) zero = row.session
-session_in (row ∷ rows) (suc place) = session_in rows place
-
--- no want is left of the sessions in the first so many places
+-- no want of the block is left of the first so many sessions that have rows of it
 pub record NoneLeft (block : ℕ) (rows new : List Row) (count : ℕ) : Type 0 where
-  pub each : (place : ℕ) → place < count → IsLeft new (session_in rows place) block → ⊥
+  pub each : (place : ℕ) → place < count → IsLeft new (slice_index (sessions_at block rows) place) block → ⊥

@@ -6,3 +6,4 @@ pub mod Grants
 pub mod Laws
 pub mod Rows
 pub mod Standing
+pub mod Tables

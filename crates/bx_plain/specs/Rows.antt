@@ -1,5 +1,5 @@
--- Rows of holds and wants: at most one counts for a session and a block, the first.
-use Rattle.std.specs.Prelude.{◌≡◌, ◌≢◌, ℕ, suc, ◌≤◌, ◌⊎◌, max, Bool, false, ◌==◌, ◌&&◌, if◌then◌else◌, List, [], ◌∷◌, Option, Some, None, option_map}
+-- Rows of holds and wants, in the order of their blocks: at most one counts for a session and a block, the first.
+use Rattle.std.specs.Prelude.{◌≡◌, ◌≢◌, ℕ, suc, ◌⊎◌, max, ltb, Bool, false, not, ◌==◌, ◌&&◌, if◌then◌else◌, List, [], ◌∷◌, map, filter, Option, Some, None, option_map}
 use Rattle.bx_base.specs.declared.names.Mode.{Mode}
 use Rattle.bx_base.specs.declared.names.Mode.TheVariants.{Shared}
 use Rattle.bx_facts.specs.Holds.{Hold}
@@ -40,16 +40,6 @@ abbrev pub AllLet : ℕ → ℕ → Mode → List Row → Type 0
 AllLet session block mode [] = Unit {0}
 AllLet session block mode (row ∷ rows) = Lets session block mode row × AllLet session block mode rows
 
--- one row is set: what it holds, and what all others do
-pub record Sets (session block : ℕ) (held : Option Hold) (old new : List Row) : Type 0 where
-  pub here : hold_in new session block ≡ held
-  pub other_sessions : (s b : ℕ) → s ≢ session → hold_in new s b ≡ hold_in old s b
-  pub other_blocks : (b : ℕ) → b ≢ block → hold_in new session b ≡ hold_in old session b
-
--- floors don't fall
-pub record Rises (old new : List Row) : Type 0 where
-  pub each : (block : ℕ) → floor_in old block ≤ floor_in new block
-
 -- a row that stands for nothing yet
 abbrev pub idle : ℕ → ℕ → Row
 idle session block = record { session = session; block = block; mode = Shared; index = 0; is_held = false; is_wanted = false; given = 0 }
@@ -59,7 +49,19 @@ abbrev pub row_in : List Row → ℕ → ℕ → Row
 row_in [] session block = idle session block
 row_in (row ∷ rows) session block = if is_row session block row then row else row_in rows session block
 
--- the rows with one put in the place of that of its session and block, or at the end
+-- the rows with one put in the place of that of its session and block, or behind those of its block, before any of a higher one
 abbrev pub with_row : List Row → Row → List Row
 with_row [] new = new ∷ []
-with_row (row ∷ rows) new = if is_row new.session new.block row then new ∷ rows else row ∷ with_row rows new
+with_row (row ∷ rows) new = if is_row new.session new.block row then new ∷ rows else if ltb new.block row.block then new ∷ row ∷ rows else row ∷ with_row rows new
+
+-- the rows of a block
+abbrev pub rows_at : ℕ → List Row → List Row
+rows_at block rows = filter (λ row. row.block == block) rows
+
+-- those of all others
+abbrev pub rows_but : ℕ → List Row → List Row
+rows_but block rows = filter (λ row. not (row.block == block)) rows
+
+-- the sessions that have rows of a block
+abbrev pub sessions_at : ℕ → List Row → List ℕ
+sessions_at block rows = map (λ row. row.session) (rows_at block rows)

@@ -1,13 +1,11 @@
 -- A register whose chain has one state.
-use Rattle.std.specs.Prelude.{◌≡◌, ℕ, ◌+◌, ◌^◌, ◌<◌, ◌≤◌, List, []}
-use Rattle.std.proofs.Common.{refl, sym, subst, ap, ◌∙◌, inl, inr, lit≤, arith}
+use Rattle.std.specs.Prelude.{◌≡◌, ℕ, ◌≤◌, List, []}
+use Rattle.std.proofs.Common.{sym, subst, ap, ◌∙◌, inl, lit≤}
 use Rattle.bx_base.specs.declared.names.Actor.{Actor}
 use Rattle.bx_global.specs.Allowed.{IsAllowed}
 use Rattle.bx_global.specs.declared.change.Change.{Change}
 use Rattle.bx_global.specs.declared.state.GlobalState.{GlobalState}
 use Rattle.bx_facts.specs.Chains.{AreLegal, IsAboveBoots, IsAmong, IsNext, IsPlace, last, state_after}
-use Rattle.bx_disk.specs.Disks.{Disks}
-use Rattle.bx_facts.specs.Disks.{TellNoState}
 use Rattle.bx_facts.specs.Pasts.{RegisterPast}
 
 -- How many nodes there are, the state, and the machines that have a proposal out.
@@ -54,11 +52,6 @@ is_next s past read is reads = inl (reads ∙ sym (is_last s past is))
 
 pub needs_little : 0 ≤ 21
 needs_little = lit≤ tt
-
--- where another state may follow, disks tell it
-pub tells_state : (s : GlobalState) (x : Disks) → s.index + 1 < 2 ^ 64 → TellNoState (λ sizes image t. t ≡ s) x → ⊥
-tells_state s x less (inl none) = none s refl
-tells_state s x less (inr (t, same, end)) = let e = ap (λ (k : GlobalState). k.index) same in omega (arith, less, end, e)
 
 pub one_value : {A : Type 0} (value one other : A) → one ≡ value → other ≡ value → other ≡ one
 one_value value one other is also = also ∙ sym is

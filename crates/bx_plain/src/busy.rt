@@ -1,6 +1,6 @@
 //! The machines that have a proposal out.
 
-ghost use Rattle.std.specs.Prelude.{◌≡◌, ◌↔◌, Contains, IsTrue, filter, not};
+ghost use Rattle.std.specs.Prelude.{◌≡◌, ◌↔◌, Contains, IsTrue, filter};
 ghost use Rattle.bx_facts.specs.Machines.{is_same};
 ghost use Rattle.bx_plain.specs.Busy.{is_other};
 

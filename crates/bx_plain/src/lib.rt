@@ -7,6 +7,7 @@ mod busy;
 mod owners;
 mod register;
 mod rows;
+mod table;
 
 pub use begin::endless;
 pub use owners::PlainOwners;

@@ -1,16 +1,17 @@
 //! Owners on one machine.
 
 ghost use Rattle.std.specs.Prelude.{◌≡◌, ◌≢◌, ◌+◌, ◌<◌, ◌≤◌, ◌⊎◌, ℕ, [], OnOk, Some, None, IsSome, IsSomeAnd};
-ghost use Rattle.bx_base.specs.declared.names.Mode.TheVariants.{Shared, Exclusive};
+ghost use Rattle.bx_base.specs.declared.names.Mode.TheVariants.{Exclusive};
 ghost use Rattle.bx_facts.specs.Holds.{KeepsHolds, KeepsOthers};
 ghost use Rattle.bx_plain.specs.Asks.{AlikeBut};
 ghost use Rattle.bx_plain.specs.Fits.{IsPlainState, RowsStand};
 ghost use Rattle.bx_plain.specs.Grants.{Grants, IsAlike, IsAnswered, IsGone, IsLeft, Passes};
-ghost use Rattle.bx_plain.specs.Rows.{AllLet, floor_in, hold_in, want_in};
+ghost use Rattle.bx_plain.specs.Rows.{AllLet, floor_in, hold_in, sessions_at, want_in};
 
 use crate::asks::first_asked;
-use crate::rows::{Row, floor_of, given_after, hold_at, is_free, put, row_of, session_at, want_at};
-use bx_base::{Actor, List, Mode, OutOfMemory};
+use crate::rows::{Row, given_after};
+use crate::table::{Table, floor_of, hold_at, is_free, row_of, want_at};
+use bx_base::{Actor, Mode, OutOfMemory};
 use bx_facts::{Input, Outbox};
 use bx_global::{Change, GlobalState};
 use bx_owners::Owners;
@@ -24,7 +25,7 @@ const NEVER: u64 = 4294967295999;
 #[derive(Drop)]
 pub struct PlainOwners {
     nodes: u32,
-    rows: List<Row>,
+    rows: Table,
 }
 
 impl PlainOwners {
@@ -34,7 +35,7 @@ impl PlainOwners {
     {
         PlainOwners {
             nodes,
-            rows: List::new(alloc),
+            rows: Table::new(alloc),
         }
     }
 
@@ -48,6 +49,7 @@ impl PlainOwners {
         ensures alike { OnOk result (AlikeBut block self.old.rows self.new.rows) }
         ensures passes { OnOk result (Passes block self.old.rows self.new.rows) }
         ensures none_left { OnOk result (IsLeft self.new.rows session block → ⊥) }
+        ensures sessions { OnOk result (sessions_at block self.new.rows ≡ sessions_at block self.old.rows) }
         ensures nodes { self.new.nodes ≡ self.old.nodes }
     {
         let row = row_of(&self.rows, session, block);
@@ -61,15 +63,12 @@ impl PlainOwners {
             return Ok(());
         }
         let index = floor_of(&self.rows, block);
-        put(
-            &mut self.rows,
-            Row {
-                index,
-                is_held: true,
-                is_wanted: false,
-                ..row
-            },
-        )?;
+        self.rows.put(Row {
+            index,
+            is_held: true,
+            is_wanted: false,
+            ..row
+        })?;
         return Ok(());
     }
 
@@ -85,8 +84,8 @@ impl PlainOwners {
         ensures none_left { (other : ℕ) → OnOk result (IsLeft self.new.rows other block → ⊥) }
         ensures nodes { self.new.nodes ≡ self.old.nodes }
     {
-        for place in 0..self.rows.len() {
-            let session = session_at(&self.rows, place);
+        for place in 0..self.rows.at(block).len() {
+            let session = self.rows.at(block)[place].session;
             self.grant(session, block)?;
         }
         Ok(())
@@ -108,16 +107,13 @@ impl PlainOwners {
         let row = row_of(&self.rows, session, block);
         let free = is_free(&self.rows, session, block, mode);
         let index = floor_of(&self.rows, block);
-        put(
-            &mut self.rows,
-            Row {
-                mode,
-                index,
-                is_held: free,
-                is_wanted: !free,
-                ..row
-            },
-        )?;
+        self.rows.put(Row {
+            mode,
+            index,
+            is_held: free,
+            is_wanted: !free,
+            ..row
+        })?;
         Ok(())
     }
 
@@ -136,21 +132,18 @@ impl PlainOwners {
     {
         let row = row_of(&self.rows, session, block);
         let given = given_after(&row, index);
-        put(
-            &mut self.rows,
-            Row {
-                is_held: false,
-                is_wanted: false,
-                given,
-                ..row
-            },
-        )?;
+        self.rows.put(Row {
+            is_held: false,
+            is_wanted: false,
+            given,
+            ..row
+        })?;
         Ok(())
     }
 }
 
 impl Owners for PlainOwners {
-    ghost use Rattle.std.specs.Prelude.{⊤, false, None};
+    ghost use Rattle.std.specs.Prelude.{false, None};
     ghost use Rattle.std.proofs.Common.{sym, subst};
     ghost use Rattle.bx_facts.specs.Chains.{last};
     ghost use Rattle.bx_facts.specs.Holds.{hold_of};

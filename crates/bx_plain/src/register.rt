@@ -49,17 +49,15 @@ impl PlainRegister {
 }
 
 impl Register for PlainRegister {
-    ghost use Rattle.std.specs.Prelude.{⊤, [], ◌∷◌, refl, IfOk, IsErrOf, OnErr, OnOk};
+    ghost use Rattle.std.specs.Prelude.{[], refl, IfOk, IsErrOf, OnErr, OnOk};
     ghost use Rattle.bx_base.specs.declared.names.Actor.{Actor};
     ghost use Rattle.bx_disk.specs.Kept.{Counted};
     ghost use Rattle.bx_facts.specs.Chains.{most_boot};
     ghost use Rattle.bx_facts.specs.Disks.{SameDisks, SameLabels, SameMembers, TellNoState};
     ghost use Rattle.bx_facts.specs.declared.input.FactError.TheVariants.{Disk as DiskFails};
     ghost use Rattle.bx_facts.specs.declared.input.OpenError.TheVariants.{Disk as OpenFails, NoLabel, NoMajority, Spent};
-    ghost use Rattle.std.proofs.Common.{inl};
-    ghost use Rattle.bx_disk.specs.Disks.{Image, Disks};
-    ghost use Rattle.bx_facts.specs.Pasts.{RegisterPast, found_register, opening_register};
-    ghost use Rattle.bx_plain.specs.Standing.{IsUnchanged, is_allowed, is_last, is_legal, is_next, is_place, needs_little, needs_of, one_value};
+    ghost use Rattle.bx_facts.specs.Pasts.{found_register, opening_register};
+    ghost use Rattle.bx_plain.specs.Standing.{IsUnchanged, is_allowed, is_legal, is_next, is_place, needs_little, needs_of, one_value};
 
     ghost made = { λ g. g.state };
 

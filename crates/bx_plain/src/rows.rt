@@ -1,11 +1,12 @@
-//! Who holds what.
+//! Who holds what of a block.
 
-ghost use Rattle.std.specs.Prelude.{◌≡◌, ◌+◌, ◌<◌, ◌≤◌, ◌↔◌, List, [], ◌++◌, ◌∷◌, length, IsTrue, Option, Some, None, IsSome, OnOk, IfOk};
+ghost use Rattle.std.specs.Prelude.{◌≡◌, ◌≤◌, OnErr, OnOk};
+ghost use Rattle.std.specs.List.{list_any};
 ghost use Rattle.bx_base.specs.declared.names.Mode.TheVariants.{Shared, Exclusive};
-ghost use Rattle.bx_plain.specs.Grants.{session_in};
-ghost use Rattle.bx_plain.specs.Rows.{AllLet, floor_in, hold_in, place_in, row_in, want_in, with_row};
+ghost use Rattle.bx_plain.specs.Rows.{place_in, with_row};
+ghost use Rattle.bx_plain.specs.Tables.{AreOf};
 
-use bx_base::{List, Mode, OutOfMemory};
+use bx_base::{Mode, OutOfMemory};
 
 /// A hold or a want of a session, or what stays behind of one.
 #[derive(Clone, Copy)]
@@ -27,10 +28,9 @@ pub struct Row {
 }
 
 /// The place of a session's row of a block.
-pub(crate) fn place_of(rows: &List<Row>, session: u64, block: u64) -> Option<usize>
+fn place_of(rows: &[Row], session: u64, block: u64) -> Option<usize>
     ensures { result ≡ place_in rows.now session block }
 {
-    let rows = rows.items();
     for place in 0..rows.len() {
         if rows[place].session == session && rows[place].block == block {
             return Some(place);
@@ -39,83 +39,11 @@ pub(crate) fn place_of(rows: &List<Row>, session: u64, block: u64) -> Option<usi
     None
 }
 
-/// Whether a session may hold a block in this mode.
-pub(crate) fn is_free(rows: &List<Row>, session: u64, block: u64, mode: Mode) -> bool
-    ensures { IsTrue result ↔ AllLet session block mode rows.now }
+/// Whether something is wanted by one of these rows.
+pub(crate) fn any_wanted(rows: &[Row]) -> bool
+    ensures { result ≡ list_any (λ row. row.is_wanted) rows.now }
 {
-    for row in rows.items() {
-        if row.is_held && row.session != session && row.block == block {
-            if row.mode != Mode::Shared || mode != Mode::Shared {
-                return false;
-            }
-        }
-    }
-    true
-}
-
-/// The greatest index with which the block was given up.
-pub(crate) fn floor_of(rows: &List<Row>, block: u64) -> u64
-    ensures { result ≡ floor_in rows.now block }
-{
-    let mut floor = 0;
-    for row in rows.items() {
-        if row.block == block && floor < row.given {
-            floor = row.given;
-        }
-    }
-    floor
-}
-
-/// The row of a session and a block.
-pub(crate) fn row_of(rows: &List<Row>, session: u64, block: u64) -> Row
-    ensures { result ≡ row_in rows.now session block }
-{
-    for row in rows.items() {
-        if row.session == session && row.block == block {
-            return *row;
-        }
-    }
-    Row {
-        session,
-        block,
-        mode: Mode::Shared,
-        index: 0,
-        is_held: false,
-        is_wanted: false,
-        given: 0,
-    }
-}
-
-/// The session of the row at a place, counted from 0; 0 where there is none.
-pub(crate) fn session_at(rows: &List<Row>, place: usize) -> u64
-    ensures { result ≡ session_in rows.now place }
-{
-    match rows.get(place) {
-        Some(row) => row.session,
-        None => 0,
-    }
-}
-
-/// How a session holds a block.
-pub(crate) fn hold_at(rows: &List<Row>, session: u64, block: u64) -> Option<(Mode, u64)>
-    ensures { result ≡ hold_in rows.now session block }
-{
-    let row = row_of(rows, session, block);
-    if row.is_held {
-        return Some((row.mode, row.index));
-    }
-    None
-}
-
-/// How a session wants a block.
-pub(crate) fn want_at(rows: &List<Row>, session: u64, block: u64) -> Option<Mode>
-    ensures { result ≡ want_in rows.now session block }
-{
-    let row = row_of(rows, session, block);
-    if row.is_wanted {
-        return Some(row.mode);
-    }
-    None
+    rows.iter().any(|row| row.is_wanted)
 }
 
 /// The index with which a row's block was given up, once it is given up with this one.
@@ -130,13 +58,15 @@ pub(crate) fn given_after(row: &Row, index: u64) -> u64
     }
 }
 
-/// Puts a row in the place of that of its session and block, or at the end.
-pub(crate) fn put(rows: &mut List<Row>, row: Row) -> Result<(), OutOfMemory>
-    ensures { OnOk result (rows.new ≡ with_row rows.old row) }
+/// Puts a row among those of its block, in the place of that of its session, or at the end.
+pub(crate) fn put_among(rows: &mut Vec<Row>, row: Row) -> Result<(), OutOfMemory>
+    requires { AreOf row.block rows.old.items }
+    ensures ok { OnOk result (rows.new.items ≡ with_row rows.old.items row) }
+    ensures err { OnErr result (rows.new.items ≡ rows.old.items) }
 {
     match place_of(rows, row.session, row.block) {
         Some(place) => {
-            rows.set(place, row);
+            rows[place] = row;
             return Ok(());
         }
         None => {

@@ -1,15 +1,14 @@
 -- What the one-machine forms are made for: no node but theirs has a session, and the state that they are made with names no boot.
-use Rattle.std.proofs.Common.{◌≡◌, ◌≢◌, ℕ, zero, suc, ◌+◌, ◌≤◌, false, List, [], ◌∷◌, Option, Some, None, length, refl, ap, arith}
+use Rattle.std.proofs.Common.{◌≡◌, ℕ, zero, suc, ◌+◌, ◌≤◌, false, List, [], ◌∷◌, Option, Some, None, length, refl, ap, arith}
 use Rattle.std.specs.Prelude.{IfSome, if◌then◌else◌, nat_lt, replicate, slice_get}
 use Rattle.std.proofs.lemmas.Bool.Decides.{nat_tests}
 use Rattle.bx_facts.specs.Writes.{NamesUpTo}
 use Rattle.bx_global.specs.Opening.{first_device}
 use Rattle.bx_global.specs.declared.state.GlobalState.{GlobalState}
-use Rattle.bx_lone_store.specs.Fits.{HasSessionsOf}
+use Rattle.bx_plain_store.specs.Fits.{HasSessionsOf}
 use Rattle.bx_plain.specs.Begin.{plain_state}
 use Rattle.bx_plain.specs.Fits.{own_in}
 use Rattle.bx_plain_store.specs.Out.{at}
-use Rattle.bx_rows.specs.Words.{is_taken}
 
 pub no_owner : (nodes node : ℕ) → nodes ≤ node → own_in nodes node ≡ None
 no_owner nodes node beyond = ap (λ t. if t then Some (node + 1) else None) (let is : nat_lt node nodes ≡ false = grind (arith, nat_tests, beyond) in is)
@@ -21,10 +20,6 @@ beyond_all (one ∷ rest) (suc node) low = beyond_all rest node (omega (arith, l
 
 pub no_writer : (s : GlobalState) (nodes : ℕ) (owns : List (Option ℕ)) (node : ℕ) → HasSessionsOf s nodes owns → nodes ≤ node → at owns node ≡ None
 no_writer s nodes owns node has beyond = let long = has.long in beyond_all owns node (omega (arith, long, beyond))
-
--- of one node no slot but the first has a session
-pub plain_free : (slot : ℕ) → slot ≢ 0 → is_taken (plain_state 1 1).sessions slot ≡ false
-plain_free slot other = grind (arith, nat_tests, other)
 
 pub plain_devices : (nodes devices : ℕ) → length (plain_state nodes devices).devices ≡ devices
 plain_devices nodes devices = many devices

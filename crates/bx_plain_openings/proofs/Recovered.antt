@@ -4,9 +4,9 @@ use Rattle.bx_disk.specs.Disks.{Disks}
 use Rattle.bx_facts.specs.Writes.{IsSettled, IsSourceIn, Made}
 use Rattle.bx_global.specs.Opening.{opening_state}
 use Rattle.bx_layout.specs.Labels.{IsOpenGate}
-use Rattle.bx_lone_repair.specs.Bench.{made_for}
-use Rattle.bx_lone_repair.specs.Left.{IsClosed}
-use Rattle.bx_lone_repair.specs.Spared.{SparesOthers}
+use Rattle.bx_plain_repair.specs.Bench.{made_for}
+use Rattle.bx_plain_repair.specs.Left.{IsClosed}
+use Rattle.bx_plain_repair.specs.Spared.{SparesOthers}
 use Rattle.bx_model.specs.declared.tree.Tree.{Tree}
 use Rattle.bx_node_openings.specs.Resting.{VolumeRests}
 use Rattle.bx_places.specs.Places.{IsBlock, block_place, gate_place, log_start}

@@ -16,9 +16,9 @@ use bx_base::OutOfMemory;
 use bx_disk::{Rack, RackError};
 use bx_facts::{Register, Store};
 use bx_format::format;
-use bx_lone_store::PlainStore;
 use bx_owners::Owners;
 use bx_plain::{PlainOwners, PlainRegister, endless};
+use bx_plain_store::PlainStore;
 use std::alloc::Global;
 
 /// How many nodes, devices and areas a cluster has.

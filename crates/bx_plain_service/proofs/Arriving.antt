@@ -1,5 +1,5 @@
 -- A call that comes.
-use Rattle.std.proofs.Common.{◌≡◌, ◌⊎◌, ⊎_elim, inl, inr, ◌∙◌, ℕ, ◌+◌, ◌<◌, ◌==◌, true, false, List, [], ◌∷◌, ◌++◌, Contains, OnOk, Option, Some, length, refl, sym, ap, subst, arith}
+use Rattle.std.proofs.Common.{◌≡◌, ◌⊎◌, ⊎_elim, inl, inr, ◌∙◌, ℕ, ◌+◌, ◌<◌, ◌==◌, true, false, List, [], ◌∷◌, ◌++◌, Option, Some, length, refl, sym, ap, subst, arith}
 use Rattle.std.specs.Prelude.{◌↔◌}
 use Rattle.std.proofs.lemmas.Bool.Decides.{nat_tests}
 use Rattle.bx_facts.proofs.Lists.{front}
@@ -10,7 +10,7 @@ use Rattle.bx_model.specs.declared.tree.Tree.{Tree}
 use Rattle.bx_node_rounds.specs.Rounds.{HaveStill, Waits}
 use Rattle.bx_node_steps.specs.Calls.{CallOf, call_of}
 use Rattle.bx_node_steps.specs.declared.machine.Machine.{Machine}
-use Rattle.bx_plain_service.specs.Events.{call_in, doubt_by, doubts_at, waits_of}
+use Rattle.bx_plain_service.specs.Events.{call_in, doubt_by, waits_of}
 use Rattle.bx_plain_service.specs.Returning.{waiting_of}
 use Rattle.bx_plain_service.specs.Stages.{AreQueued, AreRising, IsQueued, IsUpOn, PlainCluster, Stands, latest_in, queued_of}
 use Rattle.bx_plain_service.proofs.Joining.{doubt_as}

@@ -1,17 +1,17 @@
 -- A cluster of one node that is back takes up the calls of its queue, one after the other.
-use Rattle.std.proofs.Common.{◌≡◌, ◌≢◌, ◌⊎◌, ⊎_elim, inl, inr, ◌∙◌, ℕ, zero, suc, ◌+◌, ◌<◌, ◌≤◌, Bool, true, false, List, [], ◌∷◌, Contains, Option, Some, None, length, refl, sym, ap, subst, arith}
-use Rattle.std.specs.Prelude.{◌↔◌, slice_get, slice_index}
+use Rattle.std.proofs.Common.{◌≡◌, ◌⊎◌, ⊎_elim, inl, inr, ◌∙◌, ℕ, zero, suc, ◌<◌, ◌≤◌, true, List, [], ◌∷◌, Contains, Option, Some, None, length, refl, sym, ap, subst, arith}
+use Rattle.std.specs.Prelude.{◌↔◌, slice_index}
 use Rattle.bx_disk.specs.Disks.{Disks}
 use Rattle.bx_facts.proofs.Lists.{behind, front, front_or_behind, nothing}
 use Rattle.bx_history.specs.Trace.{Taking}
 use Rattle.bx_layout.specs.bx_places.specs.Places.{disk_sectors}
-use Rattle.bx_lone_repair.specs.Bench.{AreLong}
+use Rattle.bx_plain_repair.specs.Bench.{AreLong}
 use Rattle.bx_model.specs.declared.tree.Tree.{Tree}
 use Rattle.bx_node_rounds.specs.Quiet.{tidies_in}
 use Rattle.bx_node_rounds.specs.Rounds.{AreReady, HasSession, HaveStill, NoneWaits, Waits, acting_in}
-use Rattle.bx_lone_store.specs.contracts.store.PlainStoreStore.TheImpl as plain_store
+use Rattle.bx_plain_store.specs.contracts.store.PlainStoreStore.TheImpl as plain_store
 use Rattle.bx_engine.specs.contracts.engine.BoxFsEngine.TheImpl as box_fs
-use Rattle.bx_node_steps.specs.Calls.{CallOf, call_of, under_way}
+use Rattle.bx_node_steps.specs.Calls.{CallOf, call_of}
 use Rattle.bx_node_steps.specs.declared.machine.Machine.{Machine}
 use Rattle.bx_plain.specs.contracts.register.PlainRegisterRegister.TheImpl as plain_register
 use Rattle.bx_plain_service.specs.Beginning.{RestsWith}

@@ -1,4 +1,5 @@
 pub mod Arriving
+pub mod Asked
 mod AtOnce
 mod Bare
 pub mod Joining

@@ -5,10 +5,10 @@ use Rattle.std.proofs.lemmas.Bool.Decides.{nat_tests}
 use Rattle.bx_disk.specs.Disks.{Disks}
 use Rattle.bx_format.specs.Formats.{HasSizes, IsFormatted}
 use Rattle.bx_layout.specs.Labels.{IsLabel}
-use Rattle.bx_lone_repair.specs.Bench.{AreLong, IsBench, first_label}
+use Rattle.bx_plain_repair.specs.Bench.{AreLong, IsBench, first_label}
 use Rattle.bx_node_rounds.specs.Rounds.{HasSession, NoneWaits, session_at}
 use Rattle.bx_node_steps.specs.declared.machine.Machine.{Machine}
-use Rattle.bx_lone_store.specs.contracts.store.PlainStoreStore.TheImpl as plain_store
+use Rattle.bx_plain_store.specs.contracts.store.PlainStoreStore.TheImpl as plain_store
 use Rattle.bx_plain.specs.Fits.{own_in}
 use Rattle.bx_plain.specs.contracts.register.PlainRegisterRegister.TheImpl as plain_register
 use Rattle.bx_plain_service.specs.Events.{call_in, doubts_at}

@@ -6,10 +6,10 @@ use Rattle.bx_base.specs.declared.names.Point.{Point}
 use Rattle.bx_disk.specs.Disks.{Disks}
 use Rattle.bx_facts.proofs.Lists.{front_or_behind}
 use Rattle.bx_history.specs.Trace.{Taking}
-use Rattle.bx_lone_repair.specs.Left as lefts
-use Rattle.bx_lone_repair.specs.Left.{IsClosed}
-use Rattle.bx_lone_repair.specs.Recovering.{IsFoundOpen}
-use Rattle.bx_lone_repair.specs.Spared.{SparesOthers}
+use Rattle.bx_plain_repair.specs.Left as lefts
+use Rattle.bx_plain_repair.specs.Left.{IsClosed}
+use Rattle.bx_plain_repair.specs.Recovering.{IsFoundOpen}
+use Rattle.bx_plain_repair.specs.Spared.{SparesOthers}
 use Rattle.bx_model.specs.declared.tree.Tree.{Tree}
 use Rattle.bx_node_rounds.specs.Rounds.{HasSession}
 use Rattle.bx_plain_standing.specs.bx_plain_openings.proofs.Alike.{first_members}

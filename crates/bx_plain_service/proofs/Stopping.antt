@@ -3,8 +3,8 @@ use Rattle.std.proofs.Common.{◌≡◌, ◌∙◌, ℕ, ◌<◌, ◌≤◌, fal
 use Rattle.std.specs.Prelude.{IfSome, option_map, slice_get}
 use Rattle.bx_disk.specs.Disks.{Disks}
 use Rattle.bx_base.specs.declared.names.Point.{Point}
-use Rattle.bx_lone_repair.specs.Left as lefts
-use Rattle.bx_lone_store.specs.contracts.store.PlainStoreStore.TheImpl as plain_store
+use Rattle.bx_plain_repair.specs.Left as lefts
+use Rattle.bx_plain_store.specs.contracts.store.PlainStoreStore.TheImpl as plain_store
 use Rattle.bx_model.specs.declared.tree.Tree.{Tree}
 use Rattle.bx_node_machines.specs.Machines.{MachineView}
 use Rattle.bx_node_openings.specs.Opening.{opening_clocks}

@@ -1,13 +1,13 @@
 -- What a round of nodes that are up is to their service.
-use Rattle.std.proofs.Common.{◌≡◌, ◌≢◌, ◌⊎◌, ⊎_elim, inl, inr, ◌∙◌, ℕ, ◌+◌, List, [], ◌∷◌, IfSome, IsSomeAnd, Option, None, Some, refl, sym, ap, subst, arith}
+use Rattle.std.proofs.Common.{◌≡◌, ◌≢◌, ◌⊎◌, ⊎_elim, inl, inr, ◌∙◌, ℕ, ◌+◌, List, [], ◌∷◌, IsSomeAnd, Option, None, Some, refl, sym, ap, subst, arith}
 use Rattle.std.specs.Prelude.{option_map, reverse, slice_get}
 use Rattle.bx_disk.specs.Disks.{Disks}
 use Rattle.bx_facts.specs.Disks.{SameLabels}
 use Rattle.bx_history.specs.Trace.{Taking}
 use Rattle.bx_layout.specs.Labels.{SpellsLabel}
-use Rattle.bx_lone_repair.specs.Bench.{IsBench, first_label}
+use Rattle.bx_plain_repair.specs.Bench.{IsBench, first_label}
 use Rattle.bx_model.specs.declared.tree.Tree.{Tree}
-use Rattle.bx_node_rounds.specs.Rounds.{AreTurns, HasSession, IsTurn, all_said, session_at}
+use Rattle.bx_node_rounds.specs.Rounds.{AreTurns, IsTurn, all_said, session_at}
 use Rattle.bx_node_rounds.specs.Rounds.AreTurns.{NoTurns, OneMore}
 use Rattle.bx_node_rounds.specs.declared.rounds.Told.{Told}
 use Rattle.bx_node_steps.specs.Calls.{AnswersCalls, WaitsAt}

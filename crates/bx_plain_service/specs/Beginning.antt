@@ -2,7 +2,7 @@
 use Rattle.std.specs.Prelude.{◌≡◌, ℕ}
 use Rattle.bx_disk.specs.Disks.{Disks, Image}
 use Rattle.bx_facts.specs.Writes.{Made}
-use Rattle.bx_lone_store.specs.contracts.store.PlainStoreStore.TheImpl as plain_store
+use Rattle.bx_plain_store.specs.contracts.store.PlainStoreStore.TheImpl as plain_store
 use Rattle.bx_model.specs.declared.tree.Tree.{Tree}
 use Rattle.bx_node_openings.specs.Opening.{AreNew}
 use Rattle.bx_node_openings.specs.Resting.{VolumeRests}

@@ -8,7 +8,7 @@ use Rattle.bx_disk.specs.Disks.{Disks}
 use Rattle.bx_engine.specs.contracts.engine.BoxFsEngine.TheImpl as box_fs
 use Rattle.bx_facts.specs.Writes.{Asked, Made}
 use Rattle.bx_history.specs.Trace.{Taking}
-use Rattle.bx_lone_store.specs.contracts.store.PlainStoreStore.TheImpl as plain_store
+use Rattle.bx_plain_store.specs.contracts.store.PlainStoreStore.TheImpl as plain_store
 use Rattle.bx_model.specs.declared.tree.Tree.{Tree}
 use Rattle.bx_node_machines.specs.Machines.{IsOfRecord}
 use Rattle.bx_node_machines.specs.Nodes.{NodesStand}
@@ -231,5 +231,5 @@ module _ (cluster : PlainCluster) (x : Disks) (tree : Tree) (doubts : ℕ → Op
 
 pub shows : (stage : Stage) (x y : Disks) (tree : Tree) (doubts : ℕ → Option Doubt) → IsReady stage x.sizes → IsHolding stage x tree doubts → IsCrashed x y → Shows (lacks_of stage) (count_of stage) y tree doubts
 shows (Up cluster) x y tree doubts ready holds crashed = up_shows cluster x tree doubts ready.0 ready.1 holds y crashed
-shows (Down left) x y tree doubts ready holds crashed = left_is_shown left.volume left.floor tree holds.of x y holds.stopped.left crashed doubts holds.is
-shows (Returning back) x y tree doubts ready holds crashed = left_is_shown back.left.volume back.left.floor tree holds.of x y holds.stopped.left crashed doubts holds.is
+shows (Down left) x y tree doubts ready holds crashed = left_is_shown left.volume left.floor tree holds.of x y holds.stopped crashed doubts holds.is
+shows (Returning back) x y tree doubts ready holds crashed = left_is_shown back.left.volume back.left.floor tree holds.of x y holds.stopped crashed doubts holds.is

@@ -5,10 +5,10 @@ use Rattle.bx_engine.specs.bx_clean.specs.Tidying.{IsClean}
 use Rattle.bx_engine.specs.contracts.engine.BoxFsEngine.TheImpl as box_fs
 use Rattle.bx_engine.specs.declared.engine.BoxFs.{BoxFs}
 use Rattle.bx_history.specs.Trace.{Taking}
-use Rattle.bx_lone_repair.specs.Bench.{AreLong, IsBench}
-use Rattle.bx_lone_repair.specs.Left as lefts
-use Rattle.bx_lone_store.specs.contracts.store.PlainStoreStore.TheImpl as plain_store
-use Rattle.bx_lone_store.specs.declared.store.PlainStore.{PlainStore}
+use Rattle.bx_plain_repair.specs.Bench.{AreLong, IsBench}
+use Rattle.bx_plain_repair.specs.Left as lefts
+use Rattle.bx_plain_store.specs.contracts.store.PlainStoreStore.TheImpl as plain_store
+use Rattle.bx_plain_store.specs.declared.store.PlainStore.{PlainStore}
 use Rattle.bx_model.specs.declared.tree.Tree.{Tree}
 use Rattle.bx_node_rounds.specs.Quiet.{is_quiet, tidies_in}
 use Rattle.bx_node_rounds.specs.Rounds as rounds

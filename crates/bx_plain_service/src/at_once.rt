@@ -1,6 +1,6 @@
 //! Calls that touch no block.
 
-ghost use Rattle.std.specs.Prelude.{◌≡◌, ◌≤◌, IfNone, IfOk, IfSome, false, true};
+ghost use Rattle.std.specs.Prelude.{◌≡◌, ◌≤◌, IfNone, IfOk, IfSome, None, false, true};
 ghost use Rattle.bx_engine.specs.Calls.{IsAtOnce as IsAnsweredAtOnce};
 ghost use Rattle.bx_model.specs.declared.tree.Tree.{Tree};
 ghost use Rattle.bx_nfs.specs.Asked.{IsAsked};
@@ -10,16 +10,16 @@ ghost use Rattle.bx_views.specs.Attempts.{IsAnswer, deed_of};
 ghost use Rattle.bx_views.specs.declared.attempt.Attempt.TheVariants.{Answer};
 ghost use Rattle.bx_views.specs.Truths.{Truth, no_hints};
 
-use bx_base::OutOfMemory;
-use bx_cache::Cache;
+use bx_base::{Mode, OutOfMemory};
 use bx_engine::BoxFs;
+use bx_layout::Block;
 use bx_model::{Args, Call};
 use bx_nfs::reads_as;
-use bx_views::{Attempt, Done, Engine};
+use bx_views::{Attempt, Done, Engine, View};
 use std::alloc::Global;
 
 /// What a call that touches no block does at a moment in milliseconds, on a volume of one area with this number, whatever file tree that holds;
-/// `None` exactly where the datagram is no such call. The engine attempts it over a cache that has nothing.
+/// `None` exactly where the datagram is no such call. The engine attempts it over no blocks.
 pub fn act_at_once(
     alloc: Global,
     volume: u64,
@@ -39,11 +39,29 @@ pub fn act_at_once(
         return Ok(None);
     }
     let engine = BoxFs { volume, areas: 1 };
-    let nothing = Cache::new(alloc);
-    let Some(attempt) = engine.attempt(alloc, client, datagram, moment, &nothing)? else {
+    let Some(attempt) = engine.attempt(alloc, client, datagram, moment, &NoBlocks)? else {
         unreachable!();
     };
     Ok(Some(done_in(attempt)))
+}
+
+/// A view of no blocks.
+struct NoBlocks;
+
+impl View for NoBlocks {
+    ghost held = { λ view at mode. None };
+
+    ghost hints = { λ view at. None };
+
+    fn block(&self, _at: u64, _mode: Mode) -> Option<&Block> {
+        None
+    }
+
+    fn hint(&self, _at: u64) -> Option<&Block> {
+        None
+    }
+
+    ghost shares = { λ view at block is. is };
 }
 
 /// What an answer did.

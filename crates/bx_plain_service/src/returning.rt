@@ -3,7 +3,7 @@
 ghost use Rattle.std.specs.Prelude.{◌≡◌, ◌↔◌, ◌<◌, ℕ, IfOk, List, None, Some, length, true, slice_get};
 ghost use Rattle.bx_disk.specs.Disks.{Disks};
 ghost use Rattle.bx_history.specs.Trace.{Taking};
-ghost use Rattle.bx_lone_repair.specs.Bench.{AreLong};
+ghost use Rattle.bx_plain_repair.specs.Bench.{AreLong};
 ghost use Rattle.bx_model.specs.declared.tree.Tree.{Tree};
 ghost use Rattle.bx_node_rounds.specs.Quiet.{tidies_in};
 ghost use Rattle.bx_node_rounds.specs.Rounds.{HasSession, NoneWaits};

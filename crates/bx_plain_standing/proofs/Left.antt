@@ -7,9 +7,9 @@ use Rattle.bx_facts.specs.Chains.{HasRow, LivesIn}
 use Rattle.bx_facts.specs.Holds.{Holds}
 use Rattle.bx_facts.specs.Writes.{IsSettled}
 use Rattle.bx_global.specs.Opening.{opening_state}
-use Rattle.bx_lone_repair.specs.Bench.{IsLabelled}
-use Rattle.bx_lone_repair.specs.Left.{IsLeft, IsUnsettled, Leads}
-use Rattle.bx_lone_standing.specs.Standing.{IsAt, point_in}
+use Rattle.bx_plain_repair.specs.Bench.{IsLabelled}
+use Rattle.bx_logs.specs.Bodies.{point_of}
+use Rattle.bx_plain_repair.specs.Left.{IsAt, IsLeft, IsUnsettled, Leads}
 use Rattle.bx_model.specs.declared.tree.Tree.{Tree}
 use Rattle.bx_places.specs.Places.{body_place, gate_place, log_start}
 use Rattle.bx_plain.specs.Begin.{plain_row, plain_rows, plain_state}
@@ -166,7 +166,7 @@ module _ (x : Disks) (before : Image) (all : Logs) (slots : ℕ → Slot) (truth
   module _ (volume floor : ℕ) (holding : Holds) (doubts : ℕ → Option views.Doubt) (tree : Tree) (mine : ℕ → Option ℕ) (held : ℕ → Held) (hints : ℕ → Hints)
       (volume_stands : VolumeStands (StandsWith volume 1) Step holding (HasRow (plain_state 1 1)) (LivesIn (plain_state 1 1)) mine held hints doubts truth tree)
       (doubted : DoubtsStand (plain_rows 1) slots doubts) (floored : IsFloor floor (all 0) (doubts_of doubts 0)) (labelled : IsLabelled x volume) where
-    its_point : (w : Work) (point : Point) → IsAt w point → Finds (IsSettled x (opening_state 1 1)) 1 1 before all (slots 0).more 0 (OfLog w) → point_in (slots 0).more ≡ point
+    its_point : (w : Work) (point : Point) → IsAt w point → Finds (IsSettled x (opening_state 1 1)) 1 1 before all (slots 0).more 0 (OfLog w) → point_of (slots 0).more ≡ point
     its_point works.Idle point at finds = absurd at
     its_point (works.Body text other) point at finds = finds.1.at ∙ at
     its_point (works.Opens other) point at finds = finds.1.at ∙ at
@@ -181,7 +181,7 @@ module _ (x : Disks) (before : Image) (all : Logs) (slots : ℕ → Slot) (truth
     is_begun works.Shuts point at = absurd at
 
     module _ (point : Point) (at : IsAt work point) where
-      point_is : point_in (slots 0).more ≡ point
+      point_is : point_of (slots 0).more ≡ point
       point_is = its_point work point at own_finds
 
       its : (doubt : views.Doubt) × (doubts 1 ≡ Some doubt) × IsRecordOf (slots 0).more doubt
@@ -225,7 +225,7 @@ module _ (x : Disks) (before : Image) (all : Logs) (slots : ℕ → Slot) (truth
           parts : (deed.moment ≡ (slots 0).more.head.moment) × (deed.spare ≡ (slots 0).more.head.spare) × (deed.made ≡ (slots 0).more.head.made)
           parts = subst (λ (a : Act). IsActOf (slots 0).more a) is its.2.act
 
-          more_point : of.point ≡ point_in (slots 0).more
+          more_point : of.point ≡ point_of (slots 0).more
           more_point = λ i. record { call = sym its.2.call i; moment = parts.0 i; spare = parts.1 i; made = parts.2 i }
 
           same_point : of.point ≡ point

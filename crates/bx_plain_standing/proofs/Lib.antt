@@ -1,4 +1,3 @@
-pub mod Begins
 pub mod Labels
 pub mod Left
 pub mod LeftShown

@@ -1,13 +1,13 @@
 -- What stands of nodes whose parts are those of one machine: what disks show of them after a crash, and what one node leaves.
-use Rattle.std.proofs.Common.{◌≡◌, ◌≢◌, ℕ, ◌+◌, ◌<◌, ◌≤◌, Bool, true, List, Contains, length, Some, None, sym, ap, ◌∙◌, subst, arith}
+use Rattle.std.proofs.Common.{◌≡◌, ◌≢◌, ℕ, ◌+◌, ◌<◌, ◌≤◌, Bool, true, List, Contains, Some, None, sym, ap, ◌∙◌, subst, arith}
 use Rattle.std.specs.Prelude.{if◌then◌else◌, nat_lt, slice_get}
 use Rattle.std.proofs.lemmas.Bool.Decides.{nat_tests}
 use Rattle.bx_disk.specs.Disks.{Disks}
 use Rattle.bx_facts.specs.Chains.{any_session_of, last}
 use Rattle.bx_facts.specs.Writes.{IsOfStore, Made}
 use Rattle.bx_global.specs.declared.state.GlobalState.{GlobalState}
-use Rattle.bx_lone_repair.specs.Bench.{IsBench}
-use Rattle.bx_lone_store.specs.contracts.store.PlainStoreStore.TheImpl as plain_store
+use Rattle.bx_plain_repair.specs.Bench.{IsBench}
+use Rattle.bx_plain_store.specs.contracts.store.PlainStoreStore.TheImpl as plain_store
 use Rattle.bx_model.specs.declared.tree.Tree.{Tree}
 use Rattle.bx_node_machines.specs.Machines.{MachineView}
 use Rattle.bx_node_machines.specs.Nodes.{NodesStand}
@@ -18,7 +18,7 @@ use Rattle.bx_plain.specs.Standing.{is_last}
 use Rattle.bx_plain.proofs.Beginning.{plain_is}
 use Rattle.bx_plain.specs.contracts.owners.PlainOwnersOwners.TheImpl as plain_owners
 use Rattle.bx_plain.specs.contracts.register.PlainRegisterRegister.TheImpl as plain_register
-use Rattle.bx_plain_standing.proofs.Standing.{count_is, shows}
+use Rattle.bx_plain_standing.proofs.Standing.{shows}
 use Rattle.bx_plain_standing.proofs.Stopped.{floored, stopped}
 use Rattle.bx_plain_standing.specs.Doubts.{AreLacking, AreTold, doubts_in}
 use Rattle.bx_plain_standing.specs.Left.{IsFloor, IsStopped, floor_of, left_of}
@@ -58,11 +58,6 @@ module _ (volume nodes areas : ℕ) (register_is : plain_register.self_type) (ow
   pub plain_shows : nodes ≤ 4 → (lacks : ℕ → Bool) → AreLacking lacks nodes (doubts_in machines) → AreTold nodes c.logs (doubts_in machines) → (y : Disks) → IsCrashed x y → Shows lacks nodes y tree (doubts_in machines)
   plain_shows few lacks lacking told y crashed = shows plain_register.ghosts plain_owners.ghosts plain_store.ghosts volume nodes register_is owners_are store_is x letters clocks machines c tree stand_so last_is owns up
       (λ device sector content index is. is) (λ device sector content is. is) labelled few lacks lacking told y crashed one_device (ap (λ (made : Made). made.volume) (sym parts.store))
-
-  -- a node's log counts its records
-  pub plain_count : (node : ℕ) → node < nodes → (machine : MachineView) → slice_get machines node ≡ Some machine → machine.session ≡ Some (node + 1) → machine.log.count ≡ length (c.logs node)
-  plain_count = count_is plain_register.ghosts plain_owners.ghosts plain_store.ghosts volume nodes register_is owners_are store_is x letters clocks machines c tree stand_so last_is owns up
-      (λ device sector content index is. is) (λ device sector content is. is) labelled
 
 -- of one node, on one area
 module _ (volume : ℕ) (register_is : plain_register.self_type) (owners_are : plain_owners.self_type) (store_is : plain_store.self_type) (x : Disks) (letters : List Letter) (clocks : Clocks) (machines : List MachineView) (c : Course) (tree : Tree)

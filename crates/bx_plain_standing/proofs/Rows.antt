@@ -32,9 +32,6 @@ taken_is : (until n slot : ℕ) → is_taken (rows_until until n) slot ≡ nat_l
 taken_is until zero slot = grind (arith, nat_tests)
 taken_is until (suc n) slot = one_behind (rows_until until n) (row_until until n) slot ∙ ap (λ (b : Bool). b || (n == slot)) (taken_is until n slot) ∙ below_next n slot
 
-pub taken : (nodes slot : ℕ) → slot < nodes → is_taken (plain_rows nodes) slot ≡ true
-taken nodes slot less = taken_is 4294967295999 nodes slot ∙ (let e : nat_lt slot nodes ≡ true = grind (arith, nat_tests, less) in e)
-
 pub free : (nodes slot : ℕ) → nodes ≤ slot → is_taken (plain_rows nodes) slot ≡ false
 free nodes slot past = taken_is 4294967295999 nodes slot ∙ (let e : nat_lt slot nodes ≡ false = grind (arith, nat_tests, past) in e)
 

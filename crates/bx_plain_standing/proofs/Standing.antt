@@ -16,7 +16,7 @@ use Rattle.bx_node_machines.specs.Machines.{MachineView}
 use Rattle.bx_node_machines.specs.Nodes.{IsOfNode, NodesStand, known_of, scene_of}
 use Rattle.bx_owners.specs.declared.owners.Owners as owners
 use Rattle.bx_plain.specs.Begin.{plain_rows, plain_state}
-use Rattle.bx_plain_standing.proofs.Machines.{is_about, none_logged, same_doubts, some_work}
+use Rattle.bx_plain_standing.proofs.Machines.{none_logged, same_doubts, some_work}
 use Rattle.bx_plain_standing.proofs.Open.{all_first, are_read, each_first}
 use Rattle.bx_plain_standing.proofs.Shown.{IsShownBy, shown_by}
 use Rattle.bx_plain_standing.specs.Doubts.{AreLacking, AreTold, doubts_in, doubts_of}
@@ -42,9 +42,6 @@ tells_same one other zero tree next opened same tells = tells
 tells_same one other (suc n) tree next opened same (middle, earlier, before, inl here) = (middle, earlier, tells_same one other n tree middle earlier (λ node less. same node (omega (arith, less))) before, inl here)
 tells_same one other (suc n) tree next opened same (middle, earlier, before, inr here) =
     (middle, earlier, tells_same one other n tree middle earlier (λ node less. same node (omega (arith, less))) before, inr (record { of = here.of; is = same n (omega arith) ∙ here.is; acts = here.acts; open_is = here.open_is }))
-
-pub shows_same : (lacks : ℕ → Bool) (nodes : ℕ) (y : Disks) (tree : Tree) (one other : ℕ → Option Doubt) → ((node : ℕ) → node < nodes → other node ≡ one node) → Shows lacks nodes y tree one → Shows lacks nodes y tree other
-shows_same lacks nodes y tree one other same shown = record { next = shown.next; stands = shown.stands; opened = shown.opened; open_is = shown.open_is; tells = tells_same one other nodes tree shown.next shown.opened same shown.tells }
 
 module _ {G O S : Type 0} (g : register.Ghosts G) (o : owners.Ghosts O) (st : store.Ghosts S) (volume nodes : ℕ)
     (register_is : G) (owners_are : O) (store_is : S) (x : Disks) (letters : List Letter) (clocks : Clocks) (machines : List MachineView) (c : Course) (tree : Tree)
@@ -94,13 +91,6 @@ module _ {G O S : Type 0} (g : register.Ghosts G) (o : owners.Ghosts O) (st : st
       (SureOf g o st (StandsWith volume (st.made store_is).areas) Step register_is owners_are store_is x (known_of g o st (StandsWith volume (st.made store_is).areas) Step register_is owners_are store_is x letters clocks machines) c)
       (st.will_read store_is x c.store) (IsOfNode o.by_boot clocks) (scene_of g o st (StandsWith volume (st.made store_is).areas) Step register_is owners_are store_is x clocks.down machines c)
       nodes stands.about (ap (λ (s : GlobalState). s.sessions) state) owns_up stands.single node less
-
-  -- a log counts its records
-  pub count_is : (node : ℕ) → node < nodes → (machine : MachineView) → slice_get machines node ≡ Some machine → machine.session ≡ Some (node + 1) → machine.log.count ≡ length (c.logs node)
-  count_is node less machine there mark = (is_about (st.made store_is).devices (st.made store_is).areas
-      (SureOf g o st (StandsWith volume (st.made store_is).areas) Step register_is owners_are store_is x (known_of g o st (StandsWith volume (st.made store_is).areas) Step register_is owners_are store_is x letters clocks machines) c)
-      (st.will_read store_is x c.store) (IsOfNode o.by_boot clocks) (scene_of g o st (StandsWith volume (st.made store_is).areas) Step register_is owners_are store_is x clocks.down machines c)
-      nodes stands.about (ap (λ (s : GlobalState). s.sessions) state) owns_up stands.single node less machine there mark).count
 
   pub no_records : (node : ℕ) → node < nodes → (doubt : Doubt) → doubts_in machines node ≡ Some doubt → ((machine : MachineView) → slice_get machines node ≡ Some machine → machine.log.count ≡ 0) → c.logs node ≡ []
   no_records node less doubt has quiet = none_of (c.logs node) (none_logged (st.made store_is).devices (st.made store_is).areas

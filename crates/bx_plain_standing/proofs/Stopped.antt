@@ -11,11 +11,11 @@ use Rattle.bx_facts.specs.declared.register.Register as register
 use Rattle.bx_facts.specs.declared.store.Store as store
 use Rattle.bx_global.specs.Opening.{first_device, opening_state}
 use Rattle.bx_global.specs.declared.state.GlobalState.{GlobalState}
-use Rattle.bx_lone_repair.proofs.Crashing.{left_still}
-use Rattle.bx_lone_repair.specs.Bench.{IsBench, made_for}
-use Rattle.bx_lone_repair.specs.Left as lefts
-use Rattle.bx_lone_repair.specs.Left.{IsClosed, IsLeft}
-use Rattle.bx_lone_repair.specs.Spared.{SparesOthers}
+use Rattle.bx_plain_repair.proofs.Crashing.{left_still}
+use Rattle.bx_plain_repair.specs.Bench.{IsBench, made_for}
+use Rattle.bx_plain_repair.specs.Left as lefts
+use Rattle.bx_plain_repair.specs.Left.{IsClosed, IsLeft}
+use Rattle.bx_plain_repair.specs.Spared.{SparesOthers}
 use Rattle.bx_model.specs.declared.tree.Tree.{Tree}
 use Rattle.bx_node_machines.specs.Machines.{MachineView}
 use Rattle.bx_node_machines.specs.Nodes.{NodesStand, known_of}

@@ -1,9 +1,9 @@
 -- What a cluster of one node leaves on its disks where it stops.
 use Rattle.std.specs.Prelude.{◌≡◌, ◌≢◌, ℕ, ◌-◌, ◌<◌, ◌≤◌, List, Contains, Option, Some, None}
 use Rattle.bx_disk.specs.Disks.{Disks}
-use Rattle.bx_lone_repair.specs.Bench.{made_for}
-use Rattle.bx_lone_repair.specs.Left as lefts
-use Rattle.bx_lone_repair.specs.Left.{IsLeft}
+use Rattle.bx_plain_repair.specs.Bench.{made_for}
+use Rattle.bx_plain_repair.specs.Left as lefts
+use Rattle.bx_plain_repair.specs.Left.{IsLeft}
 use Rattle.bx_model.specs.declared.tree.Tree.{Tree}
 use Rattle.bx_plain_openings.specs.bx_node_openings.specs.Resting.{VolumeRests}
 use Rattle.bx_plain.specs.Begin.{plain_state}

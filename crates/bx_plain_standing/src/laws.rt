@@ -2,9 +2,9 @@
 
 ghost use Rattle.std.specs.Prelude.{◌≡◌, ◌≤◌, ℕ, Bool, List, Option};
 ghost use Rattle.bx_disk.specs.Disks.{Disks};
-ghost use Rattle.bx_lone_repair.specs.Bench.{IsBench};
-ghost use Rattle.bx_lone_repair.specs.Left.{Doubt, IsClosed, IsLeft};
-ghost use Rattle.bx_lone_repair.specs.Spared.{SparesOthers};
+ghost use Rattle.bx_plain_repair.specs.Bench.{IsBench};
+ghost use Rattle.bx_plain_repair.specs.Left.{Doubt, IsClosed, IsLeft};
+ghost use Rattle.bx_plain_repair.specs.Spared.{SparesOthers};
 ghost use Rattle.bx_model.specs.declared.tree.Tree.{Tree};
 ghost use Rattle.bx_node_machines.specs.Machines.{MachineView};
 ghost use Rattle.bx_node_machines.specs.Nodes.{NodesStand};
@@ -18,9 +18,9 @@ ghost use Rattle.bx_world_standing.specs.Parts.{Clocks};
 ghost use Rattle.bx_world_standing.specs.Standing.{Course};
 
 use bx_facts::{Register, Store};
-use bx_lone_store::PlainStore;
 use bx_owners::Owners;
 use bx_plain::{PlainOwners, PlainRegister};
+use bx_plain_store::PlainStore;
 
 /// Once what was unsure is lost, the disks on which up to four nodes stand for a tree show that tree, or the one after some of the calls whose records were under way,
 /// in the order of their nodes. Of the calls that lack a point those have open records which the tree is after, and no others, where no record that the logs have is of a

@@ -1,14 +1,13 @@
 -- Labels are written where no member is that an audit reads.
 use Rattle.std.proofs.Common.{◌≡◌, ◌≢◌, ℕ, ◌<◌, ◌≤◌, Bool, List, refl, sym, ◌∙◌, subst, arith}
 use Rattle.bx_disk.specs.Disks.{Disks, Image, IsImage}
-use Rattle.bx_calls.specs.Calls.{HasSure, KeepsAll, KeepsSure, LeavesOnly}
+use Rattle.bx_calls.specs.Calls.{HasSure, KeepsSure, LeavesOnly}
 use Rattle.bx_calls.specs.Laws.{leaves_implies, leaves_then}
 use Rattle.bx_global.specs.declared.state.GlobalState.{GlobalState}
 use Rattle.bx_layout.specs.Labels.{SpellsLabel}
 use Rattle.bx_layout.specs.declared.label.Label.{Label}
 use Rattle.bx_facts.specs.Disks.{SameDisks}
 use Rattle.bx_facts.specs.Writes.{HasLabels, IsSourceIn, Made, label_on, member_disk}
-use Rattle.bx_members.proofs.Kept.{same_disks}
 use Rattle.bx_plain_store.specs.Sources.{HasSources, KeepsSources}
 
 pub record LacksLabel (x : Disks) (disk : ℕ) (label : Label) : Type 0 where
@@ -42,21 +41,6 @@ has_written made s x disk count image past labels without has = record {
 
 pub keeps_same : (s : GlobalState) (x y : Disks) → SameDisks x y → KeepsSources s x y
 keeps_same s x y same = record { members = λ device second sector source. same.each (member_disk device second) sector; replicas = λ d sector less. same.each d sector }
-
-pub keeps_all : (s : GlobalState) (x y : Disks) (disk : ℕ) → KeepsAll x y disk → KeepsSources s x y
-keeps_all s x y disk all = keeps_same s x y (same_disks disk x y all)
-
-pub sources_then : (s : GlobalState) (x y z : Disks) → KeepsSources s x y → KeepsSources s y z → KeepsSources s x z
-sources_then s x y z first next = record {
-  members = λ device second sector source.
-      let a = first.members device second sector source in
-      let b = next.members device second sector source in
-      record { reads = b.reads ∙ a.reads; sure = λ was. b.sure (a.sure was) };
-  replicas = λ d sector less.
-      let a = first.replicas d sector less in
-      let b = next.replicas d sector less in
-      record { reads = b.reads ∙ a.reads; sure = λ was. b.sure (a.sure was) };
-}
 
 pub has_image : (s : GlobalState) (x : Disks) (image : Image) → IsImage x image → HasSources s x image
 has_image s x image is = record { members = λ device second sector source sure. is.sure (member_disk device second) sector sure; replicas = λ d sector less sure. is.sure d sector sure }

@@ -1,11 +1,10 @@
 -- Disks of replicas are kept, whatever is written on members.
 use Rattle.std.proofs.Common.{◌≡◌, ◌≢◌, ℕ, ◌≤◌, [], ◌∷◌, refl, sym, ◌∙◌, subst, arith}
 use Rattle.bx_disk.specs.Disks.{Disks}
-use Rattle.bx_calls.specs.Calls.{KeepsAll, KeepsSure}
+use Rattle.bx_calls.specs.Calls.{KeepsSure}
 use Rattle.bx_facts.proofs.Lists.{front}
 use Rattle.bx_facts.specs.Disks.{SameDisks}
 use Rattle.bx_facts.specs.Writes.{Sent}
-use Rattle.bx_members.proofs.Kept.{same_disks}
 use Rattle.bx_members.specs.Members.{IsTaken, KeepsMembers}
 use Rattle.bx_records.specs.declared.runs.Run.{Run}
 use Rattle.bx_plain_store.specs.Out.{KeepsReplicas}
@@ -15,9 +14,6 @@ replicas_same old new same = record { each = λ d sector less. same.each d secto
 
 pub replicas_state : (old new : Disks) → new ≡ old → KeepsReplicas old new
 replicas_state old new same = subst (KeepsReplicas old) (sym same) (record { each = λ d sector less. record { reads = refl; sure = λ was. was } })
-
-pub replicas_all : (old new : Disks) (disk : ℕ) → KeepsAll old new disk → KeepsReplicas old new
-replicas_all old new disk all = replicas_same old new (same_disks disk old new all)
 
 pub replicas_then : (old mid new : Disks) → KeepsReplicas old mid → KeepsReplicas mid new → KeepsReplicas old new
 replicas_then old mid new first next = record {

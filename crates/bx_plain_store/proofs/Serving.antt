@@ -4,10 +4,11 @@ use Rattle.std.specs.Prelude.{◌==◌, slice_index_or}
 use Rattle.std.proofs.lemmas.Bool.Decides.{nat_tests}
 use Rattle.bx_disk.specs.Disks.{Disks}
 use Rattle.bx_global.specs.declared.state.GlobalState.{GlobalState}
-use Rattle.bx_facts.specs.Writes.{IsDone, IsOnly, IsOver, IsSettled, Sent, WritesTo}
+use Rattle.bx_facts.specs.Writes.{IsDone, IsOver, IsSettled, Sent, WritesTo}
 use Rattle.bx_members.specs.Members.{KeepsMembers}
 use Rattle.bx_plain_store.specs.declared.writes.Write.{Write}
 use Rattle.bx_plain_store.specs.Out.{AreApart, IsAlone, IsFree, at, out_at, out_in, outs, sent_of}
+use Rattle.bx_plain_store.specs.Outs.{in_outs, members_settled}
 
 pub out_there : (slots : List (Option Write)) (node : ℕ) (write : Sent) → out_at slots node ≡ Some write → Contains (outs slots) write
 out_there [] node write is = absurd cc
@@ -15,13 +16,6 @@ out_there (None ∷ slots) zero write is = absurd cc
 out_there (None ∷ slots) (suc node) write is = out_there slots node write is
 out_there (Some w ∷ slots) zero write is = (0, omega arith, (let h = is in cc))
 out_there (Some w ∷ slots) (suc node) write is = let (k, less, there) = out_there slots node write is in (suc k, omega (arith, less), there)
-
--- each write that is out is some node's
-pub in_outs : (slots : List (Option Write)) (write : Sent) → Contains (outs slots) write → (node : ℕ) × (out_at slots node ≡ Some write)
-in_outs [] write (k, less, is) = absurd (omega (arith, less))
-in_outs (None ∷ slots) write there = let rest = in_outs slots write there in (suc rest.0, rest.1)
-in_outs (Some w ∷ slots) write (zero, less, is) = (0, ap Some is)
-in_outs (Some w ∷ slots) write (suc k, less, is) = let rest = in_outs slots write (k, omega (arith, less), is) in (suc rest.0, rest.1)
 
 -- A write that is out and not over has its sectors alone.
 pub alone_of : (slots : List (Option Write)) (greatest node : ℕ) (w : Sent) → AreApart greatest slots → out_at slots node ≡ Some w → (IsOver greatest w → ⊥) → IsAlone (outs slots) greatest w
@@ -46,19 +40,11 @@ alone_of slots greatest node w apart out not_over = record {
 pub free_of : (slots : List (Option Write)) (greatest node : ℕ) (slot : Option Write) → AreApart greatest slots → slot ≡ at slots node → IsFree (outs slots) greatest slot
 free_of slots greatest node slot apart is = record { alone = λ write here not_over. alone_of slots greatest node (sent_of write) apart (ap out_in (sym is ∙ here)) not_over }
 
--- what is settled is kept settled, and so is what is done
-pub settled_kept : (writes : List Sent) (greatest : ℕ) (s : GlobalState) (old new : Disks) (device sector : ℕ) (content : List ℕ) → KeepsMembers writes greatest old new → IsOnly writes greatest device sector content
-    → IsSettled old s device sector content → IsSettled new s device sector content
-settled_kept writes greatest s old new device sector content keeps only is = record {
-  there = is.there;
-  reads = λ second source. keeps.reads device sector second content only (is.reads second source);
-  sure = λ second source. keeps.sure device sector second content only (is.reads second source) (is.sure second source);
-}
-
+-- what is done stays so
 pub done_kept : (writes : List Sent) (greatest : ℕ) (s : GlobalState) (old new : Disks) (write : Sent) → KeepsMembers writes greatest old new → IsAlone writes greatest write
     → IsDone (λ device sector content index. IsSettled old s device sector content) 0 write → IsDone (λ device sector content index. IsSettled new s device sector content) 0 write
 done_kept writes greatest s old new write keeps alone done = record {
-  each = λ device sector content brings. settled_kept writes greatest s old new device sector content keeps (alone.only device sector content brings) (done.each device sector content brings);
+  each = λ device sector content brings. members_settled writes greatest s old new device sector content keeps (alone.only device sector content brings) (done.each device sector content brings);
 }
 
 -- ---- one place set
@@ -100,12 +86,6 @@ by_place {P} node i low same below = by_test (node == i) refl
     by_test : (b : Bool) → (node == i) ≡ b → P
     by_test true is = same (grind (arith, nat_tests, is))
     by_test false not_is = below (grind (arith, nat_tests, not_is, low))
-
--- a place that has something lies within the list
-pub at_within : {X : Type 0} → (xs : List (Option X)) (node : ℕ) (x : X) → at xs node ≡ Some x → node < length xs
-at_within [] node x is = absurd cc
-at_within (y ∷ xs) zero x is = omega arith
-at_within (y ∷ xs) (suc node) x is = let less = at_within xs node x is in omega (arith, less)
 
 -- one slot after the other is served
 module _ (old now : List (Option Write)) (i : ℕ) (slot new : Option Write) (less : i < length now) (is : slot ≡ at now i) (rest : (j : ℕ) → i ≤ j → at now j ≡ at old j) where

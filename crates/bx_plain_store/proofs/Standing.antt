@@ -27,9 +27,6 @@ keeps_disks writes greatest old new same = record {
   replicas = λ d sector less. same.each d sector;
 }
 
-pub same_none : (x : Disks) → SameDisks x x
-same_none x = record { each = λ d s. record { reads = refl; sure = λ was. was } }
-
 -- a run that was written reads so
 pub reads_run : (x : Disks) (run : Run) (device sector : ℕ) (content : List ℕ) (second : Bool) → ReadsAs x.reads (member_disk run.device second) run.place run.bytes → Writes run device sector content
     → x.reads (member_disk device second) sector ≡ content
@@ -98,10 +95,6 @@ pub written_same : (runs : List Run) (count : ℕ) (old new : Disks) → SameDis
 written_same runs count old new same was = record {
   each = λ j run device sector content second less at brings. (same.each (member_disk device second) sector).reads ∙ was.each j run device sector content second less at brings;
 }
-
--- nothing was written yet
-pub written_none : (x : Disks) (runs : List Run) → AreWritten x runs 0
-written_none x runs = record { each = λ j run device sector content second less at brings. absurd (omega (arith, less)) }
 
 -- one device more is sure
 pub sure_more : (old new : Disks) (count : ℕ) → SameDisks old new

@@ -1,2 +1,11 @@
+pub mod Events
+pub mod Fits
+pub mod Growing
+pub mod Laws
+pub mod Needs
 pub mod Out
+pub mod Outs
+pub mod Parts
 pub mod Sources
+pub mod Steps
+pub mod Waiting

@@ -1,7 +1,7 @@
 //! Labels of members.
 
 ghost use Rattle.bx_disk.specs.Kept.{Fails};
-ghost use Rattle.std.specs.Prelude.{◌≡◌, ℕ, ◌+◌, ◌<◌, ◌≤◌, false, length, slice_index, OnOk};
+ghost use Rattle.std.specs.Prelude.{◌≡◌, ℕ, ◌<◌, ◌≤◌, false, length, slice_index, OnOk};
 ghost use Rattle.bx_calls.specs.Calls.{LeavesOnly};
 ghost use Rattle.bx_global.specs.declared.state.GlobalState.{GlobalState};
 ghost use Rattle.bx_layout.specs.Labels.{IsLabel, SpellsLabel};
@@ -15,7 +15,7 @@ use bx_layout::Label;
 use bx_members::has_bytes;
 
 /// Makes a member's disk sure, and labels it where it has another label or none.
-pub fn label_member<R: Rack>(rack: &mut R, disk: u32, label: &Label) -> Result<(), RackError>
+pub(crate) fn label_member<R: Rack>(rack: &mut R, disk: u32, label: &Label) -> Result<(), RackError>
     requires member { 3 ≤ disk }
     requires disk { disk < length (R.state rack.old).sizes }
     requires room { 1 ≤ slice_index (R.state rack.old).sizes disk }

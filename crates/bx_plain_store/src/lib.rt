@@ -1,11 +1,19 @@
-//! What a store on one machine does with the disks of members: it serves writes at syncs, answers reads, and labels.
+//! A store on one machine: it holds writes and reads of nodes until members' syncs, which serve the writes on both members of each device and answer the reads.
 #![tactic(auto)]
 
+mod greatest;
+mod inquiries;
 mod labels;
+mod parts;
 mod reads;
 mod runs;
+mod sessions;
+mod store;
+mod syncs;
+mod waiting;
 mod writes;
 
-pub use labels::label_member;
-pub use reads::{Ask, answer};
-pub use writes::{Write, serve, serve_all};
+pub use inquiries::Inquiry;
+pub use reads::Ask;
+pub use store::PlainStore;
+pub use writes::{Write, serve};

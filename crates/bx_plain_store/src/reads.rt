@@ -30,7 +30,7 @@ pub struct Ask {
 }
 
 /// The bytes of sectors, of the member of their device that reads go to. `None` where there is no such device.
-pub fn answer<R: Rack>(
+pub(crate) fn answer<R: Rack>(
     alloc: Global,
     rack: &mut R,
     known: &GlobalState,

@@ -76,7 +76,7 @@ pub fn serve<R: Rack>(
 }
 
 /// Brings each node's write one sync further.
-pub fn serve_all<R: Rack>(
+pub(crate) fn serve_all<R: Rack>(
     rack: &mut R,
     devices: u32,
     greatest: u64,

@@ -39,7 +39,7 @@ pub trait Service: Drop {
     ghost lacks: { Self → ℕ → Bool };
 
     /// Whether a tidy of a node is under way: it cleans the one area, a little in each round in which no call waits at the node, until that
-    /// has no dead file.
+    /// has no dead file. One whose node another asks for a block rests, and isn't under way, until a tick of its node where no call waits.
     ghost tidies: { Self → ℕ → Bool };
 
     /// Whether it is up, and the disks have to be brought to rest first after a crash.
@@ -113,7 +113,7 @@ pub trait Service: Drop {
         ensures steps { (x : Disks) (tree : Tree) (doubts : ℕ → Option Doubt) → ready self.now x.sizes → holds self.now x tree doubts
             → IfOk result (λ found. IfSome found (λ acted. Step tree (deed_at (taking_of call.now) acted.point acted.reply) tree)) };
 
-    /// A node's clock ticks: where no call waits at the node, its tidy begins. It takes no memory.
+    /// A node's clock ticks: where no call waits at the node, its tidy begins, or one that rests goes on. It takes no memory.
     fn tick(&mut self, node: u32)
         requires up { up self.old ≡ true }
         requires there { node < nodes self.old }

@@ -2,12 +2,12 @@
 //! to its end.
 
 ghost use Rattle.std.specs.Prelude.{IsTrue};
-ghost use Rattle.bx_lone_repair.specs.Bench.{AreLong};
+ghost use Rattle.bx_plain_repair.specs.Bench.{AreLong};
 
 use bx_base::{CallNo, OutOfMemory};
 use bx_disk::{Noise, Rack, RackError};
-use bx_lone_repair::{Recovery, recover};
 use bx_memory_rack::MemRack;
+use bx_plain_repair::{Recovery, recover};
 use bx_records::DraftError;
 use bx_redo::Log;
 use bx_stop_rack::StopRack;

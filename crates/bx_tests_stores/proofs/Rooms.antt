@@ -3,8 +3,8 @@ use Rattle.std.proofs.Common.{◌≡◌, ℕ, zero, suc, ◌+◌, ◌≤◌, Boo
 use Rattle.std.specs.Prelude.{slice_index}
 use Rattle.bx_facts.specs.Disks.{HasRoom}
 use Rattle.bx_facts.specs.Writes.{Made, store_room}
-use Rattle.bx_lone_store.specs.Needs.{needs_little, needs_member, needs_none}
-use Rattle.bx_lone_store.specs.Waiting.{if_up, needs_of}
+use Rattle.bx_plain_store.specs.Needs.{needs_little, needs_member, needs_none}
+use Rattle.bx_plain_store.specs.Waiting.{if_up, needs_of}
 use Rattle.bx_tests_stores.specs.Benches.{made}
 
 room_each : (down : List Bool) → ((member : ℕ) → 2 ≤ member → slice_get down member ≡ None) → (disk : ℕ) → needs_of made down disk ≤ slice_index (1 ∷ 1 ∷ 1 ∷ 17994 ∷ 17994 ∷ []) disk

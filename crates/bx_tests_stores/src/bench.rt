@@ -11,10 +11,10 @@ use crate::toy::hear;
 use bx_base::{Actor, Mode, OutOfMemory, Raw};
 use bx_disk::Rack;
 use bx_facts::{Input, Outbox, Register, Store};
-use bx_lone_store::PlainStore;
 use bx_memory_rack::MemRack;
 use bx_owners::Owners;
 use bx_plain::{PlainOwners, PlainRegister, endless};
+use bx_plain_store::PlainStore;
 use bx_records::{Run, Runs};
 use std::alloc::Global;
 

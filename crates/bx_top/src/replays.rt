@@ -15,8 +15,8 @@ ghost use Rattle.bx_replay.specs.Replay.{IsDiskCause, Wrote};
 ghost use Rattle.bx_statuses.specs.Report.{IsAmong, IsTold, line_of, message};
 
 use bx_disk::CrashRack;
-use bx_plain_service::PlainService;
 use bx_outside::{Sink, Source};
+use bx_plain_service::PlainService;
 use bx_replay::replay;
 use bx_statuses::report;
 use std::alloc::Global;

@@ -12,10 +12,10 @@ use bx_global::GlobalState;
 use bx_lease::BackBy;
 
 /// How many replicas there are.
-const REPLICAS: u32 = 3;
+pub const REPLICAS: u32 = 3;
 
 /// How many lock servers there are.
-const SERVERS: u32 = 2;
+pub const SERVERS: u32 = 2;
 
 /// The mode of a device that uses member A alone.
 const ONLY_A: u32 = 1;
@@ -23,8 +23,8 @@ const ONLY_A: u32 = 1;
 /// The mode of a device that uses member B alone.
 const ONLY_B: u32 = 2;
 
-/// Whether the cluster has a machine.
-fn is_there<S: Shows>(cluster: &S, who: Actor) -> bool
+/// Whether the cluster has a machine. It takes no memory.
+pub fn is_there<S: Shows>(cluster: &S, who: Actor) -> bool
     ensures { result ≡ is_there (S.seen cluster.now) who }
 {
     match who {

@@ -8,6 +8,7 @@ mod refusals;
 mod shows;
 
 pub use bx_lease::ClockRule;
+pub use causes::{REPLICAS, SERVERS, is_there};
 pub use event::{Event, EventError};
 pub use laws::first_cause_is_told;
 pub use refusals::refusal;

@@ -1,7 +1,4 @@
-use Rattle.std.proofs.Common.{◌≡◌, ℕ, None, Some}
-use Rattle.bx_cache.specs.Cached.{block_at}
 use Rattle.bx_engine.specs.Calls.{IsAtOnceCall}
-use Rattle.bx_layout.specs.declared.block.Block.{Block}
 use Rattle.bx_nfs.specs.Wire.{ReadsAs}
 use Rattle.bx_plain_service.proofs.AtOnce.{not_at_once, step_stays}
 use Rattle.bx_plain_service.proofs.at_once.act_at_once.Goals as goal
@@ -24,9 +21,6 @@ done_in-requires c =
 pub returns-clause-steps : goal.returns-clause-steps
 returns-clause-steps c = λ truth tree bare.
     let reads : ReadsAs c.args.datagram.now c.in-Some._xid c.in-Some.call = rw c.in-Some.is at c.in_ok-_xid.ensures.found in
-    let gives = c.in_ok-attempt.ensures.gives truth tree (record { each = λ at mode block is. absurd (nothing at block is) }) (record { stands = bare.stands; fit = bare.fit }) in
+    let gives = c.in_ok-attempt.ensures.gives truth tree (record { each = λ at mode block is. absurd cc }) (record { stands = bare.stands; fit = bare.fit }) in
     let did = rw (c.in-Some-2.is, c.done_in.ensures) at gives in
     step_stays tree did.next _ c.in-Some._xid c.in-Some.call reads (c.is_at_once.ensures.answered c.if-not-is_at_once.false) did.step
-  where
-    nothing : (at : ℕ) (block : Block) → block_at c.new-nothing.result at ≡ Some block → ⊥
-    nothing at block is = let none : block_at c.new-nothing.result at ≡ None = c.new-nothing.ensures at in cc

@@ -1,5 +1,5 @@
-use Rattle.std.proofs.Common.{◌∙◌, subst}
-use Rattle.bx_plain_service.proofs.Joining.{Joins, joins_first, joins_next, none_left}
+use Rattle.std.proofs.Common.{subst}
+use Rattle.bx_plain_service.proofs.Joining.{Joins, joins_first, joins_next}
 use Rattle.bx_plain_service.proofs.returning.rejoin.Goals as goal
 
 pub calls-init : goal.calls-init

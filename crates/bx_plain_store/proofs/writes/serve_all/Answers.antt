@@ -7,7 +7,8 @@ use Rattle.bx_plain_store.specs.declared.writes.Write.{Write}
 use Rattle.bx_plain_store.specs.Out.{IsFitting, at, out_in, outs, sent_of}
 use Rattle.bx_plain_store.proofs.Replicas.{replicas_then}
 use Rattle.bx_plain_store.proofs.Standing.{written_kept}
-use Rattle.bx_plain_store.proofs.Serving.{alone_of, at_got, at_within, by_place, done_kept, free_of, new_fact, new_out, new_rest, set_each}
+use Rattle.bx_plain_store.proofs.Serving.{alone_of, at_got, by_place, done_kept, free_of, new_fact, new_out, new_rest, set_each}
+use Rattle.bx_plain_store.specs.Outs.{at_within}
 use Rattle.bx_plain_store.proofs.writes.serve_all.Goals as goal
 
 pub serve-requires-clause-fit : goal.serve-requires-clause-fit

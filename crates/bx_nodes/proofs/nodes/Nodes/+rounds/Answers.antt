@@ -1,5 +1,5 @@
-use Rattle.std.proofs.Common.{◌≡◌, ◌∙◌, ℕ, ◌<◌, ◌++◌, [], true, false, List, length, Some, IfSome, IsSome, sym, ap, subst, arith, rules, All}
-use Rattle.std.specs.Prelude.{◌==◌, slice_get}
+use Rattle.std.proofs.Common.{◌≡◌, ◌⊎◌, ◌∙◌, inl, inr, ℕ, ◌<◌, ◌++◌, [], true, false, List, length, Option, None, Some, IfSome, IsSome, refl, sym, ap, subst, arith, rules, All}
+use Rattle.std.specs.Prelude.{◌==◌, not, slice_get}
 use Rattle.std.specs.Vec.{vec_len}
 use Rattle.std.proofs.lemmas.Bool.Decides.{nat_tests}
 use Rattle.std.specs.List.{AllByRecursion}
@@ -11,16 +11,20 @@ use Rattle.bx_node_steps.specs.declared.machine.Machine.{Machine}
 use Rattle.bx_node_tries.specs.Tries.{AreNeeded, MayWait}
 use Rattle.bx_node_tries.specs.declared.round.Said.{Said}
 use Rattle.bx_places.specs.Places.{IsBlock}
-use Rattle.bx_nodes.specs.Asks.{KeepsUnneeded}
+use Rattle.bx_facts.specs.Holds.{first_of}
+use Rattle.bx_nodes.specs.Asks.{KeepsUnneeded, OnlyHolds}
+use Rattle.bx_nodes.specs.Giving.{AreWanted, GivesBack, IsInNeeds}
+use Rattle.bx_nodes.specs.Going.{Settle}
 use Rattle.bx_nodes.specs.Sending.{BeginsBy}
 use Rattle.bx_nodes.specs.Standing.{Asking, Stand}
-use Rattle.bx_nodes.specs.Turns.{Turned, Waits}
+use Rattle.bx_nodes.specs.Turns.{Turned, Waits, newest_of}
 use Rattle.bx_nodes.proofs.Calling.{AnswersThere, answers_still, answers_then, begun_there, held_there, idle_there, session_begun, session_held, session_then, session_tried, tried_rests, tried_there}
 use Rattle.bx_nodes.proofs.Leading.{later_turned, turned_later, turned_on, turned_still}
-use Rattle.bx_nodes.proofs.Machines.{count_waiting, if_new, if_then, is_some_there, of_there, there_is, under_then}
-use Rattle.bx_nodes.proofs.Turning.{all_need, busy, fewer_wait, rested_there, some_sent, waiting_same}
+use Rattle.bx_nodes.proofs.Machines.{count_waiting, if_and, if_new, if_some, if_then, if_two, is_some_there, none_of, of_there, there_is, two_there, under_then, was_there}
+use Rattle.bx_nodes.proofs.Turning.{again, all_need, begun, fewer_wait, none_said, rested, settles_all, settles_each, settles_of, some_sent, waiting_same}
 use Rattle.bx_nodes.proofs.Tidying.{tidy_begun, tidy_held, tidy_then, tidy_tried}
 use Rattle.bx_nodes.proofs.nodes.Nodes.+rounds.Goals as goal
+use Rattle.bx_nodes.proofs.nodes.Nodes.+rounds.Goals.{then-is_empty-via-then-is_empty, then-is_empty-via-else-is_empty+then-is_none}
 
 pub returns-in-Some-clause-stands : goal.returns-in-Some-clause-stands
 returns-in-Some-clause-stands g t c = λ x letters clocks course tree session up stands own ends live mine.
@@ -56,20 +60,32 @@ returns-in-Some-clause-waits g t c =
     let e = g.E.Engine in
     let node = c.args.node in
     let items = c.args.self.now.machines.items in
+    let moment = c.args.reading in
+    let session = c.args.lease.session in
+    let owners = c.args.self.now.owners in
     let given = c.give_back.new.self in
     let tried = c.attempt.new.self in
-    let some = is_some_there items node c.requires.there.0 in
     let less = subst (λ (n : ℕ). node < n) (sym c.in_ok-give_back.ensures.count) c.requires.there.0 in
-    let some_given = is_some_there given.machines.items node less in
-    let some_tried = is_some_there tried.machines.items node (subst (λ (n : ℕ). node < n) (sym c.in_ok-said.ensures.count) less) in
+    let less_then = subst (λ (n : ℕ). node < n) (sym c.in_ok-said.ensures.count) less in
+    let old_is = there_is items node c.requires.there.0 in
+    let given_is = there_is given.machines.items node less in
+    let tried_is = there_is tried.machines.items node less_then in
+    let gives = two_there (λ a b. (back : List ℕ) × GivesBack g.O.Owners node session back owners a given.owners b) (slice_get items node) (slice_get given.machines.items node) old_is.0 given_is.0 old_is.1 given_is.1 c.in_ok-give_back.ensures.gives in
+    let held = two_there OnlyHolds (slice_get items node) (slice_get given.machines.items node) old_is.0 given_is.0 old_is.1 given_is.1 c.in_ok-give_back.ensures.only in
+    let attempted = two_there (λ a b. b ≡ record a { calls = b.calls }) (slice_get given.machines.items node) (slice_get tried.machines.items node) given_is.0 tried_is.0 given_is.1 tried_is.1 c.in_ok-said.ensures.only in
+    let settles = subst (λ (m : Option Machine). Settle moment m (Some tried_is.0) c.in_ok-said.field-0) given_is.1
+    (subst (λ (m : Option Machine). Settle moment (slice_get given.machines.items node) m c.in_ok-said.field-0) tried_is.1 c.in_ok-said.ensures.goes) in
     let new = c.begin.new.self in
     let own = g.S.Store.own tried.store node in
     let out = g.S.Store.out_of new.store node in
+    let Asks : ℕ → Type 0 = λ at. Asking g.G.Register g.O.Owners new node at in
     let is_own : IsSome own = subst (λ s. IsSome (g.S.Store.own s node)) (sym c.in_ok-said.ensures.parts.2) (subst (λ s. IsSome (g.S.Store.own s node)) (sym c.in_ok-give_back.ensures.parts.2) c.requires.sessions.1) in
-    if_new (slice_get tried.machines.items node) (slice_get new.machines.items node) (BeginsBy c.args.reading c.in-Some.begun own c.args.lease.until out)
-    (Waits g.O.Owners e new.engine node c.args.reading c.args.lease.session out (Asking g.G.Register g.O.Owners new node)) some_tried
-    (λ a b begins. busy g.O.Owners e new.engine given.owners node c.args.reading c.args.lease.session out (Asking g.G.Register g.O.Owners new node) b (some_sent own c.args.lease.until begins.sends.runs out is_own begins.sends.sent))
-    c.in_ok-begin.ensures.begins
+    was_there (λ (a : Machine). IfSome (slice_get new.machines.items node) (Waits g.O.Owners e new.engine node moment session c.in_ok-said.field-0.said.items owners new.owners out Asks a)) (slice_get items node) old_is.0 old_is.1
+    (if_new (slice_get tried.machines.items node) (slice_get new.machines.items node) (BeginsBy moment c.in-Some.begun own c.args.lease.until out)
+    (Waits g.O.Owners e new.engine node moment session c.in_ok-said.field-0.said.items owners new.owners out Asks old_is.0) (is_some_there tried.machines.items node less_then)
+    (λ a b begins. begun g.O.Owners e new.engine node moment session c.in_ok-said.field-0.said.items owners given.owners new.owners gives.0 out Asks old_is.0 given_is.0 gives.1 held b (some_sent own c.args.lease.until begins.sends.runs out is_own begins.sends.sent)
+    (c.in_ok-begin.ensures.parts.1 ∙ c.in_ok-said.ensures.parts.1))
+    c.in_ok-begin.ensures.begins)
 
 pub ask_all-requires-clause-blocks : goal.ask_all-requires-clause-blocks
 ask_all-requires-clause-blocks g t c =
@@ -125,24 +141,82 @@ returns-then-is_empty-clause-waits g t c =
     let e = g.E.Engine in
     let node = c.args.node in
     let items = c.args.self.now.machines.items in
+    let moment = c.args.reading in
+    let session = c.args.lease.session in
+    let owners = c.args.self.now.owners in
     let given = c.give_back.new.self in
     let tried = c.attempt.new.self in
-    let some = is_some_there items node c.requires.there.0 in
     let less = subst (λ (n : ℕ). node < n) (sym c.in_ok-give_back.ensures.count) c.requires.there.0 in
-    let some_given = is_some_there given.machines.items node less in
-    let some_tried = is_some_there tried.machines.items node (subst (λ (n : ℕ). node < n) (sym c.in_ok-said.ensures.count) less) in
+    let less_then = subst (λ (n : ℕ). node < n) (sym c.in_ok-said.ensures.count) less in
+    let old_is = there_is items node c.requires.there.0 in
+    let given_is = there_is given.machines.items node less in
+    let tried_is = there_is tried.machines.items node less_then in
+    let gives = two_there (λ a b. (back : List ℕ) × GivesBack g.O.Owners node session back owners a given.owners b) (slice_get items node) (slice_get given.machines.items node) old_is.0 given_is.0 old_is.1 given_is.1 c.in_ok-give_back.ensures.gives in
+    let held = two_there OnlyHolds (slice_get items node) (slice_get given.machines.items node) old_is.0 given_is.0 old_is.1 given_is.1 c.in_ok-give_back.ensures.only in
+    let attempted = two_there (λ a b. b ≡ record a { calls = b.calls }) (slice_get given.machines.items node) (slice_get tried.machines.items node) given_is.0 tried_is.0 given_is.1 tried_is.1 c.in_ok-said.ensures.only in
+    let settles = subst (λ (m : Option Machine). Settle moment m (Some tried_is.0) c.in_ok-said.field-0) given_is.1
+    (subst (λ (m : Option Machine). Settle moment (slice_get given.machines.items node) m c.in_ok-said.field-0) tried_is.1 c.in_ok-said.ensures.goes) in
     let new = c.ask_all.new.self in
     let out = g.S.Store.out_of new.store node in
+    let Asks : ℕ → Type 0 = λ at. Asking g.G.Register g.O.Owners new node at in
     let needs = c.in_ok-said.field-0.needs.items in
     let newest = c.newest_asked-newest.result in
-    let waits = subst (λ en. IfSome (slice_get tried.machines.items node) (λ (m : Machine). All (MayWait e en (held_in m.cache.kept) (hint_in m.cache.hinted) c.args.reading newest true needs) m.calls.items)) (sym c.in_ok-ask_all.ensures.parts.1)
-    (c.in_ok-said.ensures.waits c.in_default.is) in
-    rested_there g.O.Owners e new.engine given.owners node c.args.reading c.args.lease.session out (Asking g.G.Register g.O.Owners new node)
-    (slice_get given.machines.items node) (slice_get tried.machines.items node) (slice_get new.machines.items node) newest needs some_given some_tried
-    c.in_ok-give_back.ensures.left c.newest_asked-newest.ensures c.in_ok-said.ensures.only c.in_ok-ask_all.ensures.only
-    (subst (λ (l : List (List (ℕ × Mode))). IfSome (slice_get tried.machines.items node) (λ a. IfSome (slice_get new.machines.items node) (KeepsUnneeded l a))) c.as_slice.ensures.value c.in_ok-ask_all.ensures.keeps)
-    waits
-    (subst (λ (l : List (List (ℕ × Mode))). AllByRecursion (AllByRecursion (λ wanted. Asking g.G.Register g.O.Owners new node wanted.0)) l) c.as_slice.ensures.value c.in_ok-ask_all.ensures.asking)
+    let same = c.as_slice.ensures.value in
+    let engine = sym c.in_ok-ask_all.ensures.parts.1 in
+    let noted = of_there (λ (m : Machine). newest ≡ newest_of (first_of (g.O.Owners.asks given.owners node)) m) (slice_get given.machines.items node) given_is.0 given_is.1 c.newest_asked-newest.ensures in
+    let waits = of_there (λ (m : Machine). All (MayWait e new.engine (held_in m.cache.kept) (hint_in m.cache.hinted) moment newest true needs) m.calls.items) (slice_get tried.machines.items node) tried_is.0 tried_is.1
+    (subst (λ en. IfSome (slice_get tried.machines.items node) (λ (m : Machine). All (MayWait e en (held_in m.cache.kept) (hint_in m.cache.hinted) moment newest true needs) m.calls.items)) engine (c.in_ok-said.ensures.waits c.in_default.is)) in
+    let needed = of_there (λ (m : Machine). All (AreNeeded e new.engine (held_in m.cache.kept) (hint_in m.cache.hinted) moment m.calls.items) needs) (slice_get tried.machines.items node) tried_is.0 tried_is.1
+    (subst (λ en. IfSome (slice_get tried.machines.items node) (λ (m : Machine). All (AreNeeded e en (held_in m.cache.kept) (hint_in m.cache.hinted) moment m.calls.items) needs)) engine c.in_ok-said.ensures.needs) in
+    let wanted : AreWanted g.O.Owners node (IsInNeeds needs) given.owners new.owners = subst (λ w. AreWanted g.O.Owners node (IsInNeeds needs) w new.owners) c.in_ok-said.ensures.parts.1
+    (subst (λ (l : List (List (ℕ × Mode))). AreWanted g.O.Owners node (IsInNeeds l) tried.owners new.owners) same c.in_ok-ask_all.ensures.owners) in
+    let left : (newest ≡ None) ⊎ (tried_is.0.calls.items ≡ given_is.0.calls.items) = elim c.then-is_empty.branch [
+      | then-is_empty-via-then-is_empty w ↦ let none : (vec_len c.in_ok-said.field-0.said == 0) ≡ true = sym c.is_empty.ensures ∙ w.if-is_empty.true in
+          let few = c.in_ok-said.field-0.said.ok in
+          inr (settles_all moment given_is.0 tried_is.0 c.in_ok-said.field-0 settles (none_said c.in_ok-said.field-0.said.items (grind (arith, nat_tests, none, few))) c.in_default.is)
+      | then-is_empty-via-else-is_empty+then-is_none w ↦ inl (none_of newest (w.is_none.ensures ∙ ap not w.if-is_none.true))
+    ] in
+    was_there (λ (a : Machine). IfSome (slice_get new.machines.items node) (Waits g.O.Owners e new.engine node moment session c.in_ok-said.field-0.said.items owners new.owners out Asks a)) (slice_get items node) old_is.0 old_is.1
+    (if_new (slice_get tried.machines.items node) (slice_get new.machines.items node) (λ a b. (a ≡ tried_is.0) × OnlyHolds a b × KeepsUnneeded needs a b) (Waits g.O.Owners e new.engine node moment session c.in_ok-said.field-0.said.items owners new.owners out Asks old_is.0) (is_some_there tried.machines.items node less_then)
+    (λ a b both. rested g.O.Owners e new.engine node moment session c.in_ok-said.field-0.said.items owners given.owners new.owners gives.0 out Asks old_is.0 given_is.0 gives.1 held tried_is.0 b newest needs noted attempted left
+    (subst (λ (m : Machine). OnlyHolds m b) both.0 both.1) (subst (λ (m : Machine). KeepsUnneeded needs m b) both.0 both.2) wanted waits needed
+    (subst (λ (l : List (List (ℕ × Mode))). AllByRecursion (AllByRecursion (λ wanted. Asks wanted.0)) l) same c.in_ok-ask_all.ensures.asking))
+    (if_two (slice_get tried.machines.items node) (slice_get new.machines.items node) (λ a. a ≡ tried_is.0) (λ a b. OnlyHolds a b × KeepsUnneeded needs a b) (λ a b. (a ≡ tried_is.0) × OnlyHolds a b × KeepsUnneeded needs a b) (λ a b is both. (is, both.0, both.1))
+    (was_there (λ a. a ≡ tried_is.0) (slice_get tried.machines.items node) tried_is.0 tried_is.1 refl)
+    (if_and (slice_get tried.machines.items node) (slice_get new.machines.items node) OnlyHolds (KeepsUnneeded needs) c.in_ok-ask_all.ensures.only
+    (subst (λ (l : List (List (ℕ × Mode))). IfSome (slice_get tried.machines.items node) (λ a. IfSome (slice_get new.machines.items node) (KeepsUnneeded l a))) same c.in_ok-ask_all.ensures.keeps))))
+
+pub returns-clause-waits : goal.returns-clause-waits
+returns-clause-waits g t c =
+    let e = g.E.Engine in
+    let node = c.args.node in
+    let items = c.args.self.now.machines.items in
+    let moment = c.args.reading in
+    let session = c.args.lease.session in
+    let owners = c.args.self.now.owners in
+    let given = c.give_back.new.self in
+    let tried = c.attempt.new.self in
+    let less = subst (λ (n : ℕ). node < n) (sym c.in_ok-give_back.ensures.count) c.requires.there.0 in
+    let less_then = subst (λ (n : ℕ). node < n) (sym c.in_ok-said.ensures.count) less in
+    let old_is = there_is items node c.requires.there.0 in
+    let given_is = there_is given.machines.items node less in
+    let tried_is = there_is tried.machines.items node less_then in
+    let gives = two_there (λ a b. (back : List ℕ) × GivesBack g.O.Owners node session back owners a given.owners b) (slice_get items node) (slice_get given.machines.items node) old_is.0 given_is.0 old_is.1 given_is.1 c.in_ok-give_back.ensures.gives in
+    let held = two_there OnlyHolds (slice_get items node) (slice_get given.machines.items node) old_is.0 given_is.0 old_is.1 given_is.1 c.in_ok-give_back.ensures.only in
+    let attempted = two_there (λ a b. b ≡ record a { calls = b.calls }) (slice_get given.machines.items node) (slice_get tried.machines.items node) given_is.0 tried_is.0 given_is.1 tried_is.1 c.in_ok-said.ensures.only in
+    let settles = subst (λ (m : Option Machine). Settle moment m (Some tried_is.0) c.in_ok-said.field-0) given_is.1
+    (subst (λ (m : Option Machine). Settle moment (slice_get given.machines.items node) m c.in_ok-said.field-0) tried_is.1 c.in_ok-said.ensures.goes) in
+    let new = c.rounds.new.self in
+    let said = c.in_ok-said.field-0.said.items in
+    let more = c.in_ok-more.more.items in
+    let all = c.append.new.self.items in
+    let out = g.S.Store.out_of new.store node in
+    let Asks : ℕ → Type 0 = λ at. Asking g.G.Register g.O.Owners new node at in
+    was_there (λ (a : Machine). IfSome (slice_get new.machines.items node) (Waits g.O.Owners e new.engine node moment session all owners new.owners out Asks a)) (slice_get items node) old_is.0 old_is.1
+    (if_some (slice_get new.machines.items node) (Waits g.O.Owners e new.engine node moment session more given.owners new.owners out Asks tried_is.0) (Waits g.O.Owners e new.engine node moment session all owners new.owners out Asks old_is.0)
+    (λ b waits. again g.O.Owners e new.engine node moment session all owners given.owners new.owners gives.0 out Asks old_is.0 given_is.0 gives.1 held said more tried_is.0 b c.in_ok-append.ensures.items attempted (settles_of moment given_is.0 tried_is.0 c.in_ok-said.field-0 settles) (settles_each moment given_is.0 tried_is.0 c.in_ok-said.field-0 settles c.in_default.is) waits)
+    (subst (λ w. IfSome (slice_get new.machines.items node) (Waits g.O.Owners e new.engine node moment session more w new.owners out Asks tried_is.0)) c.in_ok-said.ensures.parts.1
+    (of_there (λ (m : Machine). IfSome (slice_get new.machines.items node) (Waits g.O.Owners e new.engine node moment session more tried.owners new.owners out Asks m)) (slice_get tried.machines.items node) tried_is.0 tried_is.1 c.in_ok-more.ensures.waits)))
 
 pub rounds-requires : goal.rounds-requires
 rounds-requires g t c κs within =

@@ -1,17 +1,25 @@
-use Rattle.std.proofs.Common.{◌∙◌, ℕ, ◌<◌, ◌++◌, [], List, Option, IfSome, IsSome, refl, sym, ap, subst, arith}
+use Rattle.std.proofs.Common.{◌≡◌, ⊎_elim, ◌∙◌, ℕ, ◌<◌, ◌++◌, [], List, Option, Some, IfSome, IsSome, refl, sym, ap, subst, arith}
 use Rattle.std.specs.Prelude.{option_to_list, slice_get}
 use Rattle.bx_facts.specs.Chains.{Chain, LivesIn, last}
+use Rattle.bx_node_steps.specs.Changing.{TakesAnswer}
+use Rattle.bx_node_steps.specs.declared.machine.Machine.{Machine}
+use Rattle.bx_nodes.specs.Sending.{StepsLog}
 use Rattle.bx_node_tries.specs.declared.round.Said.{Said}
 use Rattle.bx_node_views.proofs.Knowing.{lease_lives}
-use Rattle.bx_nodes.specs.Standing.{Stand}
-use Rattle.bx_nodes.specs.Turns.{Turned}
+use Rattle.bx_nodes.specs.Standing.{Asking, Stand}
+use Rattle.bx_nodes.specs.Turns.{TurnEnds, Turned, Waits}
+use Rattle.bx_nodes.specs.Turns.TurnEnds.{Worked, Writing}
 use Rattle.bx_nodes.proofs.Leading.{turned_on}
 use Rattle.bx_nodes.proofs.Calling.{AnswersThere, answers_then, is_fits, received_there, session_received, session_stepped, session_then, stepped_there, was_fits}
-use Rattle.bx_nodes.proofs.Machines.{if_ok_so, is_some_there, ok_so}
-use Rattle.bx_nodes.proofs.Turning.{rest_there, taken_under, under_there}
+use Rattle.bx_nodes.proofs.Machines.{if_all, if_ok_so, if_some, is_some_there, of_there, ok_so, there_is, two_there, was_there}
+use Rattle.bx_nodes.proofs.Turning.{answered_more, rest_there, steps_only, taken_under, under_there}
 use Rattle.bx_nodes.proofs.Cleaning.{Cleans, cleans_then, goes_there}
-use Rattle.bx_nodes.proofs.Tidying.{tidy_received, tidy_same, tidy_stepped, tidy_then}
+use Rattle.bx_nodes.proofs.Tidying.{tidy_left, tidy_received, tidy_same, tidy_stepped, tidy_then}
 use Rattle.bx_nodes.proofs.nodes.Nodes.act.Goals as goal
+
+-- a node has one session
+same_session : (own : Option ℕ) (one other : ℕ) → own ≡ Some one → own ≡ Some other → one ≡ other
+same_session own one other is also = let both : Some one ≡ Some other = sym is ∙ also in cc
 
 pub attempt_turn-requires-clause-busy : goal.attempt_turn-requires-clause-busy
 attempt_turn-requires-clause-busy g c = λ none.
@@ -58,6 +66,51 @@ returns-clause-stands g c = λ x letters clocks course tree up steady stands.
     (subst (λ en. Turned (e.step en) Final two.later two.next c.in_ok-answers.answers.items) c.in_ok-acked.ensures.parts.2 three) in
     let all = subst (λ en. Turned (e.step en) Final course tree (option_to_list c.in_ok-acked.acked ++ c.in_ok-answers.answers.items)) c.in_ok-receive.ensures.parts.2 both in
     if_ok_so _ _ c.together.result (λ said is. subst (λ (l : List Said). Turned (e.step old.engine) Final course tree l) (sym is) all) c.together.ensures
+
+pub returns-clause-waits : goal.returns-clause-waits
+returns-clause-waits g c = λ lease has.
+    let e = g.E.Engine in
+    let node = c.args.node in
+    let moment = c.args.reading in
+    let old = c.args.self.now in
+    let middle = c.receive.new.self in
+    let stepped = c.step_log.new.self in
+    let new = c.attempt_turn.new.self in
+    let old_is = slice_get old.machines.items node in
+    let new_is = slice_get new.machines.items node in
+    let less = subst (λ (n : ℕ). node < n) (sym c.in_ok-receive.ensures.count) c.requires.there.0 in
+    let first = there_is old.machines.items node c.requires.there.0 in
+    let second = there_is middle.machines.items node less in
+    let third = there_is stepped.machines.items node (subst (λ (n : ℕ). node < n) (sym c.in_ok-acked.ensures.count) less) in
+    let answer = g.S.Store.answer old.store node in
+    let asked = g.S.Store.asked old.store node in
+    let own = g.S.Store.own middle.store node in
+    let until = c.in-Some.lease.until in
+    let stood = g.S.Store.out_of middle.store node in
+    let between = g.S.Store.out_of stepped.store node in
+    let out = g.S.Store.out_of new.store node in
+    let Asks : ℕ → Type 0 = λ at. Asking g.G.Register g.O.Owners new node at in
+    let session : c.in-Some.lease.session ≡ lease.session = same_session _ _ _ c.in-Some.ensures.some.is_own has.is_own in
+    let is_own : IsSome own = subst (λ (o : Option ℕ). IsSome o) (sym ((c.in_ok-receive.ensures.store node).0 ∙ c.in-Some.ensures.some.is_stores)) refl in
+    let takes = two_there (TakesAnswer answer asked) old_is (slice_get middle.machines.items node) first.0 second.0 first.1 second.1 c.in_ok-receive.ensures.takes in
+    let steps = two_there (λ a b. StepsLog own until stood between a b c.in_ok-acked.acked) (slice_get middle.machines.items node) (slice_get stepped.machines.items node) second.0 third.0 second.1 third.1 c.in_ok-acked.ensures.steps in
+    let owners = c.in_ok-acked.ensures.parts.1 ∙ c.in_ok-receive.ensures.parts.1 in
+    let earlier = option_to_list c.in_ok-acked.acked in
+    let later = c.in_ok-answers.answers.items in
+    let Ends : List Said → Machine → Machine → Type 0 = λ l a b. TurnEnds g.O.Owners e new.engine node moment lease.session answer asked l old.owners new.owners out Asks a b in
+    if_ok_so _ _ c.together.result (λ said is. ⊎_elim
+    (λ writing. if_all old_is (λ a. IfSome new_is (Ends said.items a)) (λ a. if_all new_is (Ends said.items a) (λ b. Writing writing.0 (writing.1 ∙ owners))))
+    (λ worked. was_there (λ a. IfSome new_is (Ends said.items a)) old_is first.0 first.1
+    (if_some new_is (Waits g.O.Owners e new.engine node moment c.in-Some.lease.session later stepped.owners new.owners out Asks third.0) (Ends said.items first.0)
+    (λ b waits. Worked third.0 (record { received = second.0; takes = takes; only = steps_only own until stood between second.0 third.0 c.in_ok-acked.acked is_own steps worked.0 })
+    (answered_more g.O.Owners e new.engine node moment lease.session earlier later said.items old.owners new.owners out Asks third.0 b is
+    (subst (λ w. Waits g.O.Owners e new.engine node moment lease.session later w new.owners out Asks third.0 b) owners
+    (subst (λ (s : ℕ). Waits g.O.Owners e new.engine node moment s later stepped.owners new.owners out Asks third.0 b) session waits))))
+    (of_there (λ (a : Machine). IfSome new_is (Waits g.O.Owners e new.engine node moment c.in-Some.lease.session later stepped.owners new.owners out Asks a)) (slice_get stepped.machines.items node) third.0 third.1 worked.1)))
+    c.in_ok-answers.ensures.waits) c.together.ensures
+
+pub returns-in_default-clause-waits : goal.returns-in_default-clause-waits
+returns-in_default-clause-waits g c = λ lease has. absurd (c.in_default.ensures.none refl lease has)
 
 pub returns-clause-answers : goal.returns-clause-answers
 returns-clause-answers g c =
@@ -150,7 +203,7 @@ returns-clause-cleans g c = λ x letters clocks course later tree next up steady
     c.in_ok-acked.ensures.steps in
     ok_so _ c.together.result
     (cleans_then (e.is_clean old.engine later.truth) (g.S.Store.made old.store).areas (slice_get old.machines.items node) (slice_get stepped.machines.items node) (slice_get new.machines.items node) some_stepped
-    (tidy_then (slice_get old.machines.items node) (slice_get middle.machines.items node) (slice_get stepped.machines.items node) some_middle one two)
+    (tidy_left (slice_get old.machines.items node) (slice_get stepped.machines.items node) (tidy_then (slice_get old.machines.items node) (slice_get middle.machines.items node) (slice_get stepped.machines.items node) some_middle one two))
     (subst (λ en. IfSome (slice_get stepped.machines.items node) (λ a. IfSome (slice_get new.machines.items node) (Cleans (e.is_clean en later.truth) (g.S.Store.made old.store).areas a))) engine
     (subst (λ (n : ℕ). IfSome (slice_get stepped.machines.items node) (λ a. IfSome (slice_get new.machines.items node) (Cleans (e.is_clean stepped.engine later.truth) n a))) areas cleaned)))
 

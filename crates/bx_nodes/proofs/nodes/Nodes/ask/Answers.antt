@@ -1,8 +1,9 @@
-use Rattle.std.proofs.Common.{◌≡◌, ◌≢◌, ◌∙◌, inl, inr, ℕ, ◌<◌, Option, Some, IsSome, refl, sym, ap, subst}
-use Rattle.std.specs.Prelude.{OnOk, slice_get}
+use Rattle.std.proofs.Common.{◌≡◌, ◌≢◌, ◌∙◌, inl, inr, ℕ, ◌<◌, false, Option, Some, IsSome, refl, sym, ap, subst}
+use Rattle.std.specs.Prelude.{OnOk, is_some, slice_get}
 use Rattle.std.proofs.lemmas.Bool.{cases_eq}
 use Rattle.std.proofs.lemmas.Result.{on_ok_weaker}
 use Rattle.bx_base.specs.declared.names.Actor.TheVariants.{Node}
+use Rattle.bx_base.specs.declared.names.Mode.{Mode}
 use Rattle.bx_facts.specs.Chains.{Chain, LivesIn, last}
 use Rattle.bx_facts.specs.Holds.{Hold}
 use Rattle.bx_node_cache.specs.Kept.{kept_in}
@@ -11,7 +12,10 @@ use Rattle.bx_node_steps.specs.Changing.{LetsGo}
 use Rattle.bx_node_steps.specs.declared.machine.Machine.{Machine}
 use Rattle.bx_nodes.specs.Asks.{Gets, IsAsking, IsWanted, OnlyHolds, is_weaker}
 use Rattle.bx_nodes.specs.Asks.IsAsking.{Requested}
-use Rattle.bx_nodes.proofs.Machines.{if_all, if_between, if_both, if_self, is_some_there, only_both, only_same, under_then}
+use Rattle.bx_nodes.specs.Giving.{AreWanted}
+use Rattle.bx_nodes.specs.Giving.AreWanted.{NoMore, OneMore}
+use Rattle.bx_nodes.proofs.Giving.{wanted_none}
+use Rattle.bx_nodes.proofs.Machines.{if_all, if_between, if_both, if_self, is_some_there, none_of, ok_so, only_both, only_same, under_then}
 use Rattle.bx_nodes.proofs.Wanting.{asking_by, gets_as, gets_kept, goes_only, not_weaker}
 use Rattle.bx_nodes.specs.Standing.{Asking}
 use Rattle.bx_nodes.proofs.nodes.Nodes.ask.Goals as goal
@@ -181,3 +185,24 @@ returns-clause-keeps g c =
     (λ gets. if_both found (slice_get new.machines.items node) (Gets hold knows at (g.S.Store.asked new.store node ≡ Some (home_of (g.S.Store.made store).devices at)) ((new.store ≡ store) × (c.get-2.new.out ≡ c.args.out.now)))
     (λ (a b : Machine). (other : ℕ) → other ≢ at → kept_in b.cache.kept other ≡ kept_in a.cache.kept other) (λ a b got other ne. gets_kept _ _ at other _ _ a b ne got) gets)
     c.get-2.ensures.gets
+
+pub returns-then-is_some-clause-owners : goal.returns-then-is_some-clause-owners
+returns-then-is_some-clause-owners g c = NoMore c.args.self.now.owners
+
+pub returns-then-is_weaker-clause-owners : goal.returns-then-is_weaker-clause-owners
+returns-then-is_weaker-clause-owners g c =
+    let node = c.args.node in
+    let at = c.args.wanted.0 in
+    let mode = c.args.wanted.1 in
+    let owners = c.args.self.now.owners in
+    let middle = c.want.new.self.owners in
+    let One : ℕ → Mode → Type 0 = λ other way. (other, way) ≡ c.args.wanted in
+    let none = none_of (g.O.Owners.request owners node at) (subst (λ r. is_some r ≡ false) c.wanted.ensures (sym c.is_some.ensures ∙ c.if-is_some.false)) in
+    let weaker = ap (λ (h : Option Hold). is_weaker h mode) (sym c.holds.ensures) ∙ sym c.is_weaker.ensures ∙ c.if-is_weaker.true in
+    ok_so _ c.get.result (subst (λ w. AreWanted g.O.Owners node One owners w) (sym c.get.ensures.parts.2)
+    (OneMore at mode owners middle middle refl none weaker c.in_ok-want.ensures.wants.0 c.in_ok-want.ensures.asks (NoMore middle)))
+
+pub returns-clause-owners : goal.returns-clause-owners
+returns-clause-owners g c =
+    let One : ℕ → Mode → Type 0 = λ other way. (other, way) ≡ c.args.wanted in
+    ok_so _ c.get-2.result (wanted_none g.O.Owners c.args.node One c.args.self.now.owners c.get-2.new.self.owners c.get-2.ensures.parts.2)

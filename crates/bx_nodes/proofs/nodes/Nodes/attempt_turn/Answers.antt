@@ -1,15 +1,16 @@
-use Rattle.std.proofs.Common.{◌∙◌, ℕ, ◌<◌, ◌++◌, [], Option, IfSome, IsSome, refl, sym, ap, subst}
+use Rattle.std.proofs.Common.{◌≡◌, ◌∙◌, inl, inr, ℕ, ◌<◌, ◌++◌, [], Option, IfSome, IsSome, refl, sym, ap, subst}
 use Rattle.std.specs.Prelude.{slice_get}
 use Rattle.bx_facts.specs.Chains.{Chain, LivesIn, last}
+use Rattle.bx_node_steps.specs.declared.machine.Machine.{Machine}
 use Rattle.bx_nodes.specs.Cleaning.{IsHeldUp}
 use Rattle.bx_nodes.specs.Standing.{Asking, Stand}
-use Rattle.bx_nodes.specs.Turns.{Turned}
+use Rattle.bx_nodes.specs.Turns.{Turned, Waits}
 use Rattle.bx_nodes.proofs.Calling.{answers_still, is_fits, numbered_there, session_then, session_tried, session_under, tried_there}
 use Rattle.bx_nodes.proofs.Cleaning.{Cleans, cleans_kept, cleans_then, goes_there}
 use Rattle.bx_nodes.proofs.HoldingUp.{held_by_write, some_out}
 use Rattle.bx_nodes.proofs.Leading.{turned_still}
-use Rattle.bx_nodes.proofs.Machines.{if_all, is_some_there}
-use Rattle.bx_nodes.proofs.Tidying.{tidy_stays, tidy_tried}
+use Rattle.bx_nodes.proofs.Machines.{if_all, if_some, is_some_there, of_there, there_is, was_there}
+use Rattle.bx_nodes.proofs.Tidying.{tidy_left, tidy_stays, tidy_tried}
 use Rattle.bx_nodes.proofs.nodes.Nodes.attempt_turn.Goals as goal
 
 pub returns-then-not-done-clause-answers : goal.returns-then-not-done-clause-answers
@@ -36,7 +37,7 @@ pub returns-then-not-done-clause-cleans : goal.returns-then-not-done-clause-clea
 returns-then-not-done-clause-cleans g c = λ x letters clocks course tree session up stands own live mine.
     let old = slice_get c.args.self.now.machines.items c.args.node in
     let new = slice_get c.attempt.new.self.machines.items c.args.node in
-    cleans_kept (g.E.Engine.is_clean c.args.self.now.engine course.truth) (g.S.Store.made c.args.self.now.store).areas old new (tidy_tried old new c.in_ok-attempted.ensures.only)
+    cleans_kept (g.E.Engine.is_clean c.args.self.now.engine course.truth) (g.S.Store.made c.args.self.now.store).areas old new (tidy_left old new (tidy_tried old new c.in_ok-attempted.ensures.only))
 
 pub returns-then-not-done-clause-own : goal.returns-then-not-done-clause-own
 returns-then-not-done-clause-own g c = λ other. (ap (λ w. g.O.Owners.own w other) c.in_ok-attempted.ensures.parts.1, ap (λ w. g.O.Owners.end_of w other) c.in_ok-attempted.ensures.parts.1)
@@ -65,7 +66,34 @@ returns-clause-stands g c = λ x letters clocks course tree session up stands ow
     (subst (λ en. Turned (e.step en) Final one.later one.next []) c.in_ok-said.ensures.parts.1 two)
 
 pub returns-clause-waits : goal.returns-clause-waits
-returns-clause-waits g c = c.in_ok-tidy.ensures.waits c.in_ok-said.ensures.waits
+returns-clause-waits g c =
+    let e = g.E.Engine in
+    let node = c.args.node in
+    let old = c.args.self.now in
+    let tried = c.rounds.new.self in
+    let new = c.tidy.new.self in
+    let moment = c.args.reading in
+    let session = c.args.lease.session in
+    let said = c.in_ok-said.said.items in
+    let found = there_is old.machines.items node c.requires.there.0 in
+    let out = g.S.Store.out_of tried.store node in
+    let out_then = g.S.Store.out_of new.store node in
+    let Asked : ℕ → Type 0 = λ at. Asking g.G.Register g.O.Owners tried node at in
+    let Asks : ℕ → Type 0 = λ at. Asking g.G.Register g.O.Owners new node at in
+    let same = if_some (slice_get tried.machines.items node) (λ b. (b.tidy ≡ found.0.tidy) × (b.mark ≡ found.0.mark)) (λ b. b.tidy ≡ found.0.tidy) (λ b is. is.0)
+    (of_there (λ (a : Machine). IfSome (slice_get tried.machines.items node) (λ b. (b.tidy ≡ a.tidy) × (b.mark ≡ a.mark))) (slice_get old.machines.items node) found.0 found.1 c.in_ok-said.ensures.tidy) in
+    let waits = of_there (λ (a : Machine). IfSome (slice_get tried.machines.items node) (Waits g.O.Owners e tried.engine node moment session said old.owners tried.owners out Asked a)) (slice_get old.machines.items node) found.0 found.1 c.in_ok-said.ensures.waits in
+    inr (
+      c.done.ensures.no_write c.if-not-done.false,
+      was_there (λ (a : Machine). IfSome (slice_get new.machines.items node) (Waits g.O.Owners e new.engine node moment session said old.owners new.owners out_then Asks a)) (slice_get old.machines.items node) found.0 found.1
+          (c.in_ok-tidy.ensures.waits said old.owners found.0 same waits),
+    )
+
+pub returns-then-not-done-clause-waits : goal.returns-then-not-done-clause-waits
+returns-then-not-done-clause-waits g c =
+    let out = g.S.Store.out_of c.args.self.now.store c.args.node in
+    let some = some_out out (λ none. let wrong = sym c.if-not-done.true ∙ c.done.ensures.out none in absurd cc) in
+    inl (subst (λ s. IsSome (g.S.Store.out_of s c.args.node)) (sym c.in_ok-attempted.ensures.parts.2) some, c.in_ok-attempted.ensures.parts.1)
 
 pub returns-clause-answers : goal.returns-clause-answers
 returns-clause-answers g c =
@@ -109,7 +137,7 @@ returns-clause-cleans g c = λ x letters clocks course tree session up stands ow
     let mine_last = session_under (slice_get tried.machines.items node) (slice_get new.machines.items node) session some_then c.in_ok-tidy.ensures.session mine_then in
     let cleaned = c.in_ok-tidy.ensures.cleans x letters clocks course tree session up stands own_then live mine_last in
     let areas = ap (λ m. m.areas) c.in_ok-said.ensures.parts.2 in
-    cleans_then (e.is_clean old.engine course.truth) (g.S.Store.made old.store).areas (slice_get old.machines.items node) (slice_get tried.machines.items node) (slice_get new.machines.items node) some_then c.in_ok-said.ensures.tidy
+    cleans_then (e.is_clean old.engine course.truth) (g.S.Store.made old.store).areas (slice_get old.machines.items node) (slice_get tried.machines.items node) (slice_get new.machines.items node) some_then (tidy_left (slice_get old.machines.items node) (slice_get tried.machines.items node) c.in_ok-said.ensures.tidy)
     (subst (λ en. IfSome (slice_get tried.machines.items node) (λ a. IfSome (slice_get new.machines.items node) (Cleans (e.is_clean en course.truth) (g.S.Store.made old.store).areas a))) c.in_ok-said.ensures.parts.1
     (subst (λ (n : ℕ). IfSome (slice_get tried.machines.items node) (λ a. IfSome (slice_get new.machines.items node) (Cleans (e.is_clean tried.engine course.truth) n a))) areas cleaned))
 

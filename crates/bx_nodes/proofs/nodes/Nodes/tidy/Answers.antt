@@ -1,4 +1,4 @@
-use Rattle.std.proofs.Common.{◌≡◌, ◌∙◌, ℕ, ◌<◌, ◌++◌, [], List, Option, Some, None, IfSome, refl, sym, ap, subst, arith}
+use Rattle.std.proofs.Common.{◌≡◌, ◌∙◌, ℕ, ◌<◌, ◌++◌, [], List, Option, Some, None, IfSome, IsSome, refl, sym, ap, subst, arith}
 use Rattle.std.specs.Prelude.{OnOk, slice_get, slice_set}
 use Rattle.std.specs.List.{AllByRecursion}
 use Rattle.std.specs.Vec.{with_item}
@@ -11,7 +11,7 @@ use Rattle.bx_node_cache.specs.Kept.{held_in, hint_in}
 use Rattle.bx_node_machines.proofs.Showing.{sees_truth}
 use Rattle.bx_node_steps.specs.Ready.{IsReady}
 use Rattle.bx_node_steps.specs.Seen.{seen, view_of}
-use Rattle.bx_node_steps.specs.Tidying.{Ends, IsToClean, TidyGoes, area_of, tidying}
+use Rattle.bx_node_steps.specs.Tidying.{Ends, IsToClean, area_of, tidying}
 use Rattle.bx_node_steps.specs.declared.machine.Machine.{Machine}
 use Rattle.bx_node_steps.specs.declared.machine.Stage.TheVariants.{Idle}
 use Rattle.bx_node_steps.specs.declared.machine.Tidy.{Tidy}
@@ -22,13 +22,13 @@ use Rattle.bx_nodes.specs.Sending.{SendsBody, WorksOver}
 use Rattle.bx_nodes.specs.Standing.{Asking, Stand}
 use Rattle.bx_nodes.specs.Turns.{Waits}
 use Rattle.bx_nodes.proofs.Calling.{AnswersWell}
-use Rattle.bx_nodes.proofs.Cleaning.{Cleans, cleans_end, cleans_rest, rest_goes, resting, sent_answers, tidy_works, unseen_answers, wanted_waits}
+use Rattle.bx_nodes.proofs.Cleaning.{Cleans, cleans_end, cleans_rest, rest_goes, resting, sent_answers, sent_waits, tidy_works, unseen_answers, wanted_waits}
 use Rattle.bx_nodes.proofs.HoldingUp.{held_by_none, held_by_rest, held_by_wants, held_by_write, some_out}
 use Rattle.bx_nodes.proofs.Leading.{later_turned, turned_none}
-use Rattle.bx_nodes.proofs.Machines.{both_ok, both_there, each_ok, if_and, if_both, if_later, if_new, if_then, if_two, is_some_there, of_there, on_each, seen_same, seen_there, set_here, set_there, was_there}
+use Rattle.bx_nodes.proofs.Machines.{both_ok, both_there, each_ok, if_and, if_both, if_later, if_new, if_then, if_two, is_some_there, of_there, on_each, seen_same, seen_there, set_here, set_there, there_is, was_there}
 use Rattle.bx_nodes.proofs.Noting.{able_as, stands_noted, waits_noted}
-use Rattle.bx_nodes.proofs.Tidying.{SameTidy, tidy_held, tidy_same, tidy_stays}
-use Rattle.bx_nodes.proofs.Turning.{busy, one_needs, some_sent}
+use Rattle.bx_nodes.proofs.Tidying.{GoesBy, LeavesTidy, tidy_held, tidy_same, tidy_stays}
+use Rattle.bx_nodes.proofs.Turning.{one_needs, some_sent}
 use Rattle.bx_places.specs.Places.{IsBlock}
 use Rattle.bx_views.specs.Attempts.{IsFair, IsFairNeed, IsHeldDraft, Tidies}
 use Rattle.bx_views.specs.Truths.{IsTruth}
@@ -54,7 +54,7 @@ returns-then-is_some-clause-stands g c = λ x letters clocks course tree session
     (stands_noted g.G.Register g.O.Owners g.S.Store e self new (refl, refl, refl, refl) x (letters ++ c.args.out.now) clocks course tree (seen_same items node before after was (ap view_of only)) stands)
 
 pub returns-then-is_some-clause-waits : goal.returns-then-is_some-clause-waits
-returns-then-is_some-clause-waits g c = λ waits.
+returns-then-is_some-clause-waits g c = λ said owners first same waits.
     let self = c.args.self.now in
     let items = self.machines.items in
     let node = c.args.node in
@@ -64,7 +64,7 @@ returns-then-is_some-clause-waits g c = λ waits.
     let only : after ≡ record before { tidy = tidy } = c.rest.ensures in
     let was : slice_get items node ≡ Some before = slice_get-get_or items node before c.requires.there.0 ∙ ap (λ (m : Machine). Some m) (sym c.index_mut.ensures.value) in
     let is : slice_get (slice_set items node after) node ≡ Some (record before { tidy = tidy }) = set_here items node after before was ∙ ap (λ (m : Machine). Some m) only in
-    waits_noted g.G.Register g.O.Owners g.S.Store g.E.Engine self (record self { machines = with_item self.machines node after }) (refl, refl, refl, refl) node before before.mark before.ticks tidy was is c.args.moment c.args.lease.session waits
+    waits_noted g.G.Register g.O.Owners g.S.Store g.E.Engine self (record self { machines = with_item self.machines node after }) (refl, refl, refl, refl) node before before.mark before.ticks tidy was is c.args.moment c.args.lease.session said owners first waits
 
 pub returns-then-is_some-clause-answers : goal.returns-then-is_some-clause-answers
 returns-then-is_some-clause-answers g c =
@@ -92,8 +92,14 @@ returns-then-is_some-clause-goes g c =
     let only : after ≡ record before { tidy = tidy } = c.rest.ensures in
     let was : slice_get items node ≡ Some before = slice_get-get_or items node before c.requires.there.0 ∙ ap (λ (m : Machine). Some m) (sym c.index_mut.ensures.value) in
     let is : slice_get (slice_set items node after) node ≡ Some (record before { tidy = tidy }) = set_here items node after before was ∙ ap (λ (m : Machine). Some m) only in
-    both_there TidyGoes (slice_get items node) (slice_get (slice_set items node after) node) before (record before { tidy = tidy }) was is
-    (rest_goes before)
+    let one = c.index.result.now in
+    let was_one : slice_get items node ≡ Some one = slice_get-get_or items node one c.requires.there.0 ∙ ap (λ (m : Machine). Some m) (sym c.index.ensures) in
+    let two = c.index-2.result.now in
+    let was_two : slice_get items node ≡ Some two = slice_get-get_or items node two c.requires.there.0 ∙ ap (λ (m : Machine). Some m) (sym c.index-2.ensures) in
+    let cleaning = of_there (λ (m : Machine). IsToClean m c.in-Some.area) (slice_get items node) before was (was_there (λ (m : Machine). IsToClean m c.in-Some.area) (slice_get items node) one was_one c.in-Some.ensures.some) in
+    let asked = of_there (λ (m : Machine). IsSome m.mark) (slice_get items node) before was (was_there (λ (m : Machine). IsSome m.mark) (slice_get items node) two was_two (sym c.is_some.ensures ∙ c.if-is_some.true)) in
+    both_there GoesBy (slice_get items node) (slice_get (slice_set items node after) node) before (record before { tidy = tidy }) was is
+    (rest_goes before c.in-Some.area cleaning asked)
 
 pub returns-then-is_some-clause-cleans : goal.returns-then-is_some-clause-cleans
 returns-then-is_some-clause-cleans g c = λ x letters clocks course tree session up stands own live mine.
@@ -160,8 +166,8 @@ tidy-requires g c =
     let self = c.args.self.now in
     let items = self.machines.items in
     let node = c.args.node in
-    let two = c.index-2.result.now in
-    let was_two : slice_get items node ≡ Some two = slice_get-get_or items node two c.requires.there.0 ∙ ap (λ (m : Machine). Some m) (sym c.index-2.ensures) in
+    let two = c.index.result.now in
+    let was_two : slice_get items node ≡ Some two = slice_get-get_or items node two c.requires.there.0 ∙ ap (λ (m : Machine). Some m) (sym c.index.ensures) in
     let made = g.S.Store.made self.store in
     let ready = of_there (IsReady made (g.E.Engine.areas self.engine) (g.S.Store.asked self.store node)) (slice_get items node) two was_two c.requires.ready in
     let cleaning = c.in-Some.ensures.some in
@@ -174,8 +180,8 @@ ask_each-requires-clause-rests g c =
     let self = c.args.self.now in
     let items = self.machines.items in
     let node = c.args.node in
-    let two = c.index-2.result.now in
-    let was_two : slice_get items node ≡ Some two = slice_get-get_or items node two c.requires.there.0 ∙ ap (λ (m : Machine). Some m) (sym c.index-2.ensures) in
+    let two = c.index.result.now in
+    let was_two : slice_get items node ≡ Some two = slice_get-get_or items node two c.requires.there.0 ∙ ap (λ (m : Machine). Some m) (sym c.index.ensures) in
     was_there (λ (m : Machine). m.stage ≡ Idle) (slice_get items node) two was_two c.in-Some.ensures.some.idle
 
 pub ask_each-requires-clause-blocks : goal.ask_each-requires-clause-blocks
@@ -183,8 +189,8 @@ ask_each-requires-clause-blocks g c =
     let self = c.args.self.now in
     let items = self.machines.items in
     let node = c.args.node in
-    let two = c.index-2.result.now in
-    let was_two : slice_get items node ≡ Some two = slice_get-get_or items node two c.requires.there.0 ∙ ap (λ (m : Machine). Some m) (sym c.index-2.ensures) in
+    let two = c.index.result.now in
+    let was_two : slice_get items node ≡ Some two = slice_get-get_or items node two c.requires.there.0 ∙ ap (λ (m : Machine). Some m) (sym c.index.ensures) in
     let e = g.E.Engine in
     let made = g.S.Store.made self.store in
     let cache = c.index-3.result.now.cache in
@@ -204,28 +210,48 @@ returns-in-Need-clause-stands g c = λ x letters clocks course tree session up s
     (c.ask_each.ensures.stands x letters clocks course tree session up stands own live mine)
 
 pub returns-in-Need-clause-waits : goal.returns-in-Need-clause-waits
-returns-in-Need-clause-waits g c = λ waits.
+returns-in-Need-clause-waits g c = λ said owners first same waits.
     let self = c.args.self.now in
     let items = self.machines.items in
     let node = c.args.node in
     let new = c.ask_each.new.self in
     let wants = c.items.result.now in
+    let e = g.E.Engine in
     let Asked : ℕ → Type 0 = λ at. Asking g.G.Register g.O.Owners self node at in
     let Asks : ℕ → Type 0 = λ at. Asking g.G.Register g.O.Owners new node at in
     let out = g.S.Store.out_of self.store node in
     let old_is = slice_get items node in
     let new_is = slice_get new.machines.items node in
     let some = is_some_there items node c.requires.there.0 in
-    let Was = Waits g.O.Owners g.E.Engine self.engine node c.args.moment c.args.lease.session out Asked in
-    let Then = Waits g.O.Owners g.E.Engine self.engine node c.args.moment c.args.lease.session out Asks in
-    subst (λ en. OnOk c.ask_each.result (IfSome new_is (Waits g.O.Owners g.E.Engine en node c.args.moment c.args.lease.session (g.S.Store.out_of new.store node) Asks))) (sym c.ask_each.ensures.parts.1)
-    (subst (λ (o : Option Sent). OnOk c.ask_each.result (IfSome new_is (Waits g.O.Owners g.E.Engine self.engine node c.args.moment c.args.lease.session o Asks))) (sym (c.ask_each.ensures.own node).3)
+    let is_own = there_is items node c.requires.there.0 in
+    let one = is_own.0 in
+    let was = is_own.1 in
+    let two = c.index.result.now in
+    let was_two : slice_get items node ≡ Some two = slice_get-get_or items node two c.requires.there.0 ∙ ap (λ (m : Machine). Some m) (sym c.index.ensures) in
+    let cleaning = of_there (λ (m : Machine). IsToClean m c.in-Some.area) old_is one was (was_there (λ (m : Machine). IsToClean m c.in-Some.area) old_is two was_two c.in-Some.ensures.some) in
+    let ready = of_there (IsReady (g.S.Store.made self.store) (e.areas self.engine) (g.S.Store.asked self.store node)) old_is one was c.requires.ready in
+    let area : c.in-Some.area ≡ area_of (e.areas self.engine) cleaning.tidy = cleaning.at ∙ ap (λ (n : ℕ). area_of n cleaning.tidy) (ready.areas ∙ sym ready.engine) in
+    let tidy : first.tidy ≡ Some cleaning.tidy = sym (of_there (λ (m : Machine). m.tidy ≡ first.tidy) old_is one was same) ∙ cleaning.is in
+    let Fair : List (ℕ × Mode) → Machine → ℕ → Type 0 = λ l m n. IsFairNeed (e.areas self.engine) (held_in m.cache.kept) (e.tidy_path self.engine n (held_in m.cache.kept) (hint_in m.cache.hinted)) l in
+    let three = c.index-3.result.now in
+    let was_three : slice_get items node ≡ Some three = slice_get-get_or items node three c.requires.there.0 ∙ ap (λ (m : Machine). Some m) (sym c.index-3.ensures) in
+    let path = e.tidy_path self.engine c.in-Some.area (held_in three.cache.kept) (hint_in three.cache.hinted) in
+    let given_it : Fair wants three c.in-Some.area = subst (λ (l : List (ℕ × Mode)). IsFairNeed (e.areas self.engine) (held_in three.cache.kept) path l) (sym c.items.ensures)
+    (subst (λ (a : Attempt). IsFair (e.areas self.engine) (held_in three.cache.kept) path a) c.in-Need.is c.in_ok-attempt.ensures.fair) in
+    let fair = subst (λ (n : ℕ). Fair wants one n) area (of_there (λ m. Fair wants m c.in-Some.area) old_is one was (was_there (λ m. Fair wants m c.in-Some.area) old_is three was_three given_it)) in
+    let Was = Waits g.O.Owners e self.engine node c.args.moment c.args.lease.session said owners self.owners out Asked first in
+    let Then = Waits g.O.Owners e self.engine node c.args.moment c.args.lease.session said owners new.owners out Asks first in
+    subst (λ en. OnOk c.ask_each.result (IfSome new_is (Waits g.O.Owners e en node c.args.moment c.args.lease.session said owners new.owners (g.S.Store.out_of new.store node) Asks first))) (sym c.ask_each.ensures.parts.1)
+    (subst (λ (o : Option Sent). OnOk c.ask_each.result (IfSome new_is (Waits g.O.Owners e self.engine node c.args.moment c.args.lease.session said owners new.owners o Asks first))) (sym (c.ask_each.ensures.own node).3)
     (on_ok_weaker c.ask_each.result
-    (λ all. if_then old_is new_is Was (λ a b. OnlyHolds a b × KeepsUnwanted wants a b) Then some
-    (λ a b was both. wanted_waits g.O.Owners g.E.Engine self.engine node c.args.moment c.args.lease.session out Asked Asks all.1.1 wants a b both.0 both.1 all.1.0 was) waits
+    (λ all. if_then old_is new_is (λ m. (m ≡ one) × Was m) (λ a b. OnlyHolds a b × KeepsUnwanted wants a b) Then some
+    (λ a b held both. wanted_waits g.O.Owners e self.engine node c.args.moment c.args.lease.session said owners self.owners new.owners out Asked Asks all.1.1.1 first wants a b cleaning.tidy tidy both.0 both.1
+    (subst (λ (m : Machine). Fair wants m (area_of (e.areas self.engine) cleaning.tidy)) (sym held.0) fair) all.1.0 all.1.1.0 held.1)
+    (was_there (λ m. (m ≡ one) × Was m) old_is one was (refl, of_there Was old_is one was waits))
     (if_and old_is new_is OnlyHolds (KeepsUnwanted wants) all.0.0 all.0.1))
     (both_ok _ _ c.ask_each.result (both_ok _ _ c.ask_each.result c.ask_each.ensures.only c.ask_each.ensures.keeps)
-    (both_ok _ _ c.ask_each.result c.ask_each.ensures.asking (each_ok (λ at. Asked at → Asks at) c.ask_each.result (λ at. on_each (Asked at) (Asks at) c.ask_each.result (λ asked. c.ask_each.ensures.asks_on at asked)))))))
+    (both_ok _ _ c.ask_each.result c.ask_each.ensures.owners
+    (both_ok _ _ c.ask_each.result c.ask_each.ensures.asking (each_ok (λ at. Asked at → Asks at) c.ask_each.result (λ at. on_each (Asked at) (Asks at) c.ask_each.result (λ asked. c.ask_each.ensures.asks_on at asked))))))))
 
 pub returns-in-Need-clause-goes : goal.returns-in-Need-clause-goes
 returns-in-Need-clause-goes g c =
@@ -240,8 +266,8 @@ send-requires-clause-idle g c =
     let self = c.args.self.now in
     let items = self.machines.items in
     let node = c.args.node in
-    let two = c.index-2.result.now in
-    let was_two : slice_get items node ≡ Some two = slice_get-get_or items node two c.requires.there.0 ∙ ap (λ (m : Machine). Some m) (sym c.index-2.ensures) in
+    let two = c.index.result.now in
+    let was_two : slice_get items node ≡ Some two = slice_get-get_or items node two c.requires.there.0 ∙ ap (λ (m : Machine). Some m) (sym c.index.ensures) in
     was_there (λ (m : Machine). m.stage ≡ Idle) (slice_get items node) two was_two c.in-Some.ensures.some.idle
 
 pub send-requires-clause-held : goal.send-requires-clause-held
@@ -272,16 +298,28 @@ returns-in-Inner-clause-stands g c = λ x letters clocks course tree session up 
     (tidy_works e self.engine c.in-Some.area c.args.moment three c.in-Inner.draft c.in_ok-attempt.attempt c.in-Inner.is (λ truth t holds agrees. c.in_ok-attempt.ensures.gives truth t holds agrees))))
 
 pub returns-in-Inner-clause-waits : goal.returns-in-Inner-clause-waits
-returns-in-Inner-clause-waits g c = λ waits.
+returns-in-Inner-clause-waits g c = λ said owners first same waits.
     let self = c.args.self.now in
     let node = c.args.node in
     let new = c.send.new.self in
+    let e = g.E.Engine in
     let own = g.S.Store.own self.store node in
-    let out = g.S.Store.out_of new.store node in
+    let out = g.S.Store.out_of self.store node in
+    let out_then = g.S.Store.out_of new.store node in
+    let old_is = slice_get self.machines.items node in
+    let new_is = slice_get new.machines.items node in
+    let Asked : ℕ → Type 0 = λ at. Asking g.G.Register g.O.Owners self node at in
+    let Asks : ℕ → Type 0 = λ at. Asking g.G.Register g.O.Owners new node at in
+    let Was = Waits g.O.Owners e self.engine node c.args.moment c.args.lease.session said owners self.owners out Asked first in
+    let Then = Waits g.O.Owners e self.engine node c.args.moment c.args.lease.session said owners self.owners out_then Asks first in
+    let parts = c.send.ensures.parts in
     on_ok_weaker c.send.result
-    (λ sends. if_new (slice_get self.machines.items node) (slice_get new.machines.items node) (SendsBody c.tidying.result own c.args.lease.until out)
-    (Waits g.O.Owners g.E.Engine new.engine node c.args.moment c.args.lease.session out (Asking g.G.Register g.O.Owners new node)) (is_some_there self.machines.items node c.requires.there.0)
-    (λ a b sent. busy g.O.Owners g.E.Engine new.engine self.owners node c.args.moment c.args.lease.session out (Asking g.G.Register g.O.Owners new node) b (some_sent own c.args.lease.until sent.runs out c.requires.sessions.1 sent.sent)) sends)
+    (λ sends. subst (λ en. IfSome new_is (Waits g.O.Owners e en node c.args.moment c.args.lease.session said owners new.owners out_then Asks first)) (sym parts.2)
+    (subst (λ w. IfSome new_is (Waits g.O.Owners e self.engine node c.args.moment c.args.lease.session said owners w out_then Asks first)) (sym parts.1)
+    (if_then old_is new_is Was (SendsBody (tidying c.in-Inner.draft c.args.moment) own c.args.lease.until out_then) Then (is_some_there self.machines.items node c.requires.there.0)
+    (λ a b was sent. sent_waits g.O.Owners e self.engine node c.args.moment c.args.lease.session said owners self.owners out out_then Asked Asks first a b (some_sent own c.args.lease.until sent.runs out_then c.requires.sessions.1 sent.sent)
+    sent.begins.calls (ap (λ (m : Machine). m.cache) sent.begins.only) was) waits
+    (subst (λ (r : Recording). IfSome old_is (λ a. IfSome new_is (SendsBody r own c.args.lease.until out_then a))) c.tidying.ensures sends))))
     c.send.ensures.sends
 
 pub returns-in-Inner-clause-answers : goal.returns-in-Inner-clause-answers
@@ -289,8 +327,8 @@ returns-in-Inner-clause-answers g c =
     let self = c.args.self.now in
     let items = self.machines.items in
     let node = c.args.node in
-    let two = c.index-2.result.now in
-    let was_two : slice_get items node ≡ Some two = slice_get-get_or items node two c.requires.there.0 ∙ ap (λ (m : Machine). Some m) (sym c.index-2.ensures) in
+    let two = c.index.result.now in
+    let was_two : slice_get items node ≡ Some two = slice_get-get_or items node two c.requires.there.0 ∙ ap (λ (m : Machine). Some m) (sym c.index.ensures) in
     let new = c.send.new.self in
     let own = g.S.Store.own self.store node in
     let out = g.S.Store.out_of new.store node in
@@ -308,7 +346,7 @@ returns-in-Inner-clause-goes g c =
     let old_is = slice_get self.machines.items c.args.node in
     let new_is = slice_get new.machines.items c.args.node in
     on_ok_weaker c.send.result
-    (λ sends. tidy_stays old_is new_is (if_both old_is new_is (SendsBody c.tidying.result (g.S.Store.own self.store c.args.node) c.args.lease.until (g.S.Store.out_of new.store c.args.node)) SameTidy (λ a b sent. ap (λ (m : Machine). m.tidy) sent.begins.only) sends))
+    (λ sends. tidy_stays old_is new_is (if_both old_is new_is (SendsBody c.tidying.result (g.S.Store.own self.store c.args.node) c.args.lease.until (g.S.Store.out_of new.store c.args.node)) LeavesTidy (λ a b sent. (ap (λ (m : Machine). m.tidy) sent.begins.only, ap (λ (m : Machine). m.mark) sent.begins.only)) sends))
     c.send.ensures.sends
 
 -- ---- it ends
@@ -330,7 +368,7 @@ returns-in-Answer-clause-stands g c = λ x letters clocks course tree session up
     (stands_noted g.G.Register g.O.Owners g.S.Store e self new (refl, refl, refl, refl) x (letters ++ c.args.out.now) clocks course tree (seen_same items node before after was (ap view_of only)) stands)
 
 pub returns-in-Answer-clause-waits : goal.returns-in-Answer-clause-waits
-returns-in-Answer-clause-waits g c = λ waits.
+returns-in-Answer-clause-waits g c = λ said owners first same waits.
     let self = c.args.self.now in
     let items = self.machines.items in
     let node = c.args.node in
@@ -340,7 +378,7 @@ returns-in-Answer-clause-waits g c = λ waits.
     let only : after ≡ record before { tidy = tidy } = refl in
     let was : slice_get items node ≡ Some before = slice_get-get_or items node before c.requires.there.0 ∙ ap (λ (m : Machine). Some m) (sym c.index_mut-in-Answer.ensures.value) in
     let is : slice_get (slice_set items node after) node ≡ Some (record before { tidy = tidy }) = set_here items node after before was ∙ ap (λ (m : Machine). Some m) only in
-    waits_noted g.G.Register g.O.Owners g.S.Store g.E.Engine self (record self { machines = with_item self.machines node after }) (refl, refl, refl, refl) node before before.mark before.ticks tidy was is c.args.moment c.args.lease.session waits
+    waits_noted g.G.Register g.O.Owners g.S.Store g.E.Engine self (record self { machines = with_item self.machines node after }) (refl, refl, refl, refl) node before before.mark before.ticks tidy was is c.args.moment c.args.lease.session said owners first waits
 
 pub returns-in-Answer-clause-answers : goal.returns-in-Answer-clause-answers
 returns-in-Answer-clause-answers g c =
@@ -368,10 +406,10 @@ returns-in-Answer-clause-goes g c =
     let only : after ≡ record before { tidy = tidy } = refl in
     let was : slice_get items node ≡ Some before = slice_get-get_or items node before c.requires.there.0 ∙ ap (λ (m : Machine). Some m) (sym c.index_mut-in-Answer.ensures.value) in
     let is : slice_get (slice_set items node after) node ≡ Some (record before { tidy = tidy }) = set_here items node after before was ∙ ap (λ (m : Machine). Some m) only in
-    let two = c.index-2.result.now in
-    let was_two : slice_get items node ≡ Some two = slice_get-get_or items node two c.requires.there.0 ∙ ap (λ (m : Machine). Some m) (sym c.index-2.ensures) in
+    let two = c.index.result.now in
+    let was_two : slice_get items node ≡ Some two = slice_get-get_or items node two c.requires.there.0 ∙ ap (λ (m : Machine). Some m) (sym c.index.ensures) in
     let cleaning = of_there (λ (m : Machine). IsToClean m c.in-Some.area) (slice_get items node) before was (was_there (λ (m : Machine). IsToClean m c.in-Some.area) (slice_get items node) two was_two c.in-Some.ensures.some) in
-    both_there TidyGoes (slice_get items node) (slice_get (slice_set items node after) node) before (record before { tidy = tidy }) was is
+    both_there GoesBy (slice_get items node) (slice_get (slice_set items node after) node) before (record before { tidy = tidy }) was is
     (Ends cleaning.tidy cleaning.is refl (λ call waits. cleaning.none_wait call waits))
 
 pub returns-in-Answer-clause-cleans : goal.returns-in-Answer-clause-cleans
@@ -385,8 +423,8 @@ returns-in-Answer-clause-cleans g c = λ x letters clocks course tree session up
     let only : after ≡ record before { tidy = tidy } = refl in
     let was : slice_get items node ≡ Some before = slice_get-get_or items node before c.requires.there.0 ∙ ap (λ (m : Machine). Some m) (sym c.index_mut-in-Answer.ensures.value) in
     let is : slice_get (slice_set items node after) node ≡ Some (record before { tidy = tidy }) = set_here items node after before was ∙ ap (λ (m : Machine). Some m) only in
-    let two = c.index-2.result.now in
-    let was_two : slice_get items node ≡ Some two = slice_get-get_or items node two c.requires.there.0 ∙ ap (λ (m : Machine). Some m) (sym c.index-2.ensures) in
+    let two = c.index.result.now in
+    let was_two : slice_get items node ≡ Some two = slice_get-get_or items node two c.requires.there.0 ∙ ap (λ (m : Machine). Some m) (sym c.index.ensures) in
     let cleaning = of_there (λ (m : Machine). IsToClean m c.in-Some.area) (slice_get items node) before was (was_there (λ (m : Machine). IsToClean m c.in-Some.area) (slice_get items node) two was_two c.in-Some.ensures.some) in
     let e = g.E.Engine in
     let made = g.S.Store.made self.store in
@@ -460,8 +498,8 @@ returns-in_default-clause-held_up g c = λ x letters clocks course tree session 
     let self = c.args.self.now in
     let items = self.machines.items in
     let node = c.args.node in
-    let two = c.index-2.result.now in
-    let was_two : slice_get items node ≡ Some two = slice_get-get_or items node two c.requires.there.0 ∙ ap (λ (m : Machine). Some m) (sym c.index-2.ensures) in
+    let two = c.index.result.now in
+    let was_two : slice_get items node ≡ Some two = slice_get-get_or items node two c.requires.there.0 ∙ ap (λ (m : Machine). Some m) (sym c.index.ensures) in
     let out = g.S.Store.out_of self.store node in
     let Asks : ℕ → Type 0 = λ at. Asking g.G.Register g.O.Owners self node at in
     was_there (IsHeldUp g.E.Engine self.engine out Asks) (slice_get items node) two was_two (held_by_none g.E.Engine self.engine out Asks two (λ area is. c.in_default.ensures.none refl area is))
@@ -471,8 +509,8 @@ returns-then-not-done-clause-held_up g c = λ x letters clocks course tree sessi
     let self = c.args.self.now in
     let items = self.machines.items in
     let node = c.args.node in
-    let two = c.index-2.result.now in
-    let was_two : slice_get items node ≡ Some two = slice_get-get_or items node two c.requires.there.0 ∙ ap (λ (m : Machine). Some m) (sym c.index-2.ensures) in
+    let two = c.index.result.now in
+    let was_two : slice_get items node ≡ Some two = slice_get-get_or items node two c.requires.there.0 ∙ ap (λ (m : Machine). Some m) (sym c.index.ensures) in
     let out = g.S.Store.out_of self.store node in
     let Asks : ℕ → Type 0 = λ at. Asking g.G.Register g.O.Owners self node at in
     was_there (IsHeldUp g.E.Engine self.engine out Asks) (slice_get items node) two was_two
@@ -483,8 +521,8 @@ returns-in-Need-clause-held_up g c = λ x letters clocks course tree session up 
     let self = c.args.self.now in
     let items = self.machines.items in
     let node = c.args.node in
-    let two = c.index-2.result.now in
-    let was_two : slice_get items node ≡ Some two = slice_get-get_or items node two c.requires.there.0 ∙ ap (λ (m : Machine). Some m) (sym c.index-2.ensures) in
+    let two = c.index.result.now in
+    let was_two : slice_get items node ≡ Some two = slice_get-get_or items node two c.requires.there.0 ∙ ap (λ (m : Machine). Some m) (sym c.index.ensures) in
     let e = g.E.Engine in
     let new = c.ask_each.new.self in
     let made = g.S.Store.made self.store in

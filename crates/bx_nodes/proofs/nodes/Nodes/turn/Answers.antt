@@ -1,4 +1,4 @@
-use Rattle.std.proofs.Common.{◌≡◌, ◌∙◌, ℕ, ◌<◌, ◌++◌, [], Bool, true, Option, Some, None, IfSome, refl, sym, ap, subst, arith}
+use Rattle.std.proofs.Common.{◌≡◌, ◌∙◌, ℕ, ◌<◌, ◌++◌, [], Bool, true, Option, Some, None, IfSome, IsSome, refl, sym, ap, subst, arith}
 use Rattle.std.specs.Prelude.{◌==◌, ◌&&◌, if◌then◌else◌, slice_get}
 use Rattle.std.proofs.lemmas.Bool.Decides.{nat_tests}
 use Rattle.bx_facts.specs.Holds.{first_of}
@@ -6,13 +6,13 @@ use Rattle.bx_node_steps.specs.Gives.{marked, newest, since}
 use Rattle.bx_node_steps.specs.declared.machine.Machine.{Machine}
 use Rattle.bx_nodes.specs.Cleaning.{IsHeldUp}
 use Rattle.bx_nodes.specs.Standing.{Asking, Stand}
-use Rattle.bx_nodes.specs.Turns.{OnlyStore, Turned}
+use Rattle.bx_nodes.specs.Turns.{OnlyStore, TurnEnds, Turned, noting}
 use Rattle.bx_nodes.proofs.Leading.{turned_as}
 use Rattle.bx_nodes.proofs.Calling.{answers_still, answers_then, noted_there, session_noted, session_then, was_fits}
 use Rattle.bx_nodes.proofs.HoldingUp.{held_noted}
-use Rattle.bx_nodes.proofs.Machines.{is_some_there, of_there, there_is, was_there}
-use Rattle.bx_nodes.proofs.Noting.{asking_noted, lease_noted, ready_noted, stands_noted, waits_noted}
-use Rattle.bx_nodes.proofs.Cleaning.{Cleans, cleans_then, goes_noted, goes_there, then_cleans}
+use Rattle.bx_nodes.proofs.Machines.{is_some_there, of_there, there_is, two_there, was_there}
+use Rattle.bx_nodes.proofs.Noting.{asking_noted, ends_as, lease_noted, ready_noted, stands_noted}
+use Rattle.bx_nodes.proofs.Cleaning.{Cleans, cleans_then, goes_asked, goes_noted, then_cleans}
 use Rattle.bx_nodes.proofs.Tidying.{tidy_noted}
 use Rattle.bx_nodes.proofs.nodes.Nodes.turn.Goals as goal
 
@@ -54,7 +54,30 @@ returns-clause-waits g c = λ lease has.
     let less = subst (λ (n : ℕ). node < n) (sym (c.in_ok-said.ensures.count ∙ c.note_asked.ensures.count)) c.requires.there.0 in
     let its = there_is acted.machines.items node less in
     let is_then = of_there (λ (m : Machine). slice_get new.machines.items node ≡ Some (record m { mark = marked (first_of (g.O.Owners.asks acted.owners node)) m })) (slice_get acted.machines.items node) its.0 its.1 c.note_asked-2.ensures.noted in
-    waits_noted g.G.Register g.O.Owners g.S.Store g.E.Engine acted new c.note_asked-2.ensures.parts node its.0 (marked (first_of (g.O.Owners.asks acted.owners node)) its.0) its.0.ticks its.0.tidy its.1 is_then c.args.reading lease.session (c.in_ok-said.ensures.waits lease has_then)
+    let e = g.E.Engine in
+    let moment = c.args.reading in
+    let said = c.in_ok-said.said.items in
+    let asks = g.O.Owners.asks old.owners node in
+    let old_is = slice_get old.machines.items node in
+    let new_is = slice_get new.machines.items node in
+    let out = g.S.Store.out_of acted.store node in
+    let mark = marked (first_of (g.O.Owners.asks acted.owners node)) its.0 in
+    let Acted : ℕ → Type 0 = λ at. Asking g.G.Register g.O.Owners acted node at in
+    let Asks : ℕ → Type 0 = λ at. Asking g.G.Register g.O.Owners new node at in
+    let first = noting asks found.0 in
+    let done = two_there (TurnEnds g.O.Owners e acted.engine node moment lease.session (g.S.Store.answer noted.store node) (g.S.Store.asked noted.store node) said noted.owners acted.owners out Acted) (slice_get noted.machines.items node) (slice_get acted.machines.items node) first its.0 is its.1
+    (c.in_ok-said.ensures.waits lease has_then) in
+    let then_done : TurnEnds g.O.Owners e acted.engine node moment lease.session (g.S.Store.answer old.store node) (g.S.Store.asked old.store node) said old.owners acted.owners out Acted first its.0 =
+    subst (λ s. TurnEnds g.O.Owners e acted.engine node moment lease.session (g.S.Store.answer s node) (g.S.Store.asked s node) said old.owners acted.owners out Acted first its.0) c.note_asked.ensures.parts.2
+    (subst (λ w. TurnEnds g.O.Owners e acted.engine node moment lease.session (g.S.Store.answer noted.store node) (g.S.Store.asked noted.store node) said w acted.owners out Acted first its.0) c.note_asked.ensures.parts.1 done) in
+    let after = ends_as g.O.Owners e acted.engine node moment lease.session (g.S.Store.answer old.store node) (g.S.Store.asked old.store node) said old.owners acted.owners out Acted Asks
+    (asking_noted g.G.Register g.O.Owners g.S.Store e acted new c.note_asked-2.ensures.parts node its.0 mark its.0.ticks its.0.tidy its.1 is_then) first its.0 mark then_done in
+    let Final : Machine → Type 0 = λ b. TurnEnds g.O.Owners e new.engine node moment lease.session (g.S.Store.answer old.store node) (g.S.Store.asked old.store node) said old.owners new.owners (g.S.Store.out_of new.store node) Asks first b in
+    was_there (λ (a : Machine). IfSome new_is (TurnEnds g.O.Owners e new.engine node moment lease.session (g.S.Store.answer old.store node) (g.S.Store.asked old.store node) said old.owners new.owners (g.S.Store.out_of new.store node) Asks (noting asks a))) old_is found.0 found.1
+    (was_there Final new_is (record its.0 { mark = mark }) is_then
+    (subst (λ en. TurnEnds g.O.Owners e en node moment lease.session (g.S.Store.answer old.store node) (g.S.Store.asked old.store node) said old.owners new.owners (g.S.Store.out_of new.store node) Asks first (record its.0 { mark = mark })) (sym c.note_asked-2.ensures.parts.3)
+    (subst (λ s. TurnEnds g.O.Owners e acted.engine node moment lease.session (g.S.Store.answer old.store node) (g.S.Store.asked old.store node) said old.owners new.owners (g.S.Store.out_of s node) Asks first (record its.0 { mark = mark })) (sym c.note_asked-2.ensures.parts.2)
+    (subst (λ w. TurnEnds g.O.Owners e acted.engine node moment lease.session (g.S.Store.answer old.store node) (g.S.Store.asked old.store node) said old.owners w out Asks first (record its.0 { mark = mark })) (sym c.note_asked-2.ensures.parts.1) after))))
 
 pub returns-clause-ready : goal.returns-clause-ready
 returns-clause-ready g c =
@@ -121,18 +144,14 @@ returns-clause-tidies g c =
     let acted = c.act.new.self in
     let new = c.note_asked-2.new.self in
     let found = there_is old.machines.items node c.requires.there.0 in
-    let mark = marked (first_of (g.O.Owners.asks old.owners node)) found.0 in
+    let asked = first_of (g.O.Owners.asks old.owners node) in
     let is = of_there (λ (m : Machine). slice_get noted.machines.items node ≡ Some (record m { mark = marked (first_of (g.O.Owners.asks old.owners node)) m })) (slice_get old.machines.items node) found.0 found.1 c.note_asked.ensures.noted in
-    let less_noted = subst (λ (n : ℕ). node < n) (sym c.note_asked.ensures.count) c.requires.there.0 in
     let less = subst (λ (n : ℕ). node < n) (sym (c.in_ok-said.ensures.count ∙ c.note_asked.ensures.count)) c.requires.there.0 in
     let its = there_is acted.machines.items node less in
     let mark_then = marked (first_of (g.O.Owners.asks acted.owners node)) its.0 in
     let is_then = of_there (λ (m : Machine). slice_get new.machines.items node ≡ Some (record m { mark = marked (first_of (g.O.Owners.asks acted.owners node)) m })) (slice_get acted.machines.items node) its.0 its.1 c.note_asked-2.ensures.noted in
-    let some_noted = is_some_there noted.machines.items node less_noted in
-    let some_acted = is_some_there acted.machines.items node less in
-    goes_noted (slice_get old.machines.items node) (slice_get acted.machines.items node) (slice_get new.machines.items node) its.0 mark_then some_acted its.1 is_then
-    (goes_there (slice_get old.machines.items node) (slice_get noted.machines.items node) (slice_get acted.machines.items node) some_noted
-    (tidy_noted (slice_get old.machines.items node) (slice_get noted.machines.items node) found.0 mark found.1 is) c.in_ok-said.ensures.tidies)
+    goes_noted (IsSome asked) (slice_get old.machines.items node) (slice_get acted.machines.items node) (slice_get new.machines.items node) its.0 mark_then its.1 is_then
+    (goes_asked asked (slice_get old.machines.items node) (slice_get noted.machines.items node) (slice_get acted.machines.items node) found.0 found.1 is c.in_ok-said.ensures.tidies)
 
 pub returns-clause-cleans : goal.returns-clause-cleans
 returns-clause-cleans g c = λ x letters clocks course later tree next up steady stands chain stands_then.

@@ -3,7 +3,7 @@ use Rattle.bx_facts.specs.Holds.{KeepsHolds}
 use Rattle.bx_plain.specs.Asks.{AlikeBut}
 use Rattle.bx_plain.specs.Fits.{RowsStand}
 use Rattle.bx_plain.specs.Grants.{NoneLeft, Passes}
-use Rattle.bx_plain.specs.Rows.{floor_in, hold_in, want_in}
+use Rattle.bx_plain.specs.Rows.{floor_in, hold_in, sessions_at, want_in}
 use Rattle.bx_plain.proofs.owners.PlainOwners.grant_waiting.Given as goal
 
 abbrev pub invariant-loop-place : goal.invariant-loop-place
@@ -15,3 +15,4 @@ invariant-loop-place l =
     × (l.self.nodes ≡ l.fn.self.nodes)
     × Passes l.block l.fn.self.rows l.self.rows
     × NoneLeft l.block l.fn.self.rows l.self.rows l.place
+    × (sessions_at l.block l.self.rows ≡ sessions_at l.block l.fn.self.rows)

@@ -6,7 +6,6 @@ use Rattle.bx_plain.specs.Fits.{Fits, own_in}
 use Rattle.bx_plain.specs.Grants.{Grants, IsGone}
 use Rattle.bx_plain.specs.Laws.{own_is}
 use Rattle.bx_plain.specs.Rows.{floor_in, hold_in}
-use Rattle.bx_plain.proofs.Asking.{alike_then}
 use Rattle.bx_plain.proofs.Granting.{gone_then, grants}
 use Rattle.bx_plain.proofs.Keeping.{asks_given, fits_given}
 use Rattle.bx_plain.proofs.Stands.{others_then}
@@ -34,7 +33,7 @@ pub returns-clause-asks : goal.returns-clause-asks
 returns-clause-asks c =
     let rows = c.args.self.now.rows in
     let new = c.grant_waiting.new.self.rows in
-    let alike = alike_then c.args.block rows c.let_go.new.self.rows new c.in_ok-let_go.ensures.alike c.in_ok-grant_waiting.ensures.alike in
+    let alike = c.in_ok-grant_waiting.ensures.alike ∙ c.in_ok-let_go.ensures.alike in
     let none : (session : ℕ) → own_in c.args.self.now.nodes c.args.node ≡ Some session → hold_in c.grant_waiting.new.self.rows session c.args.block ≡ None = λ session own.
     let o = own_is c.args.self.now.nodes c.args.node session own in
     let same : c.from.result + 1 ≡ session = omega (arith, o.1, c.from.ensures) in

@@ -1,4 +1,4 @@
-use Rattle.std.proofs.Common.{◌≡◌, ◌≢◌, ◌⊎◌, inl, inr, ⊎_elim, ◌+◌, ◌∙◌, ℕ, Option, Some, IsSome, sym, subst, arith}
+use Rattle.std.proofs.Common.{◌≡◌, ◌⊎◌, inl, inr, ⊎_elim, ◌+◌, ◌∙◌, ℕ, Option, Some, IsSome, sym, subst, arith}
 use Rattle.std.specs.Prelude.{IsSomeAnd}
 use Rattle.bx_facts.specs.Holds.{Hold, Holding, KeepsOthers, hold_of, owners_with, without_block}
 use Rattle.bx_plain.specs.Asks.{asks_of}
@@ -6,7 +6,6 @@ use Rattle.bx_plain.specs.Fits.{Fits, own_in}
 use Rattle.bx_plain.specs.Grants.{Grants, IsAnswered}
 use Rattle.bx_plain.specs.Laws.{own_is}
 use Rattle.bx_plain.specs.Rows.{hold_in, want_in}
-use Rattle.bx_plain.proofs.Asking.{alike_then}
 use Rattle.bx_plain.proofs.Granting.{answered_then, grants, held_by_own, same_of, wants_then}
 use Rattle.bx_plain.proofs.Keeping.{asks_wanted, fits_wanted}
 use Rattle.bx_plain.proofs.Stands.{others_then}
@@ -29,7 +28,7 @@ pub returns-clause-asks : goal.returns-clause-asks
 returns-clause-asks c =
     let rows = c.args.self.now.rows in
     let new = c.grant_waiting.new.self.rows in
-    let alike = alike_then c.args.block rows c.ask.new.self.rows new c.in_ok-ask.ensures.alike c.in_ok-grant_waiting.ensures.alike in
+    let alike = c.in_ok-grant_waiting.ensures.alike ∙ c.in_ok-ask.ensures.alike in
     let P : ℕ → Type 0 = λ n. without_block c.args.block (asks_of (own_in n c.args.node) c.grant_waiting.new.self.rows n) ≡ without_block c.args.block (asks_of (own_in c.args.self.now.nodes c.args.node) c.args.self.now.rows c.args.self.now.nodes) in
     subst P (sym (c.grant_waiting.ensures.nodes ∙ c.ask.ensures.nodes)) (asks_wanted (own_in c.args.self.now.nodes c.args.node) rows new c.args.block c.args.self.now.nodes alike)
 

@@ -2,7 +2,7 @@ use Rattle.std.proofs.Common.{◌≡◌, ℕ, refl, sym, ap, ◌∙◌, subst, a
 use Rattle.bx_facts.specs.Writes.{Made}
 use Rattle.bx_global.specs.Allowed.{IsAllowed}
 use Rattle.bx_global.specs.declared.state.GlobalState.{GlobalState}
-use Rattle.bx_lone_store.specs.Fits.{HasSessionsOf}
+use Rattle.bx_plain_store.specs.Fits.{HasSessionsOf}
 use Rattle.bx_plain.specs.Begin.{plain_state}
 use Rattle.bx_plain.specs.Fits.{IsPlainState}
 use Rattle.bx_plain_openings.proofs.Plain.{no_owner, no_writer, plain_names}

@@ -1,5 +1,5 @@
 use Rattle.std.proofs.Common.{◌≡◌, ◌⊎◌, Err, ap, inl, inr, refl}
-use Rattle.bx_lone_repair.proofs.Results.{on_err}
+use Rattle.bx_plain_repair.proofs.Results.{on_err}
 use Rattle.bx_plain_service.proofs.Recovering.{closes, fails, finds, may_rest}
 use Rattle.bx_plain_service.proofs.Tidies.{only_first}
 use Rattle.bx_plain_service.proofs.service.PlainService.recover.Goals as goal

@@ -1,5 +1,5 @@
 use Rattle.std.proofs.Common.{◌≡◌, sym, subst, ◌∙◌}
-use Rattle.bx_lone_repair.proofs.Results.{on_err}
+use Rattle.bx_plain_repair.proofs.Results.{on_err}
 use Rattle.bx_plain_service.specs.Stages.{IsHolding, IsLeftBy}
 use Rattle.bx_plain_service.specs.declared.returning.Left.{Left}
 use Rattle.bx_plain_service.proofs.Recovering.{again_back, none_then, of_some, restarts, rose_before, twice}

@@ -1,5 +1,5 @@
-use Rattle.std.proofs.Common.{◌≡◌, ⊎_elim, true, false, [], ◌∷◌, refl, sym, ap, ◌∙◌, subst}
-use Rattle.bx_lone_repair.proofs.Results.{on_err}
+use Rattle.std.proofs.Common.{◌≡◌, ⊎_elim, ℕ, true, false, [], ◌∷◌, refl, sym, ap, ◌∙◌, subst}
+use Rattle.bx_plain.specs.Begin.{plain_state}
 use Rattle.bx_plain_service.specs.Events as up
 use Rattle.bx_plain_service.specs.Stages.{IsHolding, IsUpOn, waits_of}
 use Rattle.bx_plain_service.proofs.Openings.{if_ok_map, on_err_then, on_ok_is, shaped_by}
@@ -75,7 +75,7 @@ returns-in-Up-clause-cleans g c = λ tree doubts node one tells holding under.
     let holds = rw c.in-Up.is at holding in
     let ready = rw c.in-Up.is at c.requires.ready in
     let length_is = rw c.in-Up.is at one in
-    on_ok_is _ c.events_of.result (λ over. cleaned old new (g.B.Rack.state c.round.new.rack) node length_is (ap (λ (made : _). made.areas) ready.1.made) (said.sessions 0)
+    on_ok_is _ c.events_of.result (λ over. cleaned old new (g.B.Rack.state c.round.new.rack) node (said.parts.0 ∙ ready.1.state ∙ ap (λ (n : ℕ). plain_state n 1) (sym ready.0.nodes.counted ∙ length_is)) length_is (ap (λ (made : _). made.areas) ready.1.made) (said.sessions 0)
     (said.cleans tree tells (sym ready.0.nodes.counted ∙ length_is) holds.stands) (rw c.in-Up.is at under) over)
 
 -- ---- where no node is up, or the one node is back

@@ -1,6 +1,5 @@
-use Rattle.std.proofs.Common.{ℕ, ◌==◌, ◌≡◌, ◌∙◌, ap, arith, refl, subst, sym}
-use Rattle.bx_lone_store.specs.contracts.store.PlainStoreStore.TheImpl as plain_store
-use Rattle.bx_node_rounds.specs.Quiet.{tidies_in}
+use Rattle.std.proofs.Common.{ℕ, ◌==◌, ◌∙◌, ap, refl, subst, sym}
+use Rattle.bx_plain_store.specs.contracts.store.PlainStoreStore.TheImpl as plain_store
 use Rattle.bx_node_rounds.specs.Rounds.{Waits}
 use Rattle.bx_plain.specs.contracts.register.PlainRegisterRegister.TheImpl as plain_register
 use Rattle.bx_plain_service.specs.Events.{call_in, taken_at}

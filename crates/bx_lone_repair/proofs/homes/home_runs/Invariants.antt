@@ -1,5 +1,0 @@
-use Rattle.bx_lone_repair.specs.HomesOf.{AreHomesBelow}
-use Rattle.bx_lone_repair.proofs.homes.home_runs.Given as goal
-
-abbrev pub invariant-loop-at : goal.invariant-loop-at
-invariant-loop-at l = AreHomesBelow l.newest l.at l.runs

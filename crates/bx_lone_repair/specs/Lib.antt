@@ -1,8 +1,0 @@
-pub mod Bench
-pub mod HomesOf
-pub mod Left
-pub mod Recovering
-pub mod Resting
-pub mod Shown
-pub mod Spared
-pub mod Through

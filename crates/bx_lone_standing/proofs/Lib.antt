@@ -1,9 +1,0 @@
-pub mod Phases
-pub mod Fitting
-pub mod Staying
-pub mod Syncing
-pub mod Letters
-pub mod Showing
-pub mod Shapes
-pub mod Opening
-pub mod Closing

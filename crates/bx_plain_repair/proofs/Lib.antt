@@ -1,0 +1,13 @@
+pub mod Labels
+pub mod Only
+pub mod Homing
+pub mod Shutting
+pub mod Leaving
+pub mod Settling
+pub mod OpenLogs
+pub mod HomesOf
+pub mod Fits
+pub mod Results
+pub mod Finding
+pub mod Crashing
+pub mod Sparing

@@ -1,0 +1,7 @@
+pub mod Bench
+pub mod HomesOf
+pub mod Left
+pub mod Recovering
+pub mod Resting
+pub mod Spared
+pub mod Through

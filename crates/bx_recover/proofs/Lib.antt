@@ -1,0 +1,11 @@
+pub mod Slices
+pub mod Newest
+pub mod Taken
+pub mod Done
+pub mod Lists
+pub mod Logs
+pub mod HomesOf
+pub mod Waiting
+pub mod Orders
+pub mod Sorted
+pub mod Exact

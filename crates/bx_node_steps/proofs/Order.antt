@@ -1,11 +1,11 @@
 -- The calls of a node stand in their order.
-use Rattle.std.proofs.Common.{◌≡◌, ◌≢◌, ◌⊎◌, ⊎_elim, inl, inr, ◌∙◌, ◌<◌, ◌≤◌, List, [], ◌∷◌, ◌++◌, Contains, IfSome, refl, sym, ap, subst, arith}
+use Rattle.std.proofs.Common.{◌≡◌, ◌≢◌, ◌⊎◌, ⊎_elim, inl, inr, ◌∙◌, ◌<◌, ◌≤◌, List, [], ◌∷◌, ◌++◌, Contains, Option, None, Some, IfSome, refl, sym, ap, subst, arith}
 use Rattle.std.specs.Prelude.{slice_get}
 use Rattle.std.specs.List.{AllByRecursion}
 use Rattle.std.proofs.lemmas.List.Elements.{All-contains, All-from_recursion, Contains-append_cases, Contains-append_left, Contains-append_right}
 use Rattle.bx_facts.proofs.Lists.{behind, front, front_or_behind, nothing}
 use Rattle.bx_node_steps.specs.Calls.{AreInOrder, CallOf, IsAmong, call_of}
-use Rattle.bx_node_steps.specs.Logging.{IsPutBack}
+use Rattle.bx_node_steps.specs.Logging.{IsPutBack, WaitsOn}
 use Rattle.bx_node_tries.specs.declared.round.Waiting.{Waiting}
 
 -- ---- a call is put behind those that are older
@@ -57,6 +57,12 @@ pub among_put : (call : Waiting) (old new : List Waiting) → IsPutBack call old
 among_put call old new put c is = subst (λ (l : List Waiting). IsAmong l c) (sym put.now)
     (⊎_elim (λ among. record { one = among.one; there = there_put call put.older put.younger among.one (subst (λ (l : List Waiting). Contains l among.one) put.was among.there); same = among.same })
     (λ same. record { one = call; there = Contains-append_right put.older (call ∷ put.younger) call (front call put.younger); same = same }) is)
+
+-- Those that wait still do once one is put back, or none.
+pub wait_still : (waits : Option Waiting) (old new : List Waiting) → WaitsOn waits old new → (one : Waiting) → Contains old one → Contains new one
+wait_still None old new same one there = subst (λ (l : List Waiting). Contains l one) (sym same) there
+wait_still (Some call) old new put one there =
+    subst (λ (l : List Waiting). Contains l one) (sym put.now) (there_put call put.older put.younger one (subst (λ (l : List Waiting). Contains l one) put.was there))
 
 -- ---- lists in order
 

@@ -122,19 +122,19 @@ went_as moment calls waiting waiting_then said said_then begun begun_then same_w
     subst (λ (l : List Waiting). Went moment calls l said_then begun_then) (sym same_waiting)
     (subst (λ (l : List Said). Went moment calls waiting l begun_then) (sym same_said) (subst (λ (b : Option Begun). Went moment calls waiting said b) (sym same_begun) went))
 
-one_goes : (moment : ℕ) (calls : List Waiting) (call : Waiting) (old new : Round) → ((one : Waiting) → Contains calls one → one.number < call.number) → Went moment calls old.waiting.items old.said.items old.begun → Goes moment call old new
+one_goes : {newest : Option ℕ} (moment : ℕ) (calls : List Waiting) (call : Waiting) (old new : Round) → ((one : Waiting) → Contains calls one → one.number < call.number) → Went moment calls old.waiting.items old.said.items old.begun → Goes newest moment call old new
     → Went moment (calls ++ call ∷ []) new.waiting.items new.said.items new.begun
 one_goes moment calls call old new below went (Stays waits said begun needs) = went_as moment _ _ _ _ _ _ _ waits said begun (stays moment calls old.waiting.items old.said.items call below old.begun went)
-one_goes moment calls call old new below went (Needs wants waits said begun needs) = went_as moment _ _ _ _ _ _ _ waits said begun (stays moment calls old.waiting.items old.said.items call below old.begun went)
-one_goes moment calls call old new below went (Answered answer is said waits begun needs) = went_as moment _ _ _ _ _ _ _ waits said begun (answers moment calls old.waiting.items old.said.items call below old.begun went answer is)
-one_goes moment calls call old new below went (Begins none begun said waits needs) = by new.begun refl begun
+one_goes moment calls call old new below went (Needs wants waits said begun needs older) = went_as moment _ _ _ _ _ _ _ waits said begun (stays moment calls old.waiting.items old.said.items call below old.begun went)
+one_goes moment calls call old new below went (Answered answer is said waits begun needs older) = went_as moment _ _ _ _ _ _ _ waits said begun (answers moment calls old.waiting.items old.said.items call below old.begun went answer is)
+one_goes moment calls call old new below went (Begins none begun said waits needs older) = by new.begun refl begun
   where
     by : (found : Option Begun) → new.begun ≡ found → IsSomeAnd found (λ begins. begins.call ≡ call) → Went moment (calls ++ call ∷ []) new.waiting.items new.said.items new.begun
     by None is wrong = absurd wrong
     by (Some begins) is same = went_as moment _ _ _ _ _ _ _ waits said is
         (begins_it moment calls old.waiting.items old.said.items call below begins same (subst (λ (b : Option Begun). Went moment calls old.waiting.items old.said.items b) none went))
 
-pub all_went : (moment : ℕ) (calls : List Waiting) (first round : Round) → AreNone first → AreInOrder calls → AllGo moment calls first round → Went moment calls round.waiting.items round.said.items round.begun
+pub all_went : {newest : Option ℕ} (moment : ℕ) (calls : List Waiting) (first round : Round) → AreNone first → AreInOrder calls → AllGo newest moment calls first round → Went moment calls round.waiting.items round.said.items round.begun
 all_went moment calls first round none order (NoneGo same) = went_as moment _ _ _ _ _ _ _ none.waiting none.said none.begun (none_went moment)
 all_went moment calls first round none order (MoreGo before call from middle last all goes) =
     one_goes moment before call middle last (order_last before call order) (all_went moment before from middle none (order_front before call order) all) goes

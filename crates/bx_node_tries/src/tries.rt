@@ -25,7 +25,7 @@ pub fn attempt_all<E: Engine, V: View>(
         → IfOk result (λ round. LedTo (E.stands engine.now) (E.step engine.now) (E.free engine.now truth) truth first round.said.items) }
     ensures waits { IfOk result (λ round. round.begun ≡ None → All (MayWait E.Engine engine.now (V.held view.now) (V.hints view.now) moment newest may_begin round.needs.items) round.waiting.items) }
     ensures needs { IfOk result (λ round. All (AreNeeded E.Engine engine.now (V.held view.now) (V.hints view.now) moment round.waiting.items) round.needs.items) }
-    ensures goes { IfOk result (λ round. (first : Round) × AreNone first × AllGo moment calls.items first round) }
+    ensures goes { IfOk result (λ round. (first : Round) × AreNone first × AllGo newest moment calls.items first round) }
     ensures begun { IfOk result (λ round. IfSome round.begun (IsToBegin E.Engine engine.now (V.held view.now) (V.hints view.now) moment)) }
     ensures may { may_begin ≡ false → IfOk result (λ round. round.begun ≡ None) }
 {
@@ -64,7 +64,7 @@ fn try_one<E: Engine, V: View>(
         → OnOk result (LedTo (E.stands engine.now) (E.step engine.now) (E.free engine.now truth) truth first round.new.said.items) }
     ensures waits { All (MayWait E.Engine engine.now (V.held view.now) (V.hints view.now) moment newest may_begin round.old.needs.items) round.old.waiting.items → OnOk result (All (MayWait E.Engine engine.now (V.held view.now) (V.hints view.now) moment newest may_begin round.new.needs.items) round.new.waiting.items) }
     ensures needs { All (AreNeeded E.Engine engine.now (V.held view.now) (V.hints view.now) moment round.old.waiting.items) round.old.needs.items → OnOk result (All (AreNeeded E.Engine engine.now (V.held view.now) (V.hints view.now) moment round.new.waiting.items) round.new.needs.items) }
-    ensures goes { OnOk result (Goes moment call round.old round.new) }
+    ensures goes { OnOk result (Goes newest moment call round.old round.new) }
     ensures begun { OnOk result (IfSome round.new.begun (IsToBegin E.Engine engine.now (V.held view.now) (V.hints view.now) moment)) }
     ensures may { may_begin ≡ false → OnOk result (round.new.begun ≡ None) }
 {

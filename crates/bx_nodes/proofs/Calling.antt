@@ -75,7 +75,7 @@ stepped_answers moment areas own until (Some write) out_then said a b fits (same
 
 -- ---- calls are attempted
 
-went : (moment : ℕ) (a b : Machine) (attempted : Attempted) → Settle moment (Some a) (Some b) attempted → AreApart a → Went moment a.calls.items b.calls.items attempted.said.items attempted.begun
+went : {newest : Option ℕ} (moment : ℕ) (a b : Machine) (attempted : Attempted) → Settle newest moment (Some a) (Some b) attempted → AreApart a → Went moment a.calls.items b.calls.items attempted.said.items attempted.begun
 went moment a b attempted settles apart = all_went moment a.calls.items settles.first _ settles.none apart.order settles.go
 
 -- a node of which only the calls change has its record under way
@@ -83,7 +83,7 @@ only_calls : (a b : Machine) → b ≡ record a { calls = b.calls } → (call_wr
 only_calls a b only = (ap (λ (m : Machine). call_written m.stage) only, ap under_way only)
 
 -- No call begins a record.
-pub tried_answers : (moment : ℕ) (a b : Machine) (attempted : Attempted) → IsNumberedAt a → b ≡ record a { calls = b.calls } → Settle moment (Some a) (Some b) attempted → attempted.begun ≡ None → AnswersWell moment attempted.said.items a b
+pub tried_answers : {newest : Option ℕ} (moment : ℕ) (a b : Machine) (attempted : Attempted) → IsNumberedAt a → b ≡ record a { calls = b.calls } → Settle newest moment (Some a) (Some b) attempted → attempted.begun ≡ None → AnswersWell moment attempted.said.items a b
 tried_answers moment a b attempted numbered only settles none apart =
     let all = subst (λ (begun : Option Begun). Went moment a.calls.items b.calls.items attempted.said.items begun) none (went moment a b attempted settles apart) in
     let same = only_calls a b only in
@@ -98,7 +98,7 @@ tried_answers moment a b attempted numbered only settles none apart =
     others_left (Some it) other from = λ one there. other one (from one there)
 
 -- One begins a record, where the log rests.
-pub begun_answers : (moment : ℕ) (a b c : Machine) (attempted : Attempted) (begins : Begun) (own : Option ℕ) (until : ℕ) (out : Option Sent) → a.stage ≡ stages.Idle → Settle moment (Some a) (Some b) attempted → attempted.begun ≡ Some begins
+pub begun_answers : {newest : Option ℕ} (moment : ℕ) (a b c : Machine) (attempted : Attempted) (begins : Begun) (own : Option ℕ) (until : ℕ) (out : Option Sent) → a.stage ≡ stages.Idle → Settle newest moment (Some a) (Some b) attempted → attempted.begun ≡ Some begins
     → BeginsBy moment begins own until out b c → AnswersWell moment attempted.said.items a c
 begun_answers moment a b c attempted begins own until out idle settles some begun apart =
     let all = subst (λ (b_is : Option Begun). Went moment a.calls.items b.calls.items attempted.said.items b_is) some (went moment a b attempted settles apart) in
@@ -205,18 +205,18 @@ answers_still moment said old middle new some one two = subst (λ (l : List Said
 pub held_there : (moment : ℕ) (old new : Option Machine) → IfSome old (λ machine. machine.stage ≡ stages.Idle) → IfSome old (λ a. IfSome new (OnlyHolds a)) → AnswersThere moment [] old new
 held_there moment old new rests only = if_two old new (λ (a : Machine). a.stage ≡ stages.Idle) OnlyHolds (AnswersWell moment []) (λ a b idle holds. held_answers moment a b idle holds) rests only
 
-pub tried_there : (moment : ℕ) (old new : Option Machine) (attempted : Attempted) → IfSome old IsNumberedAt → IfSome old (λ a. IfSome new (λ b. b ≡ record a { calls = b.calls })) → Settle moment old new attempted → attempted.begun ≡ None
+pub tried_there : (newest : Option ℕ) (moment : ℕ) (old new : Option Machine) (attempted : Attempted) → IfSome old IsNumberedAt → IfSome old (λ a. IfSome new (λ b. b ≡ record a { calls = b.calls })) → Settle newest moment old new attempted → attempted.begun ≡ None
     → AnswersThere moment attempted.said.items old new
-tried_there moment None new attempted numbered only settles none = tt
-tried_there moment (Some a) None attempted numbered only settles none = tt
-tried_there moment (Some a) (Some b) attempted numbered only settles none = tried_answers moment a b attempted numbered only settles none
+tried_there newest moment None new attempted numbered only settles none = tt
+tried_there newest moment (Some a) None attempted numbered only settles none = tt
+tried_there newest moment (Some a) (Some b) attempted numbered only settles none = tried_answers moment a b attempted numbered only settles none
 
-pub begun_there : (moment : ℕ) (old middle new : Option Machine) (attempted : Attempted) (begins : Begun) (own : Option ℕ) (until : ℕ) (out : Option Sent) → IfSome old (λ machine. machine.stage ≡ stages.Idle) → Settle moment old middle attempted
+pub begun_there : (newest : Option ℕ) (moment : ℕ) (old middle new : Option Machine) (attempted : Attempted) (begins : Begun) (own : Option ℕ) (until : ℕ) (out : Option Sent) → IfSome old (λ machine. machine.stage ≡ stages.Idle) → Settle newest moment old middle attempted
     → attempted.begun ≡ Some begins → IfSome middle (λ a. IfSome new (BeginsBy moment begins own until out a)) → AnswersThere moment attempted.said.items old new
-begun_there moment None middle new attempted begins own until out idle settles some begun = tt
-begun_there moment (Some a) None new attempted begins own until out idle settles some begun = absurd settles
-begun_there moment (Some a) (Some b) None attempted begins own until out idle settles some begun = tt
-begun_there moment (Some a) (Some b) (Some c) attempted begins own until out idle settles some begun = begun_answers moment a b c attempted begins own until out idle settles some begun
+begun_there newest moment None middle new attempted begins own until out idle settles some begun = tt
+begun_there newest moment (Some a) None new attempted begins own until out idle settles some begun = absurd settles
+begun_there newest moment (Some a) (Some b) None attempted begins own until out idle settles some begun = tt
+begun_there newest moment (Some a) (Some b) (Some c) attempted begins own until out idle settles some begun = begun_answers moment a b c attempted begins own until out idle settles some begun
 
 -- what a log does goes with what it is for
 abbrev pub Fits : Machine → Type 0

@@ -139,6 +139,7 @@ module _ {O E T : Type 0} (o : owners.Ghosts O) (e : engine.Ghosts E T) (engine_
         answered = waits.answered;
         newest = waits.newest;
         noted = waits.noted;
+        later = λ call has newer. subst (λ (l : List Waiting). Contains l call) (sym calls) (waits.later call has newer);
         needs = needs;
         needed = All-cons (AreNeededBy e engine_is needs first waits.middle b moment) wants waits.needs
             (inr (record { before = a; tidy = tidy; is = is; fair = fair; keeps = λ at. ⊎_elim (λ same. inl same) (λ one. inr (wants, front wants waits.needs, one)) (keeps at) }))
@@ -166,6 +167,7 @@ sent_waits o e engine_is node moment session said before after out out_then IsAs
   answered = waits.answered;
   newest = waits.newest;
   noted = waits.noted;
+  later = λ call has newer. subst (λ (l : List Waiting). Contains l call) (sym calls) (waits.later call has newer);
   needs = waits.needs;
   needed = needed_as e engine_is waits.needs first waits.middle moment a b calls cache waits.needed;
   wanted = waits.wanted;

@@ -81,6 +81,7 @@ module _ {O E T : Type 0} (o : owners.Ghosts O) (e : engine.Ghosts E T) (engine_
     answered = stood.answered;
     newest = stood.newest;
     noted = stood.noted;
+    later = stood.later;
     needs = stood.needs;
     needed = needed_as e engine_is stood.needs first stood.middle moment machine (record machine { mark = mark; ticks = ticks; tidy = tidy }) refl refl stood.needed;
     wanted = stood.wanted;

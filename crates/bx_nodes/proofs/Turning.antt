@@ -1,5 +1,5 @@
 -- What a node waits for at the end of a turn.
-use Rattle.std.proofs.Common.{◌≡◌, ◌⊎◌, ⊎_elim, ◌∙◌, inl, inr, ℕ, ◌+◌, ◌<◌, ◌≤◌, true, List, [], ◌∷◌, ◌++◌, length, Contains, All, Option, Some, None, IfSome, IsSome, refl, sym, ap, subst, arith}
+use Rattle.std.proofs.Common.{◌≡◌, ◌⊎◌, ⊎_elim, ◌∙◌, inl, inr, ℕ, ◌+◌, ◌<◌, ◌≤◌, false, true, List, [], ◌∷◌, ◌++◌, length, Contains, All, Option, Some, None, IfSome, IsSome, refl, sym, ap, subst, arith}
 use Rattle.std.specs.List.{AllByRecursion}
 use Rattle.std.specs.Prelude.{IsSomeAnd}
 use Rattle.std.proofs.lemmas.Bool.Decides.{nat_tests}
@@ -17,15 +17,17 @@ use Rattle.bx_node_steps.specs.declared.machine.Stage.{Stage}
 use Rattle.bx_node_steps.specs.declared.machine.Stage.TheVariants.{Idle}
 use Rattle.bx_node_tries.specs.declared.round.Said.{Said}
 use Rattle.bx_node_steps.specs.declared.machine.Machine.{Machine}
-use Rattle.bx_node_tries.specs.Tries.{AllGo, AreNeeded, Goes, MayWait}
+use Rattle.bx_node_tries.specs.Tries.{AllGo, AreNeeded, Goes, MayWait, is_newer}
 use Rattle.bx_node_tries.specs.Tries.AllGo.{MoreGo, NoneGo}
 use Rattle.bx_node_tries.specs.Tries.Goes.{Answered, Begins, Needs as Needing, Stays}
 use Rattle.bx_node_tries.specs.Tries.MayWait.{Changes, Newer, Over as IsOver, Wants}
+use Rattle.bx_node_steps.proofs.Order.{wait_still}
+use Rattle.bx_node_tries.specs.declared.round.Begun.{Begun}
 use Rattle.bx_node_tries.specs.declared.round.Round.{Round}
 use Rattle.bx_node_tries.specs.declared.round.Waiting.{Waiting}
 use Rattle.bx_nodes.specs.Asks.{KeepsUnneeded, OnlyHolds}
 use Rattle.bx_nodes.specs.Going.{Settle}
-use Rattle.bx_nodes.specs.Sending.{IsSentBy, StepsLog}
+use Rattle.bx_nodes.specs.Sending.{BeginsBy, IsSentBy, StepsLog}
 use Rattle.bx_nodes.specs.declared.answers.Attempted.{Attempted}
 use Rattle.bx_nodes.proofs.Machines.{count_waiting}
 use Rattle.bx_records.specs.Runs.{KindAndRuns}
@@ -44,13 +46,13 @@ use Rattle.bx_views.specs.declared.engine.Engine as engine
 pushed : {A : Type 0} (items later : List A) (item : A) → later ≡ items ++ item ∷ [] → length later ≡ length items + 1
 pushed items later item is = ap length is ∙ length-append items (item ∷ [])
 
-one_goes : (moment : ℕ) (call : Waiting) (old new : Round) → Goes moment call old new → length new.waiting.items + length new.said.items ≤ length old.waiting.items + length old.said.items + 1
+one_goes : {newest : Option ℕ} (moment : ℕ) (call : Waiting) (old new : Round) → Goes newest moment call old new → length new.waiting.items + length new.said.items ≤ length old.waiting.items + length old.said.items + 1
 one_goes moment call old new (Stays waits said begun needs) = let w = pushed old.waiting.items new.waiting.items call waits in let s = ap length said in omega (arith, w, s)
-one_goes moment call old new (Needing wants waits said begun needs) = let w = pushed old.waiting.items new.waiting.items call waits in let s = ap length said in omega (arith, w, s)
-one_goes moment call old new (Answered one is said waits begun needs) = let s = pushed old.said.items new.said.items one said in let w = ap length waits in omega (arith, w, s)
-one_goes moment call old new (Begins none begun said waits needs) = let s = ap length said in let w = ap length waits in omega (arith, w, s)
+one_goes moment call old new (Needing wants waits said begun needs older) = let w = pushed old.waiting.items new.waiting.items call waits in let s = ap length said in omega (arith, w, s)
+one_goes moment call old new (Answered one is said waits begun needs older) = let s = pushed old.said.items new.said.items one said in let w = ap length waits in omega (arith, w, s)
+one_goes moment call old new (Begins none begun said waits needs older) = let s = ap length said in let w = ap length waits in omega (arith, w, s)
 
-pub all_go : (moment : ℕ) (calls : List Waiting) (old new : Round) → AllGo moment calls old new → length new.waiting.items + length new.said.items ≤ length old.waiting.items + length old.said.items + length calls
+pub all_go : {newest : Option ℕ} (moment : ℕ) (calls : List Waiting) (old new : Round) → AllGo newest moment calls old new → length new.waiting.items + length new.said.items ≤ length old.waiting.items + length old.said.items + length calls
 all_go moment calls old new (NoneGo round) = omega arith
 all_go moment calls old new (MoreGo before call first middle last all goes) =
     let one = one_goes moment call middle last goes in
@@ -76,9 +78,9 @@ all_need e engine_is held hints moment made calls needs same all = recursion_fro
 
 -- ---- calls that are attempted
 
-settled_from : (moment : ℕ) (calls : List Waiting) (old new : Round) → AllGo moment calls old new → (call : Waiting) → Contains new.waiting.items call → Contains old.waiting.items call ⊎ Contains calls call
+settled_from : {newest : Option ℕ} (moment : ℕ) (calls : List Waiting) (old new : Round) → AllGo newest moment calls old new → (call : Waiting) → Contains new.waiting.items call → Contains old.waiting.items call ⊎ Contains calls call
 settled_from moment calls old new (NoneGo round) call has = inl has
-settled_from moment calls old new (MoreGo before one first middle last all goes) call has = ⊎_elim
+settled_from {newest = newest} moment calls old new (MoreGo before one first middle last all goes) call has = ⊎_elim
     (λ old_one. ⊎_elim (λ was. inl was) (λ more. inr (Contains-append_left before (one ∷ []) call more)) (settled_from moment before first middle all call old_one))
     (λ is. inr (subst (Contains (before ++ one ∷ [])) is (Contains-push before one)))
     (by goes)
@@ -86,31 +88,31 @@ settled_from moment calls old new (MoreGo before one first middle last all goes)
     pushed_on : last.waiting.items ≡ middle.waiting.items ++ one ∷ [] → Contains middle.waiting.items call ⊎ (one ≡ call)
     pushed_on is = Contains-push_cases middle.waiting.items one call (subst (λ (l : List Waiting). Contains l call) is has)
 
-    by : Goes moment one middle last → Contains middle.waiting.items call ⊎ (one ≡ call)
+    by : Goes newest moment one middle last → Contains middle.waiting.items call ⊎ (one ≡ call)
     by (Stays waits said begun needs) = pushed_on waits
-    by (Needing wants waits said begun needs) = pushed_on waits
-    by (Answered answer is said waits begun needs) = inl (subst (λ (l : List Waiting). Contains l call) waits has)
-    by (Begins none begun said waits needs) = inl (subst (λ (l : List Waiting). Contains l call) waits has)
+    by (Needing wants waits said begun needs older) = pushed_on waits
+    by (Answered answer is said waits begun needs older) = inl (subst (λ (l : List Waiting). Contains l call) waits has)
+    by (Begins none begun said waits needs older) = inl (subst (λ (l : List Waiting). Contains l call) waits has)
 
 -- Where none is answered and none begins a record, all wait on.
-settled_all : (moment : ℕ) (calls : List Waiting) (old new : Round) → AllGo moment calls old new → new.said.items ≡ [] → new.begun ≡ None → new.waiting.items ≡ old.waiting.items ++ calls
+settled_all : {newest : Option ℕ} (moment : ℕ) (calls : List Waiting) (old new : Round) → AllGo newest moment calls old new → new.said.items ≡ [] → new.begun ≡ None → new.waiting.items ≡ old.waiting.items ++ calls
 settled_all moment calls old new (NoneGo round) said begun = sym (append-nil round.waiting.items)
-settled_all moment calls old new (MoreGo before one first middle last all goes) none_said none_begun = by (λ said begun. settled_all moment before first middle all said begun) goes
+settled_all {newest = newest} moment calls old new (MoreGo before one first middle last all goes) none_said none_begun = by (λ said begun. settled_all moment before first middle all said begun) goes
   where
     on : (middle.said.items ≡ [] → middle.begun ≡ None → middle.waiting.items ≡ first.waiting.items ++ before) → last.waiting.items ≡ middle.waiting.items ++ one ∷ [] → last.said.items ≡ middle.said.items → last.begun ≡ middle.begun
         → last.waiting.items ≡ first.waiting.items ++ (before ++ one ∷ [])
     on earlier waits said begun = waits ∙ ap (λ (l : List Waiting). l ++ one ∷ []) (earlier (sym said ∙ none_said) (sym begun ∙ none_begun)) ∙ append_assoc first.waiting.items before (one ∷ [])
 
-    by : (middle.said.items ≡ [] → middle.begun ≡ None → middle.waiting.items ≡ first.waiting.items ++ before) → Goes moment one middle last → last.waiting.items ≡ first.waiting.items ++ (before ++ one ∷ [])
+    by : (middle.said.items ≡ [] → middle.begun ≡ None → middle.waiting.items ≡ first.waiting.items ++ before) → Goes newest moment one middle last → last.waiting.items ≡ first.waiting.items ++ (before ++ one ∷ [])
     by earlier (Stays waits said begun needs) = on earlier waits said begun
-    by earlier (Needing wants waits said begun needs) = on earlier waits said begun
-    by earlier (Answered answer is said waits begun needs) = absurd (let e = ap (λ (l : List Said). length l) (sym said ∙ none_said) in let n = length-append middle.said.items (answer ∷ []) in omega (arith, e, n))
-    by earlier (Begins none begun said waits needs) = absurd (subst (λ b. IsSomeAnd b (λ begins. begins.call ≡ one)) none_begun begun)
+    by earlier (Needing wants waits said begun needs older) = on earlier waits said begun
+    by earlier (Answered answer is said waits begun needs older) = absurd (let e = ap (λ (l : List Said). length l) (sym said ∙ none_said) in let n = length-append middle.said.items (answer ∷ []) in omega (arith, e, n))
+    by earlier (Begins none begun said waits needs older) = absurd (subst (λ b. IsSomeAnd b (λ begins. begins.call ≡ one)) none_begun begun)
 
 -- Where none begins a record, each waits on or is answered.
-settled_each : (moment : ℕ) (calls : List Waiting) (old new : Round) → AllGo moment calls old new → new.begun ≡ None → (call : Waiting) → Contains calls call → Contains new.waiting.items call ⊎ IsAnswered new.said.items call.number
+settled_each : {newest : Option ℕ} (moment : ℕ) (calls : List Waiting) (old new : Round) → AllGo newest moment calls old new → new.begun ≡ None → (call : Waiting) → Contains calls call → Contains new.waiting.items call ⊎ IsAnswered new.said.items call.number
 settled_each moment calls old new (NoneGo round) none_begun call has = absurd (nothing call has)
-settled_each moment calls old new (MoreGo before one first middle last all goes) none_begun call has = by (λ begun before_it. settled_each moment before first middle all begun call before_it) goes
+settled_each {newest = newest} moment calls old new (MoreGo before one first middle last all goes) none_begun call has = by (λ begun before_it. settled_each moment before first middle all begun call before_it) goes
   where
     Earlier : Type 0
     Earlier = middle.begun ≡ None → Contains before call → Contains middle.waiting.items call ⊎ IsAnswered middle.said.items call.number
@@ -122,31 +124,62 @@ settled_each moment calls old new (MoreGo before one first middle last all goes)
         (λ is. inl (subst (λ (l : List Waiting). Contains l call) (sym waits) (subst (Contains (middle.waiting.items ++ one ∷ [])) is (Contains-push middle.waiting.items one))))
         (Contains-push_cases before one call has)
 
-    by : Earlier → Goes moment one middle last → Contains last.waiting.items call ⊎ IsAnswered last.said.items call.number
+    by : Earlier → Goes newest moment one middle last → Contains last.waiting.items call ⊎ IsAnswered last.said.items call.number
     by earlier (Stays waits said begun needs) = on earlier waits said begun
-    by earlier (Needing wants waits said begun needs) = on earlier waits said begun
-    by earlier (Answered answer is said waits begun needs) = ⊎_elim
+    by earlier (Needing wants waits said begun needs older) = on earlier waits said begun
+    by earlier (Answered answer is said waits begun needs older) = ⊎_elim
         (λ older. ⊎_elim (λ waiting. inl (subst (λ (l : List Waiting). Contains l call) (sym waits) waiting))
         (λ answered. inr (record { one = answered.one; there = subst (λ (l : List Said). Contains l answered.one) (sym said) (Contains-append_left middle.said.items (answer ∷ []) answered.one answered.there); same = answered.same }))
         (earlier (sym begun ∙ none_begun) older))
         (λ same. inr (record { one = answer; there = subst (λ (l : List Said). Contains l answer) (sym said) (Contains-push middle.said.items answer); same = is.number ∙ ap (λ (w : Waiting). w.number) same }))
         (Contains-push_cases before one call has)
-    by earlier (Begins none begun said waits needs) = absurd (subst (λ b. IsSomeAnd b (λ begins. begins.call ≡ one)) none_begun begun)
+    by earlier (Begins none begun said waits needs older) = absurd (subst (λ b. IsSomeAnd b (λ begins. begins.call ≡ one)) none_begun begun)
+
+-- One that is newer than those that are attempted waits on.
+settled_newer : {newest : Option ℕ} (moment : ℕ) (calls : List Waiting) (old new : Round) → AllGo newest moment calls old new → (call : Waiting) → Contains calls call → is_newer newest call.number ≡ true → Contains new.waiting.items call
+settled_newer moment calls old new (NoneGo round) call has newer = absurd (nothing call has)
+settled_newer {newest = newest} moment calls old new (MoreGo before one first middle last all goes) call has newer = by (λ before_it. settled_newer moment before first middle all call before_it newer) goes
+  where
+    Earlier : Type 0
+    Earlier = Contains before call → Contains middle.waiting.items call
+
+    pushed_on : Earlier → last.waiting.items ≡ middle.waiting.items ++ one ∷ [] → Contains last.waiting.items call
+    pushed_on earlier waits = subst (λ (l : List Waiting). Contains l call) (sym waits) (⊎_elim
+        (λ older. Contains-append_left middle.waiting.items (one ∷ []) call (earlier older))
+        (λ is. subst (Contains (middle.waiting.items ++ one ∷ [])) is (Contains-push middle.waiting.items one)) (Contains-push_cases before one call has))
+
+    is_older : Earlier → last.waiting.items ≡ middle.waiting.items → is_newer newest one.number ≡ false → Contains last.waiting.items call
+    is_older earlier waits older = subst (λ (l : List Waiting). Contains l call) (sym waits) (⊎_elim earlier
+        (λ is. absurd (let wrong = sym newer ∙ sym (ap (λ (w : Waiting). is_newer newest w.number) is) ∙ older in cc)) (Contains-push_cases before one call has))
+
+    by : Earlier → Goes newest moment one middle last → Contains last.waiting.items call
+    by earlier (Stays waits said begun needs) = pushed_on earlier waits
+    by earlier (Needing wants waits said begun needs older) = pushed_on earlier waits
+    by earlier (Answered answer is said waits begun needs older) = is_older earlier waits older
+    by earlier (Begins none begun said waits needs older) = is_older earlier waits older
 
 -- So at a node.
-pub settles_of : (moment : ℕ) (a b : Machine) (attempted : Attempted) → Settle moment (Some a) (Some b) attempted → AreOf a.calls.items b.calls.items
+pub settles_of : {newest : Option ℕ} (moment : ℕ) (a b : Machine) (attempted : Attempted) → Settle newest moment (Some a) (Some b) attempted → AreOf a.calls.items b.calls.items
 settles_of moment a b attempted settles call has = ⊎_elim
     (λ none. absurd (nothing call (subst (λ (l : List Waiting). Contains l call) settles.none.waiting none))) (λ is. is)
     (settled_from moment a.calls.items settles.first (record { said = attempted.said; waiting = b.calls; begun = attempted.begun; needs = attempted.needs }) settles.go call has)
 
-pub settles_each : (moment : ℕ) (a b : Machine) (attempted : Attempted) → Settle moment (Some a) (Some b) attempted → attempted.begun ≡ None → (call : Waiting) → Contains a.calls.items call → Contains b.calls.items call ⊎ IsAnswered attempted.said.items call.number
+pub settles_each : {newest : Option ℕ} (moment : ℕ) (a b : Machine) (attempted : Attempted) → Settle newest moment (Some a) (Some b) attempted → attempted.begun ≡ None → (call : Waiting) → Contains a.calls.items call → Contains b.calls.items call ⊎ IsAnswered attempted.said.items call.number
 settles_each moment a b attempted settles none_begun =
     settled_each moment a.calls.items settles.first (record { said = attempted.said; waiting = b.calls; begun = attempted.begun; needs = attempted.needs }) settles.go none_begun
 
-pub settles_all : (moment : ℕ) (a b : Machine) (attempted : Attempted) → Settle moment (Some a) (Some b) attempted → attempted.said.items ≡ [] → attempted.begun ≡ None → b.calls.items ≡ a.calls.items
+pub settles_all : {newest : Option ℕ} (moment : ℕ) (a b : Machine) (attempted : Attempted) → Settle newest moment (Some a) (Some b) attempted → attempted.said.items ≡ [] → attempted.begun ≡ None → b.calls.items ≡ a.calls.items
 settles_all moment a b attempted settles none_said none_begun =
     settled_all moment a.calls.items settles.first (record { said = attempted.said; waiting = b.calls; begun = attempted.begun; needs = attempted.needs }) settles.go none_said none_begun
     ∙ ap (λ (l : List Waiting). l ++ a.calls.items) settles.none.waiting
+
+pub settles_newer : {newest : Option ℕ} (moment : ℕ) (a b : Machine) (attempted : Attempted) → Settle newest moment (Some a) (Some b) attempted → (call : Waiting) → Contains a.calls.items call → is_newer newest call.number ≡ true → Contains b.calls.items call
+settles_newer moment a b attempted settles =
+    settled_newer moment a.calls.items settles.first (record { said = attempted.said; waiting = b.calls; begun = attempted.begun; needs = attempted.needs }) settles.go
+
+-- Where one of them begins a record, those that waited behind the attempts still wait.
+pub begins_still : (moment : ℕ) (begins : Begun) (own : Option ℕ) (until : ℕ) (out : Option Sent) (a b : Machine) → BeginsBy moment begins own until out a b → (call : Waiting) → Contains a.calls.items call → Contains b.calls.items call
+begins_still moment begins own until out a b begun = wait_still begun.recording.waits a.calls.items b.calls.items begun.sends.begins.calls
 
 pub none_said : (said : List Said) → length said ≡ 0 → said ≡ []
 none_said [] is = refl
@@ -166,17 +199,22 @@ module _ {O E T : Type 0} (o : owners.Ghosts O) (e : engine.Ghosts E T) (engine_
   first_given : GivesBack o node session back before (record old { calls = given.calls }) between given
   first_given = subst (λ (m : Machine). GivesBack o node session back before m between given) (sym (same_calls old given held)) gives
 
+  -- A call that is newer than those that are attempted waits on.
+  abbrev pub NewerWait : Option ℕ → Machine → Type 0
+  NewerWait newest machine = (call : Waiting) → Contains given.calls.items call → is_newer newest call.number ≡ true → Contains machine.calls.items call
+
   -- A record begins.
-  pub begun : (machine : Machine) → IsSome out → after ≡ between → Waits o e engine_is node moment session said before after out IsAsked old machine
-  begun machine some same = record {
+  pub begun : (machine : Machine) (newest : Option ℕ) → newest ≡ newest_of (first_of (o.asks between node)) given → NewerWait newest machine → IsSome out → after ≡ between → Waits o e engine_is node moment session said before after out IsAsked old machine
+  begun machine newest noted later some same = record {
     middle = given;
     between = between;
     back = back;
     given = first_given;
     calls = λ call has. subst (λ (l : List Waiting). Contains l call) first_calls has;
     answered = λ call has. inl (subst (λ (l : List Waiting). Contains l call) (sym first_calls) has);
-    newest = newest_of (first_of (o.asks between node)) given;
-    noted = refl;
+    newest = newest;
+    noted = noted;
+    later = later;
     needs = [];
     needed = All-nil (AreNeededBy e engine_is [] old given machine moment);
     wanted = wanted_none o node (IsInNeeds []) between after same;
@@ -195,11 +233,11 @@ module _ {O E T : Type 0} (o : owners.Ghosts O) (e : engine.Ghosts E T) (engine_
 
   -- Its calls were attempted, none began a record, and what they need was asked for.
   pub rested : (tried machine : Machine) (newest : Option ℕ) (needs : List (List (ℕ × Mode))) → newest ≡ newest_of (first_of (o.asks between node)) given
-      → tried ≡ record given { calls = tried.calls } → (newest ≡ None) ⊎ (tried.calls.items ≡ given.calls.items) → OnlyHolds tried machine → KeepsUnneeded needs tried machine → AreWanted o node (IsInNeeds needs) between after
+      → tried ≡ record given { calls = tried.calls } → NewerWait newest tried → (newest ≡ None) ⊎ (tried.calls.items ≡ given.calls.items) → OnlyHolds tried machine → KeepsUnneeded needs tried machine → AreWanted o node (IsInNeeds needs) between after
       → All (MayWait e engine_is (held_in tried.cache.kept) (hint_in tried.cache.hinted) moment newest true needs) tried.calls.items
       → All (AreNeeded e engine_is (held_in tried.cache.kept) (hint_in tried.cache.hinted) moment tried.calls.items) needs → AllByRecursion (AllByRecursion (λ wanted. IsAsked wanted.0)) needs
       → Waits o e engine_is node moment session said before after out IsAsked old machine
-  rested tried machine newest needs noted attempted left only keeps wanted waits needed asking =
+  rested tried machine newest needs noted attempted later left only keeps wanted waits needed asking =
       let calls : machine.calls.items ≡ tried.calls.items = ap (λ (m : Machine). m.calls.items) only in
       let cache : tried.cache ≡ given.cache = ap (λ (m : Machine). m.cache) attempted in
       record {
@@ -211,6 +249,7 @@ module _ {O E T : Type 0} (o : owners.Ghosts O) (e : engine.Ghosts E T) (engine_
         answered = λ call has. inl (subst (λ (l : List Waiting). Contains l call) (sym first_calls) has);
         newest = newest;
         noted = noted;
+        later = λ call has newer. subst (λ (l : List Waiting). Contains l call) (sym calls) (later call has newer);
         needs = needs;
         needed = All-weaker (AreNeeded e engine_is (held_in tried.cache.kept) (hint_in tried.cache.hinted) moment tried.calls.items) (AreNeededBy e engine_is needs old given machine moment)
             (λ wants need. inl (subst (λ (l : List Waiting). AreNeeded e engine_is (held_in given.cache.kept) (hint_in given.cache.hinted) moment l wants) (sym calls)
@@ -245,6 +284,7 @@ module _ {O E T : Type 0} (o : owners.Ghosts O) (e : engine.Ghosts E T) (engine_
             (answered call (subst (λ (l : List Waiting). Contains l call) (sym first_calls) has));
         newest = waits.newest;
         noted = waits.noted;
+        later = waits.later;
         needs = waits.needs;
         needed = All-weaker (AreNeededBy e engine_is waits.needs tried waits.middle machine moment) (AreNeededBy e engine_is waits.needs old waits.middle machine moment)
             (λ wants need. ⊎_elim (λ calls. inl calls)
@@ -269,6 +309,7 @@ answered_more o e engine_is node moment session earlier later said before after 
       (λ one. inr (subst (λ (l : List Said). IsAnswered l call.number) (sym is) (record { one = one.one; there = Contains-append_right earlier later one.one one.there; same = one.same }))) (waits.answered call has);
   newest = waits.newest;
   noted = waits.noted;
+  later = waits.later;
   needs = waits.needs;
   needed = waits.needed;
   wanted = waits.wanted;
@@ -285,10 +326,10 @@ waiting_same None new some some_then only = absurd (some refl)
 waiting_same (Some a) None some some_then only = absurd (some_then refl)
 waiting_same (Some a) (Some b) some some_then only = ap (λ (m : Machine). length m.calls.items) only
 
-pub fewer_wait : (moment : ℕ) (old new : Option Machine) (attempted : Attempted) → Settle moment old new attempted → 0 < length attempted.said.items → count_waiting new < count_waiting old
-fewer_wait moment None new attempted settles some = absurd settles
-fewer_wait moment (Some old) None attempted settles some = absurd settles
-fewer_wait moment (Some old) (Some new) attempted settles some =
+pub fewer_wait : (newest : Option ℕ) (moment : ℕ) (old new : Option Machine) (attempted : Attempted) → Settle newest moment old new attempted → 0 < length attempted.said.items → count_waiting new < count_waiting old
+fewer_wait newest moment None new attempted settles some = absurd settles
+fewer_wait newest moment (Some old) None attempted settles some = absurd settles
+fewer_wait newest moment (Some old) (Some new) attempted settles some =
     let all = all_go moment old.calls.items settles.first _ settles.go in
     let said = ap length settles.none.said in
     let waits = ap length settles.none.waiting in

@@ -79,8 +79,8 @@ abbrev pub AreNeededBy : {E T : Type 0} → engine.Ghosts E T → E → List (Li
 AreNeededBy e engine_is needs first middle machine moment wants = AreNeeded e engine_is (held_in middle.cache.kept) (hint_in middle.cache.hinted) moment machine.calls.items wants ⊎ IsForTidy e engine_is needs first machine wants
 
 -- What a node waits for at the end of a turn at a moment, of what it and owners had when it began to give back. It gave back what it may, by the calls that waited at the last attempts: those that
--- waited when it began, but for some that are answered. These were attempted over what it had then, and each that waits still has its cause; none of them was answered there, unless no block is
--- asked back any more. Of owners it wants nothing but what they need, or its tidy; and where no write is out, something is out for each of these blocks, or there is a reason why not.
+-- waited when it began, but for some that are answered. These were attempted over what it had then, and each that waits still has its cause; each that is newer than those that a block is
+-- kept for waits on, and none of them was answered there, unless no block is asked back any more. Of owners it wants nothing but what they need, or its tidy; and where no write is out, something is out for each of these blocks, or there is a reason why not.
 pub record Waits {O E T : Type 0} (o : owners.Ghosts O) (e : engine.Ghosts E T) (engine_is : E) (node moment session : ℕ) (said : List Said) (before after : O) (out : Option Sent) (IsAsked : ℕ → Type 0) (first machine : Machine) : Type 0 where
   pub middle : Machine
   pub between : O
@@ -90,6 +90,7 @@ pub record Waits {O E T : Type 0} (o : owners.Ghosts O) (e : engine.Ghosts E T) 
   pub answered : (call : Waiting) → Contains first.calls.items call → Contains middle.calls.items call ⊎ IsAnswered said call.number
   pub newest : Option ℕ
   pub noted : newest ≡ newest_of (first_of (o.asks between node)) middle
+  pub later : (call : Waiting) → Contains middle.calls.items call → is_newer newest call.number ≡ true → Contains machine.calls.items call
   pub needs : List (List (ℕ × Mode))
   pub needed : All (AreNeededBy e engine_is needs first middle machine moment) needs
   pub wanted : AreWanted o node (IsInNeeds needs) between after

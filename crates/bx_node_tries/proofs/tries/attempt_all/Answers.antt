@@ -66,4 +66,4 @@ returns-clause-goes g c =
     let first : Round = record { said = c.new.result; waiting = c.new-2.result; begun = None; needs = c.new-3.result } in
     let gives = c.into_iter-call-iterator.ensures.into_iter_gives in
     let all = YieldsList-end (YieldsList-from_vec c.args.calls.items gives.0 (omega (arith, gives.1))) c.loop-call.yielded _ c.loop-call.yielded_by c.next.result c.next.new.self c.in-None.is c.next.ensures.steps in
-    (first, c.loop-call.invariant.7, subst (λ (l : List Waiting). AllGo c.args.moment l first c.loop-call.round) (sym (all_of c.loop-call.yielded) ∙ all.0) c.loop-call.invariant.4)
+    (first, c.loop-call.invariant.7, subst (λ (l : List Waiting). AllGo c.args.newest c.args.moment l first c.loop-call.round) (sym (all_of c.loop-call.yielded) ∙ all.0) c.loop-call.invariant.4)

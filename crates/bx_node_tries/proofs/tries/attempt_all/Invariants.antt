@@ -11,7 +11,7 @@ invariant-loop-call g l =
     ((truth : Truth) (first : g.row.E-Tree.Denot) → IsTruth (g.V.View.held l.view) truth → g.E.Engine.stands l.engine truth (g.V.View.hints l.view) first
     → LedTo (g.E.Engine.stands l.engine) (g.E.Engine.step l.engine) (g.E.Engine.free l.engine truth) truth first l.round.said.items) ×
     (l.round.begun ≡ None → All (MayWait g.E.Engine l.engine (g.V.View.held l.view) (g.V.View.hints l.view) l.moment l.newest l.may_begin l.round.needs.items) l.round.waiting.items) ×
-    AllGo l.moment l.yielded l.initial.round l.round ×
+    AllGo l.newest l.moment l.yielded l.initial.round l.round ×
     IfSome l.round.begun (IsToBegin g.E.Engine l.engine (g.V.View.held l.view) (g.V.View.hints l.view) l.moment) ×
     (l.may_begin ≡ false → l.round.begun ≡ None) ×
     AreNone l.initial.round ×

@@ -1,4 +1,4 @@
-use Rattle.std.proofs.Common.{◌≡◌, ◌⊎◌, ◌∙◌, inl, inr, ℕ, ◌<◌, ◌++◌, [], true, false, List, length, Option, None, Some, IfSome, IsSome, refl, sym, ap, subst, arith, rules, All}
+use Rattle.std.proofs.Common.{◌≡◌, ◌⊎◌, ◌∙◌, inl, inr, ℕ, ◌<◌, ◌++◌, [], true, false, Contains, List, length, Option, None, Some, IfSome, IsSome, refl, sym, ap, subst, arith, rules, All}
 use Rattle.std.specs.Prelude.{◌==◌, not, slice_get}
 use Rattle.std.specs.Vec.{vec_len}
 use Rattle.std.proofs.lemmas.Bool.Decides.{nat_tests}
@@ -21,7 +21,7 @@ use Rattle.bx_nodes.specs.Turns.{Turned, Waits, newest_of}
 use Rattle.bx_nodes.proofs.Calling.{AnswersThere, answers_still, answers_then, begun_there, held_there, idle_there, session_begun, session_held, session_then, session_tried, tried_rests, tried_there}
 use Rattle.bx_nodes.proofs.Leading.{later_turned, turned_later, turned_on, turned_still}
 use Rattle.bx_nodes.proofs.Machines.{count_waiting, if_and, if_new, if_some, if_then, if_two, is_some_there, none_of, of_there, there_is, two_there, under_then, was_there}
-use Rattle.bx_nodes.proofs.Turning.{again, all_need, begun, fewer_wait, none_said, rested, settles_all, settles_each, settles_of, some_sent, waiting_same}
+use Rattle.bx_nodes.proofs.Turning.{again, all_need, begins_still, begun, fewer_wait, none_said, rested, settles_all, settles_each, settles_newer, settles_of, some_sent, waiting_same}
 use Rattle.bx_nodes.proofs.Tidying.{tidy_begun, tidy_held, tidy_then, tidy_tried}
 use Rattle.bx_nodes.proofs.nodes.Nodes.+rounds.Goals as goal
 use Rattle.bx_nodes.proofs.nodes.Nodes.+rounds.Goals.{then-is_empty-via-then-is_empty, then-is_empty-via-else-is_empty+then-is_none}
@@ -73,19 +73,25 @@ returns-in-Some-clause-waits g t c =
     let gives = two_there (λ a b. (back : List ℕ) × GivesBack g.O.Owners node session back owners a given.owners b) (slice_get items node) (slice_get given.machines.items node) old_is.0 given_is.0 old_is.1 given_is.1 c.in_ok-give_back.ensures.gives in
     let held = two_there OnlyHolds (slice_get items node) (slice_get given.machines.items node) old_is.0 given_is.0 old_is.1 given_is.1 c.in_ok-give_back.ensures.only in
     let attempted = two_there (λ a b. b ≡ record a { calls = b.calls }) (slice_get given.machines.items node) (slice_get tried.machines.items node) given_is.0 tried_is.0 given_is.1 tried_is.1 c.in_ok-said.ensures.only in
-    let settles = subst (λ (m : Option Machine). Settle moment m (Some tried_is.0) c.in_ok-said.field-0) given_is.1
-    (subst (λ (m : Option Machine). Settle moment (slice_get given.machines.items node) m c.in_ok-said.field-0) tried_is.1 c.in_ok-said.ensures.goes) in
+    let settles = subst (λ (m : Option Machine). Settle c.newest_asked-newest.result moment m (Some tried_is.0) c.in_ok-said.field-0) given_is.1
+    (subst (λ (m : Option Machine). Settle c.newest_asked-newest.result moment (slice_get given.machines.items node) m c.in_ok-said.field-0) tried_is.1 c.in_ok-said.ensures.goes) in
     let new = c.begin.new.self in
+    let newest = c.newest_asked-newest.result in
+    let noted = of_there (λ (m : Machine). newest ≡ newest_of (first_of (g.O.Owners.asks given.owners node)) m) (slice_get given.machines.items node) given_is.0 given_is.1 c.newest_asked-newest.ensures in
     let own = g.S.Store.own tried.store node in
     let out = g.S.Store.out_of new.store node in
     let Asks : ℕ → Type 0 = λ at. Asking g.G.Register g.O.Owners new node at in
     let is_own : IsSome own = subst (λ s. IsSome (g.S.Store.own s node)) (sym c.in_ok-said.ensures.parts.2) (subst (λ s. IsSome (g.S.Store.own s node)) (sym c.in_ok-give_back.ensures.parts.2) c.requires.sessions.1) in
     was_there (λ (a : Machine). IfSome (slice_get new.machines.items node) (Waits g.O.Owners e new.engine node moment session c.in_ok-said.field-0.said.items owners new.owners out Asks a)) (slice_get items node) old_is.0 old_is.1
-    (if_new (slice_get tried.machines.items node) (slice_get new.machines.items node) (BeginsBy moment c.in-Some.begun own c.args.lease.until out)
+    (if_new (slice_get tried.machines.items node) (slice_get new.machines.items node) (λ a b. (a ≡ tried_is.0) × BeginsBy moment c.in-Some.begun own c.args.lease.until out a b)
     (Waits g.O.Owners e new.engine node moment session c.in_ok-said.field-0.said.items owners new.owners out Asks old_is.0) (is_some_there tried.machines.items node less_then)
-    (λ a b begins. begun g.O.Owners e new.engine node moment session c.in_ok-said.field-0.said.items owners given.owners new.owners gives.0 out Asks old_is.0 given_is.0 gives.1 held b (some_sent own c.args.lease.until begins.sends.runs out is_own begins.sends.sent)
+    (λ a b both. begun g.O.Owners e new.engine node moment session c.in_ok-said.field-0.said.items owners given.owners new.owners gives.0 out Asks old_is.0 given_is.0 gives.1 held b newest noted
+    (λ call has newer. begins_still moment c.in-Some.begun own c.args.lease.until out a b both.1 call
+    (subst (λ (m : Machine). Contains m.calls.items call) (sym both.0) (settles_newer moment given_is.0 tried_is.0 c.in_ok-said.field-0 settles call has newer)))
+    (some_sent own c.args.lease.until both.1.sends.runs out is_own both.1.sends.sent)
     (c.in_ok-begin.ensures.parts.1 ∙ c.in_ok-said.ensures.parts.1))
-    c.in_ok-begin.ensures.begins)
+    (if_two (slice_get tried.machines.items node) (slice_get new.machines.items node) (λ a. a ≡ tried_is.0) (BeginsBy moment c.in-Some.begun own c.args.lease.until out) (λ a b. (a ≡ tried_is.0) × BeginsBy moment c.in-Some.begun own c.args.lease.until out a b)
+    (λ a b is begins. (is, begins)) (was_there (λ a. a ≡ tried_is.0) (slice_get tried.machines.items node) tried_is.0 tried_is.1 refl) c.in_ok-begin.ensures.begins))
 
 pub ask_all-requires-clause-blocks : goal.ask_all-requires-clause-blocks
 ask_all-requires-clause-blocks g t c =
@@ -154,8 +160,8 @@ returns-then-is_empty-clause-waits g t c =
     let gives = two_there (λ a b. (back : List ℕ) × GivesBack g.O.Owners node session back owners a given.owners b) (slice_get items node) (slice_get given.machines.items node) old_is.0 given_is.0 old_is.1 given_is.1 c.in_ok-give_back.ensures.gives in
     let held = two_there OnlyHolds (slice_get items node) (slice_get given.machines.items node) old_is.0 given_is.0 old_is.1 given_is.1 c.in_ok-give_back.ensures.only in
     let attempted = two_there (λ a b. b ≡ record a { calls = b.calls }) (slice_get given.machines.items node) (slice_get tried.machines.items node) given_is.0 tried_is.0 given_is.1 tried_is.1 c.in_ok-said.ensures.only in
-    let settles = subst (λ (m : Option Machine). Settle moment m (Some tried_is.0) c.in_ok-said.field-0) given_is.1
-    (subst (λ (m : Option Machine). Settle moment (slice_get given.machines.items node) m c.in_ok-said.field-0) tried_is.1 c.in_ok-said.ensures.goes) in
+    let settles = subst (λ (m : Option Machine). Settle c.newest_asked-newest.result moment m (Some tried_is.0) c.in_ok-said.field-0) given_is.1
+    (subst (λ (m : Option Machine). Settle c.newest_asked-newest.result moment (slice_get given.machines.items node) m c.in_ok-said.field-0) tried_is.1 c.in_ok-said.ensures.goes) in
     let new = c.ask_all.new.self in
     let out = g.S.Store.out_of new.store node in
     let Asks : ℕ → Type 0 = λ at. Asking g.G.Register g.O.Owners new node at in
@@ -178,7 +184,7 @@ returns-then-is_empty-clause-waits g t c =
     ] in
     was_there (λ (a : Machine). IfSome (slice_get new.machines.items node) (Waits g.O.Owners e new.engine node moment session c.in_ok-said.field-0.said.items owners new.owners out Asks a)) (slice_get items node) old_is.0 old_is.1
     (if_new (slice_get tried.machines.items node) (slice_get new.machines.items node) (λ a b. (a ≡ tried_is.0) × OnlyHolds a b × KeepsUnneeded needs a b) (Waits g.O.Owners e new.engine node moment session c.in_ok-said.field-0.said.items owners new.owners out Asks old_is.0) (is_some_there tried.machines.items node less_then)
-    (λ a b both. rested g.O.Owners e new.engine node moment session c.in_ok-said.field-0.said.items owners given.owners new.owners gives.0 out Asks old_is.0 given_is.0 gives.1 held tried_is.0 b newest needs noted attempted left
+    (λ a b both. rested g.O.Owners e new.engine node moment session c.in_ok-said.field-0.said.items owners given.owners new.owners gives.0 out Asks old_is.0 given_is.0 gives.1 held tried_is.0 b newest needs noted attempted (settles_newer moment given_is.0 tried_is.0 c.in_ok-said.field-0 settles) left
     (subst (λ (m : Machine). OnlyHolds m b) both.0 both.1) (subst (λ (m : Machine). KeepsUnneeded needs m b) both.0 both.2) wanted waits needed
     (subst (λ (l : List (List (ℕ × Mode))). AllByRecursion (AllByRecursion (λ wanted. Asks wanted.0)) l) same c.in_ok-ask_all.ensures.asking))
     (if_two (slice_get tried.machines.items node) (slice_get new.machines.items node) (λ a. a ≡ tried_is.0) (λ a b. OnlyHolds a b × KeepsUnneeded needs a b) (λ a b. (a ≡ tried_is.0) × OnlyHolds a b × KeepsUnneeded needs a b) (λ a b is both. (is, both.0, both.1))
@@ -204,8 +210,8 @@ returns-clause-waits g t c =
     let gives = two_there (λ a b. (back : List ℕ) × GivesBack g.O.Owners node session back owners a given.owners b) (slice_get items node) (slice_get given.machines.items node) old_is.0 given_is.0 old_is.1 given_is.1 c.in_ok-give_back.ensures.gives in
     let held = two_there OnlyHolds (slice_get items node) (slice_get given.machines.items node) old_is.0 given_is.0 old_is.1 given_is.1 c.in_ok-give_back.ensures.only in
     let attempted = two_there (λ a b. b ≡ record a { calls = b.calls }) (slice_get given.machines.items node) (slice_get tried.machines.items node) given_is.0 tried_is.0 given_is.1 tried_is.1 c.in_ok-said.ensures.only in
-    let settles = subst (λ (m : Option Machine). Settle moment m (Some tried_is.0) c.in_ok-said.field-0) given_is.1
-    (subst (λ (m : Option Machine). Settle moment (slice_get given.machines.items node) m c.in_ok-said.field-0) tried_is.1 c.in_ok-said.ensures.goes) in
+    let settles = subst (λ (m : Option Machine). Settle c.newest_asked-newest.result moment m (Some tried_is.0) c.in_ok-said.field-0) given_is.1
+    (subst (λ (m : Option Machine). Settle c.newest_asked-newest.result moment (slice_get given.machines.items node) m c.in_ok-said.field-0) tried_is.1 c.in_ok-said.ensures.goes) in
     let new = c.rounds.new.self in
     let said = c.in_ok-said.field-0.said.items in
     let more = c.in_ok-more.more.items in
@@ -233,7 +239,7 @@ rounds-requires g t c κs within =
     let none : (vec_len c.in_ok-said.field-0.said == 0) ≡ false = sym c.is_empty.ensures ∙ c.if-is_empty.false in
     let few = c.in_ok-said.field-0.said.ok in
     let one_said : 0 < length c.in_ok-said.field-0.said.items = grind (arith, nat_tests, none, few) in
-    let fewer = fewer_wait c.args.reading (slice_get given.machines.items node) (slice_get tried.machines.items node) c.in_ok-said.field-0 c.in_ok-said.ensures.goes one_said in
+    let fewer = fewer_wait c.newest_asked-newest.result c.args.reading (slice_get given.machines.items node) (slice_get tried.machines.items node) c.in_ok-said.field-0 c.in_ok-said.ensures.goes one_said in
     let fall : count_waiting (slice_get tried.machines.items node) < count_waiting (slice_get items node) = omega (arith, same, fewer) in
     search (rules, fall)
 
@@ -280,7 +286,7 @@ returns-in-Some-clause-answers g t c =
     let said = c.in_ok-said.field-0.said.items in
     let new = c.begin.new.self in
     let one = held_there moment (slice_get items node) (slice_get given.machines.items node) c.requires.rests c.in_ok-give_back.ensures.only in
-    let two = begun_there moment (slice_get given.machines.items node) (slice_get tried.machines.items node) (slice_get new.machines.items node) c.in_ok-said.field-0 c.in-Some.begun (g.S.Store.own tried.store node) c.args.lease.until (g.S.Store.out_of new.store node)
+    let two = begun_there c.newest_asked-newest.result moment (slice_get given.machines.items node) (slice_get tried.machines.items node) (slice_get new.machines.items node) c.in_ok-said.field-0 c.in-Some.begun (g.S.Store.own tried.store node) c.args.lease.until (g.S.Store.out_of new.store node)
     c.in_ok-give_back.ensures.rests c.in_ok-said.ensures.goes c.in-Some.is c.in_ok-begin.ensures.begins in
     answers_then moment [] said (slice_get items node) (slice_get given.machines.items node) (slice_get new.machines.items node) some_given one two
 
@@ -332,7 +338,7 @@ returns-then-is_empty-clause-answers g t c =
     let new = c.ask_all.new.self in
     let rests = tried_rests (slice_get given.machines.items node) (slice_get tried.machines.items node) some_given c.in_ok-said.ensures.only c.in_ok-give_back.ensures.rests in
     let one = held_there moment (slice_get items node) (slice_get given.machines.items node) c.requires.rests c.in_ok-give_back.ensures.only in
-    let two = tried_there moment (slice_get given.machines.items node) (slice_get tried.machines.items node) c.in_ok-said.field-0 (idle_there (slice_get given.machines.items node) c.in_ok-give_back.ensures.rests) c.in_ok-said.ensures.only c.in_ok-said.ensures.goes c.in_default.is in
+    let two = tried_there c.newest_asked-newest.result moment (slice_get given.machines.items node) (slice_get tried.machines.items node) c.in_ok-said.field-0 (idle_there (slice_get given.machines.items node) c.in_ok-give_back.ensures.rests) c.in_ok-said.ensures.only c.in_ok-said.ensures.goes c.in_default.is in
     let three = held_there moment (slice_get tried.machines.items node) (slice_get new.machines.items node) rests c.in_ok-ask_all.ensures.only in
     answers_still moment said (slice_get items node) (slice_get tried.machines.items node) (slice_get new.machines.items node) some_tried
     (answers_then moment [] said (slice_get items node) (slice_get given.machines.items node) (slice_get tried.machines.items node) some_given one two) three
@@ -384,7 +390,7 @@ returns-clause-answers g t c =
     let said = c.in_ok-said.field-0.said.items in
     let new = c.rounds.new.self in
     let one = held_there moment (slice_get items node) (slice_get given.machines.items node) c.requires.rests c.in_ok-give_back.ensures.only in
-    let two = tried_there moment (slice_get given.machines.items node) (slice_get tried.machines.items node) c.in_ok-said.field-0 (idle_there (slice_get given.machines.items node) c.in_ok-give_back.ensures.rests) c.in_ok-said.ensures.only c.in_ok-said.ensures.goes c.in_default.is in
+    let two = tried_there c.newest_asked-newest.result moment (slice_get given.machines.items node) (slice_get tried.machines.items node) c.in_ok-said.field-0 (idle_there (slice_get given.machines.items node) c.in_ok-give_back.ensures.rests) c.in_ok-said.ensures.only c.in_ok-said.ensures.goes c.in_default.is in
     subst (λ (l : List Said). AnswersThere moment l (slice_get items node) (slice_get new.machines.items node)) (sym c.in_ok-append.ensures.items)
     (answers_then moment said c.in_ok-more.more.items (slice_get items node) (slice_get tried.machines.items node) (slice_get new.machines.items node) some_tried
     (answers_then moment [] said (slice_get items node) (slice_get given.machines.items node) (slice_get tried.machines.items node) some_given one two) c.in_ok-more.ensures.answers)

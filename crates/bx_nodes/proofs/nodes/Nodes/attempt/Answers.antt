@@ -32,9 +32,9 @@ returns g c =
           turned g.G.Register g.O.Owners g.S.Store (e.stands engine) (e.step engine) c.args.self.now.register c.args.self.now.owners c.args.self.now.store x letters clocks (seen items) (seen (slice_set items node after))
           course tree (e.free engine course.truth) round.said.items (seen_same items node before after was refl) stands (c.in_ok-round.ensures.led course.truth tree sees.0.is_truth sees.1);
       goes = let went = c.in_ok-round.ensures.goes in
-          subst (λ (m : Option Machine). Settle c.args.moment m (slice_get (slice_set items node after) node) attempted) (sym was)
-          (subst (λ (m : Option Machine). Settle c.args.moment (Some before) m attempted) (sym (set_here items node after before was))
-          (record { first = went.0; none = went.1; go = subst (λ (l : List Waiting). AllGo c.args.moment l went.0 round) (ap (λ v. v.items) c.replace-calls.ensures.value) went.2 }));
+          subst (λ (m : Option Machine). Settle c.args.newest c.args.moment m (slice_get (slice_set items node after) node) attempted) (sym was)
+          (subst (λ (m : Option Machine). Settle c.args.newest c.args.moment (Some before) m attempted) (sym (set_here items node after before was))
+          (record { first = went.0; none = went.1; go = subst (λ (l : List Waiting). AllGo c.args.newest c.args.moment l went.0 round) (ap (λ v. v.items) c.replace-calls.ensures.value) went.2 }));
       needs = put_there (λ (machine : Machine). All (AreNeeded e engine (held_in machine.cache.kept) (hint_in machine.cache.hinted) c.args.moment machine.calls.items) round.needs.items) items node after before was c.in_ok-round.ensures.needs;
       waits = λ none. put_there (λ (machine : Machine). All (MayWait e engine (held_in machine.cache.kept) (hint_in machine.cache.hinted) c.args.moment c.args.newest c.args.may_begin round.needs.items) machine.calls.items) items node after before was (c.in_ok-round.ensures.waits none);
       may = λ may. c.in_ok-round.ensures.may may;

@@ -1,4 +1,4 @@
-use Rattle.std.proofs.Common.{◌≡◌, ◌∙◌, inl, inr, ℕ, ◌<◌, ◌++◌, [], Option, IfSome, IsSome, refl, sym, ap, subst}
+use Rattle.std.proofs.Common.{◌≡◌, ◌∙◌, inl, inr, ℕ, ◌<◌, ◌++◌, [], Option, None, IfSome, IsSome, refl, sym, ap, subst}
 use Rattle.std.specs.Prelude.{slice_get}
 use Rattle.bx_facts.specs.Chains.{Chain, LivesIn, last}
 use Rattle.bx_node_steps.specs.declared.machine.Machine.{Machine}
@@ -19,7 +19,7 @@ returns-then-not-done-clause-answers g c =
     let old = c.args.self.now in
     let new = c.attempt.new.self in
     let fits = is_fits (g.S.Store.made old.store) (g.E.Engine.areas old.engine) (g.S.Store.asked old.store node) (slice_get old.machines.items node) c.requires.ready in
-    tried_there c.args.reading (slice_get old.machines.items node) (slice_get new.machines.items node) c.in_ok-attempted.attempted (numbered_there (slice_get old.machines.items node) fits) c.in_ok-attempted.ensures.only
+    tried_there None c.args.reading (slice_get old.machines.items node) (slice_get new.machines.items node) c.in_ok-attempted.attempted (numbered_there (slice_get old.machines.items node) fits) c.in_ok-attempted.ensures.only
     c.in_ok-attempted.ensures.goes (c.in_ok-attempted.ensures.may refl)
 
 pub returns-then-not-done-clause-session : goal.returns-then-not-done-clause-session

@@ -7,19 +7,19 @@ use Rattle.bx_facts.specs.Holds.{Hold, Holds, hold_of}
 use Rattle.bx_plain.specs.declared.rows.Row.{Row}
 use Rattle.bx_plain.specs.Fits.{own_in}
 use Rattle.bx_plain.specs.Grants.{Grants, IsAlike, IsAnswered, IsGone, IsGranted, IsLeft, NoneLeft, Passes}
-use Rattle.bx_plain.specs.Rows.{AllLet, floor_in, hold_in, is_row, row_in, rows_at, sessions_at, want_in, with_row}
+use Rattle.bx_plain.specs.Rows.{AllLet, Lets, floor_in, hold_in, is_row, row_in, rows_at, sessions_at, want_in, with_row}
 use Rattle.bx_plain.proofs.Puts.{held_beside, not_row, row_is}
 use Rattle.bx_plain.proofs.Stands.{asked, decide, grant_floors, granted}
 use Rattle.bx_plain.proofs.Wants.{held_as, hold_of_new, its_block, its_session, not_held, not_wanted, want_beside, want_of_new, wanted_as, was_true}
 
 -- ---- what others hold
 
--- where a row is put in the place of one that held nothing, or of the session itself, what lets a session hold a block let it before
-pub lets_put : (rows : List Row) (new : Row) (session block : ℕ) (mode : Mode) → ((row_in rows new.session new.block).is_held ≡ false) ⊎ (new.session ≡ session) → AllLet session block mode (with_row rows new) → AllLet session block mode rows
+-- where a row is put in the place of one that let a session hold a block where it does, what lets the session hold it let it before
+pub lets_put : (rows : List Row) (new : Row) (session block : ℕ) (mode : Mode) → (Lets session block mode new → Lets session block mode (row_in rows new.session new.block)) → AllLet session block mode (with_row rows new) → AllLet session block mode rows
 lets_put [] new session block mode free lets = tt
 lets_put (row ∷ rows) new session block mode free lets = (elim (is_row new.session new.block row) as (λ b. is_row new.session new.block row ≡ b → AllLet session block mode (row ∷ rows)) [
   | true ↦ λ t. (
-    ⊎_elim (λ none. inl (let h = rw t at none in h)) (λ own. inr (inl ((row_is new.session new.block row t).0 ∙ own))) free,
+    (let f = rw t at free in f) (let h = rw t at lets in h).0,
     (let h = rw t at lets in h).1,
   )
   | false ↦ λ t. let f = rw t at free in (elim (ltb new.block row.block) as (λ b. ltb new.block row.block ≡ b → AllLet session block mode (row ∷ rows)) [
@@ -40,11 +40,16 @@ module _ (rows : List Row) (session block index : ℕ) (row : Row) (its : row �
   key : (put.session ≡ session) × (put.block ≡ block)
   key = (its_session rows session block row its, its_block rows session block row its)
 
-  its_unheld : (row_in rows put.session put.block).is_held ≡ false
-  its_unheld =
-      let P : ℕ → Type 0 = λ n. (row_in rows n put.block).is_held ≡ false in
-      let Q : ℕ → Type 0 = λ n. (row_in rows session n).is_held ≡ false in
-      subst P (sym key.0) (subst Q (sym key.1) (ap (λ (r : Row). r.is_held) (sym its) ∙ unheld))
+  its_row : row_in rows put.session put.block ≡ row
+  its_row =
+      let P : ℕ → Type 0 = λ n. row_in rows n put.block ≡ row in
+      let Q : ℕ → Type 0 = λ n. row_in rows session n ≡ row in
+      subst P (sym key.0) (subst Q (sym key.1) (sym its))
+
+  -- what the granted row lets another session have, the row let it have that waited
+  lets_granted : (other at : ℕ) (mode : Mode) → Lets other at mode put → Lets other at mode row
+  lets_granted other at mode (inl free) = absurd (let h = free in cc)
+  lets_granted other at mode (inr lets) = inr lets
 
   here : IsGranted rows new session block
   here = record {
@@ -59,7 +64,7 @@ module _ (rows : List Row) (session block index : ℕ) (row : Row) (its : row �
   grant_passes = record {
     each = λ other at. by_row other at (is_row other at put) refl;
     floors = grant_floors rows session block index row its free unheld is;
-    fewer = λ other mode. lets_put rows put other block mode (inl its_unheld);
+    fewer = λ other mode. lets_put rows put other block mode (λ lets. subst (λ (r : Row). Lets other block mode r) (sym its_row) (lets_granted other block mode lets));
     free = λ other mode want none. of_free other mode want none (is_row other block put) refl;
   }
     where

@@ -1,5 +1,5 @@
 -- Rows of holds and wants, in the order of their blocks: at most one counts for a session and a block, the first.
-use Rattle.std.specs.Prelude.{◌≡◌, ◌≢◌, ℕ, suc, ◌⊎◌, max, ltb, Bool, false, not, ◌==◌, ◌&&◌, if◌then◌else◌, List, [], ◌∷◌, map, filter, Option, Some, None, option_map}
+use Rattle.std.specs.Prelude.{◌≡◌, ◌≢◌, ℕ, suc, ◌⊎◌, max, ltb, Bool, false, not, ◌==◌, ◌&&◌, ◌||◌, if◌then◌else◌, List, [], ◌∷◌, map, filter, Option, Some, None, option_map}
 use Rattle.bx_base.specs.declared.names.Mode.{Mode}
 use Rattle.bx_base.specs.declared.names.Mode.TheVariants.{Shared}
 use Rattle.bx_facts.specs.Holds.{Hold}
@@ -32,9 +32,13 @@ abbrev pub floor_in : List Row → ℕ → ℕ
 floor_in [] block = 0
 floor_in (row ∷ rows) block = max (if row.block == block then row.given else 0) (floor_in rows block)
 
+-- a row stands in a session's way: its block is held, or a lower session waits for it
+abbrev pub is_before : ℕ → Row → Bool
+is_before session row = row.is_held || (row.is_wanted && ltb row.session session)
+
 -- a row lets a session hold the block so
 abbrev pub Lets : ℕ → ℕ → Mode → Row → Type 0
-Lets session block mode row = (row.is_held ≡ false) ⊎ (row.session ≡ session) ⊎ (row.block ≢ block) ⊎ ((row.mode ≡ Shared) × (mode ≡ Shared))
+Lets session block mode row = (is_before session row ≡ false) ⊎ (row.session ≡ session) ⊎ (row.block ≢ block) ⊎ ((row.mode ≡ Shared) × (mode ≡ Shared))
 
 abbrev pub AllLet : ℕ → ℕ → Mode → List Row → Type 0
 AllLet session block mode [] = Unit {0}

@@ -5,7 +5,7 @@ ghost use Rattle.std.specs.BTreeMap.{IsOrdered};
 ghost use Rattle.std.specs.BTreeSet.{IsOrdered as AreOrdered, contains};
 ghost use Rattle.std.specs.List.{list_any};
 ghost use Rattle.std.specs.Ordering.{nat_cmp};
-ghost use Rattle.bx_plain.specs.Rows.{AllLet, floor_in, hold_in, place_in, row_in, rows_at, sessions_at, want_in, with_row};
+ghost use Rattle.bx_plain.specs.Rows.{AllLet, floor_in, hold_in, is_before, place_in, row_in, rows_at, sessions_at, want_in, with_row};
 ghost use Rattle.bx_plain.specs.Tables.{AreOf, AreTheirs, Waits, flat, gather, kept_at, wanted};
 
 use crate::rows::{Row, any_wanted, put_among};
@@ -134,18 +134,25 @@ fn settle(waiting: &mut BTreeSet<u64>, rows: &[Row], block: u64)
     waiting.remove(&block);
 }
 
-/// Whether a session may hold a block in this mode.
+/// Whether a session may hold a block in this mode: what others hold of it doesn't stand against that, nor what lower sessions wait for, which are asked for first.
 pub(crate) fn is_free(rows: &Table, session: u64, block: u64, mode: Mode) -> bool
     ensures { IsTrue result ↔ AllLet session block mode rows.now }
 {
     for row in rows.at(block) {
-        if row.is_held && row.session != session {
+        if is_before(row, session) && row.session != session {
             if row.mode != Mode::Shared || mode != Mode::Shared {
                 return false;
             }
         }
     }
     true
+}
+
+/// Whether a row stands in a session's way: its block is held, or a lower session waits for it.
+fn is_before(row: &Row, session: u64) -> bool
+    ensures { result ≡ is_before session row.now }
+{
+    row.is_held || (row.is_wanted && row.session < session)
 }
 
 /// The greatest index with which the block was given up.

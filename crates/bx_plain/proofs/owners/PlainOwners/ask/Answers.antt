@@ -9,6 +9,7 @@ use Rattle.bx_plain.specs.Asks.{AlikeBut}
 use Rattle.bx_plain.specs.Grants.{IsAlike, IsAnswered}
 use Rattle.bx_plain.specs.Rows.{AllLet, want_in}
 use Rattle.bx_plain.proofs.Granting.{alike_beside, answered, lets_put}
+use Rattle.bx_plain.proofs.Puts.{keys_of_row}
 use Rattle.bx_plain.proofs.Wants.{alike_its, asked_or_granted, its_block, its_session, put_beside}
 use Rattle.bx_plain.proofs.owners.PlainOwners.ask.Goals as goal
 
@@ -55,5 +56,6 @@ returns-clause-others c = λ other at apart.
 
 pub returns-clause-lets : goal.returns-clause-lets
 returns-clause-lets c = λ other lets.
-    lets_put c.args.self.now.rows _ c.args.session c.args.block other (inr (its_session c.args.self.now.rows c.args.session c.args.block c.row_of-row.result c.row_of-row.ensures))
+    let its = its_session c.args.self.now.rows c.args.session c.args.block c.row_of-row.result c.row_of-row.ensures in
+    lets_put c.args.self.now.rows _ c.args.session c.args.block other (λ own. inr (inl ((keys_of_row c.args.self.now.rows _ _).0 ∙ its)))
     (subst (λ (rows : List Row). AllLet c.args.session c.args.block other rows) c.in_ok-put.ensures.put lets)

@@ -2,6 +2,7 @@
 
 ghost use Rattle.std.specs.Prelude.{◌≡◌, ◌⊎◌, ◌<◌, ◌≤◌, ◌++◌, ℕ, [], List, IfOk, OnErr, OnOk, map, true, false};
 ghost use Rattle.bx_base.specs.Faults.{Rose};
+ghost use Rattle.bx_base.specs.declared.names.Actor.TheVariants.{Member};
 ghost use Rattle.bx_disk.specs.Disks.{Disks};
 ghost use Rattle.bx_facts.specs.Disks.{SameLabels};
 ghost use Rattle.bx_node_rounds.specs.Rounds.{AreTurns, IsReady, IsTurn, Rounded, Standing, StandsClean, all_said, at_node, session_at};
@@ -46,6 +47,7 @@ impl<G: Register, O: Owners, S: Store, E: Engine> Cluster<G, O, S, E> {
         ensures later { R.faults rack.old ≤ R.faults rack.new }
         ensures sizes { (R.state rack.new).sizes ≡ (R.state rack.old).sizes }
         ensures keeps_telling { R.tells rack.old → R.tells rack.new }
+        ensures idle { ((member : ℕ) → member < self.old.members → S.owes self.old.nodes.store (Member member) ≡ false) → OnOk result (R.state rack.new ≡ R.state rack.old) }
     {
         if !self.sync_from(rack, 0)? {
             return Ok(Vec::new(self.alloc));
@@ -69,6 +71,7 @@ impl<G: Register, O: Owners, S: Store, E: Engine> Cluster<G, O, S, E> {
         ensures later { R.faults rack.old ≤ R.faults rack.new }
         ensures sizes { (R.state rack.new).sizes ≡ (R.state rack.old).sizes }
         ensures keeps_telling { R.tells rack.old → R.tells rack.new }
+        ensures idle { ((other : ℕ) → other < self.old.members → S.owes self.old.nodes.store (Member other) ≡ false) → OnOk result ((self.new ≡ self.old) × (R.state rack.new ≡ R.state rack.old)) }
     {
         if member >= self.members {
             return Ok(true);
@@ -96,6 +99,7 @@ impl<G: Register, O: Owners, S: Store, E: Engine> Cluster<G, O, S, E> {
         ensures later { R.faults rack.old ≤ R.faults rack.new }
         ensures sizes { (R.state rack.new).sizes ≡ (R.state rack.old).sizes }
         ensures keeps_telling { R.tells rack.old → R.tells rack.new }
+        ensures idle { S.owes self.old.nodes.store (Member member) ≡ false → (self.new ≡ self.old) × (R.state rack.new ≡ R.state rack.old) }
     {
         let at = Actor::Member(member);
         if !self.nodes.waiting(at) {

@@ -3,7 +3,7 @@
 ghost use Rattle.std.specs.Prelude.{◌≡◌};
 ghost use Rattle.bx_world_events.specs.Events.{machine_of, needs_down, number_of, reading_of};
 
-use bx_base::Actor;
+use bx_base::{Actor, OutOfMemory};
 use thiserror::Error;
 
 /// What happens to a cluster, at one of its machines.
@@ -135,4 +135,14 @@ pub enum EventError {
     /// Memory ran out.
     #[error("out of memory")]
     OutOfMemory,
+}
+
+impl From<OutOfMemory> for EventError {
+    ghost use Rattle.bx_world_events.specs.declared.event.EventError.TheVariants.{OutOfMemory as MemoryRanOut};
+
+    ghost from_gives = { λ _ error. error ≡ MemoryRanOut };
+
+    fn from(_error: OutOfMemory) -> EventError {
+        EventError::OutOfMemory
+    }
 }

@@ -1,0 +1,68 @@
+-- How a world begins.
+use Rattle.std.proofs.Common.{◌≡◌, ◌∙◌, ◌⊎◌, inl, inr, ℕ, zero, suc, List, [], ◌∷◌, ◌++◌, length, Option, None, Some, IsSomeAnd, refl, sym, ap, subst}
+use Rattle.std.specs.Prelude.{slice_get}
+use Rattle.bx_base.specs.declared.names.Point.{Point}
+use Rattle.bx_desk.specs.Desks.{AtDesk, empty_desk}
+use Rattle.bx_desk.specs.Nodes.{IsDeskOf}
+use Rattle.bx_desk.proofs.Going.{desk_opened}
+use Rattle.bx_history.specs.Account.{AwaitsNewest}
+use Rattle.bx_history.specs.Parts.{waiting}
+use Rattle.bx_history.specs.Trace.{Entry}
+use Rattle.bx_node_rounds.specs.Rounds.{NoneWaits, acting_in}
+use Rattle.bx_node_steps.specs.Calls.{Acting, IsThat, WaitsAt, acting_of, call_written, point_in}
+use Rattle.bx_node_steps.specs.declared.machine.Machine.{Machine}
+use Rattle.bx_node_tries.specs.declared.round.Waiting.{Waiting}
+use Rattle.bx_world.specs.Led.{AreDesks, AreLeft, rules}
+use Rattle.bx_world.specs.Outcomes.{empty_desks}
+
+pub accounts_none : {Tree : Type 0} (Step : Tree → Entry → Tree → Type 0) (first : Tree) → AwaitsNewest Step rules first [] [] first (waiting [])
+accounts_none Step first = record {
+  fits = refl;
+  leads = refl;
+  placed = tt;
+  waiting_are = λ node. refl;
+  pending = λ node. tt;
+  in_order = λ node. tt;
+  split = λ node. record { before = []; whole = refl };
+}
+
+-- ---- desks
+
+pub empty_length : (n : ℕ) → length (empty_desks n) ≡ n
+empty_length zero = refl
+empty_length (suc n) = push_length (empty_desks n) ∙ ap suc (empty_length n)
+  where
+    push_length : (desks : List AtDesk) → length (desks ++ empty_desk ∷ []) ≡ suc (length desks)
+    push_length [] = refl
+    push_length (one ∷ desks) = ap suc (push_length desks)
+
+pushed : (desks : List AtDesk) (i : ℕ) (desk : AtDesk) → slice_get (desks ++ empty_desk ∷ []) i ≡ Some desk → (slice_get desks i ≡ Some desk) ⊎ (desk ≡ empty_desk)
+pushed [] zero desk is = inr (let same : empty_desk ≡ desk = cc in sym same)
+pushed [] (suc i) desk is = inl is
+pushed (one ∷ desks) zero desk is = inl is
+pushed (one ∷ desks) (suc i) desk is = pushed desks i desk is
+
+all_empty : (n i : ℕ) (desk : AtDesk) → slice_get (empty_desks n) i ≡ Some desk → desk ≡ empty_desk
+all_empty zero i desk is = absurd cc
+all_empty (suc n) i desk is = elim (pushed (empty_desks n) i desk is) [ inl before ↦ all_empty n i desk before | inr same ↦ same ]
+
+pub desks_none : (n : ℕ) → AreDesks (empty_desks n) []
+desks_none n node desk is = subst (λ (d : AtDesk). IsDeskOf node [] d) (sym (all_empty n node desk is)) (desk_opened node [] refl refl)
+
+-- ---- what waits
+
+-- a call whose record is written waits
+acts_of : (call : Option Waiting) (point : Option Point) (acts : Acting) → acting_of call point ≡ Some acts → IsThat call acts.call
+acts_of None point acts is = absurd cc
+acts_of (Some call) None acts is = absurd cc
+acts_of (Some call) (Some point) acts is = cc
+
+acts_waits : (found : Option Machine) (acts : Acting) → acting_in found ≡ Some acts → IsSomeAnd found (λ m. WaitsAt m acts.call)
+acts_waits None acts is = absurd cc
+acts_waits (Some machine) acts is = inr (acts_of (call_written machine.stage) (point_in machine.log.work) acts is)
+
+pub left_none : (machines : List Machine) → NoneWaits machines → AreLeft machines []
+left_none machines none = record {
+  waits = λ node call. (λ w. absurd (none node call w), λ there. absurd there);
+  acting = λ node acts is. absurd (none node acts.call (acts_waits (slice_get machines node) acts is));
+}

@@ -1,0 +1,66 @@
+-- What comes of a datagram that arrives at a node.
+use Rattle.std.proofs.Common.{◌≡◌, ◌≤◌, ◌∙◌, ℕ, zero, suc, ◌<◌, List, [], ◌∷◌, ◌++◌, length, map, Option, Some, IfSome, refl, sym, ap, subst, arith}
+use Rattle.std.specs.Prelude.{slice_get}
+use Rattle.std.proofs.lemmas.List.{append-nil}
+use Rattle.bx_base.specs.declared.names.Actor.TheVariants.{Node}
+use Rattle.bx_cluster.specs.declared.outcome.Outcome.{Outcome}
+use Rattle.bx_desk.specs.Desks.{AtDesk}
+use Rattle.bx_disk.specs.Disks.{Disks}
+use Rattle.bx_facts.specs.declared.register.Register as register
+use Rattle.bx_facts.specs.declared.store.Store as store
+use Rattle.bx_node_rounds.specs.Rounds.{Rounded}
+use Rattle.bx_node_tries.specs.declared.round.Said.{Said}
+use Rattle.bx_owners.specs.declared.owners.Owners as owners
+use Rattle.bx_post.specs.declared.packets.Letter.{Letter}
+use Rattle.bx_post.specs.Posts.{fresh}
+use Rattle.bx_views.specs.declared.engine.Engine as engine
+use Rattle.bx_world.specs.Calls.{Turns}
+use Rattle.bx_world.specs.Outcomes.{EndsSaid}
+use Rattle.bx_world.specs.World.{IsReady, Standing, letters_in}
+use Rattle.bx_world.specs.declared.world.World.{World}
+use Rattle.bx_world.proofs.Ending.{ready_said}
+use Rattle.bx_world.proofs.Letters.{letters_sent}
+use Rattle.bx_world_machines.specs.Answering.{Answered}
+use Rattle.bx_world_machines.specs.Standing as machines
+use Rattle.bx_world_machines.specs.declared.machines.Machines.{Machines}
+
+module _ {G O S E T : Type 0} (g : register.Ghosts G) (o : owners.Ghosts O) (st : store.Ghosts S) (e : engine.Ghosts E T) (old new : World G O S E T) (heard : Machines G O S E T) (same : new.machines ≡ heard) where
+  -- what the machines come to stand for, the world does with what they send
+  pub leads_then : (x : Disks) (said : List Said) (box out : List Letter) → new.post ≡ old.post ++ map fresh out → box ≡ [] → (tree : T)
+      → (machines.Standing g o st e old.machines (letters_in old.post ++ box) x tree → Rounded e old.machines.nodes.engine (machines.Standing g o st e heard (letters_in old.post ++ out) x) tree said)
+      → Standing g o st e old x tree → Rounded e old.machines.nodes.engine (Standing g o st e new x) tree said
+  leads_then x said box out posted empty tree leads standing =
+      let rounded = leads (subst (λ (l : List Letter). machines.Standing g o st e old.machines l x tree) (sym (ap (λ (l : List Letter). letters_in old.post ++ l) empty ∙ append-nil (letters_in old.post))) standing) in
+      record {
+        next = rounded.next;
+        leads = rounded.leads;
+        stands = subst (λ (m : Machines G O S E T). machines.Standing g o st e m (letters_in new.post) x rounded.next) (sym same)
+            (subst (λ (l : List Letter). machines.Standing g o st e heard l x rounded.next) (sym (ap letters_in posted ∙ letters_sent old.post out)) rounded.stands);
+      }
+
+  -- a node had its turn
+  module _ (reading node : ℕ) (x : Disks) (said : List Said) (box out : List Letter) (outcome : Outcome) (ends : EndsSaid (Node node) said out old.post new.post old.desks.items new.desks.items outcome) (empty : box ≡ []) where
+    pub turns_then : Answered (Some reading) (Node node) old.machines.nodes.machines.items heard.nodes.machines.items said → heard.latest ≡ old.machines.latest
+        → ((tree : T) → machines.Standing g o st e old.machines (letters_in old.post ++ box) x tree → Rounded e old.machines.nodes.engine (machines.Standing g o st e heard (letters_in old.post ++ out) x) tree said)
+        → Turns g o st e reading node old new x outcome
+    turns_then answers latest leads = record {
+      said = said;
+      outcome_is = ends.outcome_is;
+      answers = subst (λ (m : Machines G O S E T). Answered (Some reading) (Node node) old.machines.nodes.machines.items m.nodes.machines.items said) (sym same) answers;
+      desks = ends.desks;
+      latest = ap (λ (m : Machines G O S E T). m.latest) same ∙ latest;
+      leads = λ tree. leads_then x said box out ends.post empty tree (leads tree);
+    }
+
+  pub ready_turn : (node : ℕ) (said : List Said) (out : List Letter) (outcome : Outcome) → EndsSaid (Node node) said out old.post new.post old.desks.items new.desks.items outcome → (sizes : List ℕ) → machines.IsReady g o st e heard sizes
+      → heard.count ≡ old.machines.count → length old.desks.items ≡ old.machines.count → heard.latest ≤ new.events → IsReady g o st e new sizes
+  ready_turn node said out outcome ends = ready_said g o st e old new heard same (Node node) old.post said out outcome ends
+
+-- there is a desk in each place
+pub desk_there : (desks : List AtDesk) (i : ℕ) → i < length desks → (desk : AtDesk) × (slice_get desks i ≡ Some desk)
+desk_there [] i less = absurd (omega (arith, less))
+desk_there (one ∷ desks) zero less = (one, refl)
+desk_there (one ∷ desks) (suc i) less = desk_there desks i (omega (arith, less))
+
+pub if_desk : (P : AtDesk → Type 0) (found : Option AtDesk) (desk : AtDesk) → found ≡ Some desk → IfSome found P → P desk
+if_desk P found desk there is = subst (λ f. IfSome f P) there is

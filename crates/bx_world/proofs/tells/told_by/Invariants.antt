@@ -1,0 +1,5 @@
+use Rattle.bx_world.proofs.Telling.{IsToldSoFar}
+use Rattle.bx_world.proofs.tells.told_by.Given as goal
+
+abbrev pub invariant-loop-one : goal.invariant-loop-one
+invariant-loop-one l = IsToldSoFar l.node l.fn.said.items l.fn.desk l.one-iterator.rest.items l.points.items l.replies.items l.desk

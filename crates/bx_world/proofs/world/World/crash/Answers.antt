@@ -1,0 +1,51 @@
+use Rattle.std.proofs.Common.{◌∙◌, [], length, refl, sym, ap, None}
+use Rattle.std.proofs.lemmas.List.{append-nil}
+use Rattle.std.specs.Prelude.{not}
+use Rattle.bx_cluster.specs.Steps.{ends_one}
+use Rattle.bx_world.specs.Led.{StepOf}
+use Rattle.bx_world.specs.World.{letters_in}
+use Rattle.bx_world.proofs.Ending.{without_length}
+use Rattle.bx_world.proofs.Leading.{accounts_ended, desks_ended, left_ended}
+use Rattle.bx_world_machines.specs.Machines.{is_up}
+use Rattle.bx_world_machines.proofs.WhoIsUp.{down_without}
+use Rattle.bx_world.proofs.world.World.crash.Goals as goal
+
+pub returns-clause-shows : goal.returns-clause-shows
+returns-clause-shows g c =
+    let old = c.args.self.now in
+    let said = c.crash.ensures in
+    record {
+      nodes = said.same.3;
+      devices = said.same.4;
+      greatest = said.same.0;
+      down = λ who. ap (λ l. not (is_up l who)) said.up ∙ down_without c.args.who who old.machines.up.items;
+      sent = [];
+      post = sym (append-nil old.post);
+      dropped = λ some. refl;
+    }
+
+pub returns-clause-ready : goal.returns-clause-ready
+returns-clause-ready g c = λ sizes is_ready.
+    let old = c.args.self.now in
+    let said = c.crash.ensures in
+    record {
+      machines = said.ready sizes is_ready.machines;
+      desks = ap length c.clear_at.ensures ∙ without_length c.args.who old.desks.items ∙ is_ready.desks ∙ sym said.same.3;
+      counted = rw said.same.5 is_ready.counted;
+    }
+
+pub returns-clause-led : goal.returns-clause-led
+returns-clause-led g c = λ x first parts led.
+    let old = c.args.self.now in
+    let new = c.crash.new.self in
+    let who = c.args.who in
+    let said = c.crash.ensures in
+    record {
+      tree = led.tree;
+      history = led.history;
+      accounts = rw said.same.6 (accounts_ended (StepOf (g.E.Engine.step old.machines.nodes.engine)) first parts led.history led.tree None (ends_one who) led.accounts);
+      stands = said.stands (letters_in old.post) x led.tree led.stands;
+      counted = said.same.5 ∙ led.counted;
+      desks = rw c.clear_at.ensures (desks_ended who old.desks.items parts None led.desks);
+      left = left_ended who old.machines.nodes.machines.items new.nodes.machines.items parts None said.empties led.left;
+    }

@@ -1,0 +1,79 @@
+use Rattle.std.proofs.Common.{◌≡◌, ◌∙◌, ◌≤◌, ◌++◌, Contains, IfOk, Some, refl, sym, ap, subst, inl, inr}
+use Rattle.std.specs.Prelude.{IsSomeAnd, true}
+use Rattle.std.specs.Option.{option_copied}
+use Rattle.std.proofs.lemmas.List.{append-nil}
+use Rattle.bx_nodes.proofs.Machines.{if_ok_so}
+use Rattle.bx_post.specs.Posts.{letter_of, packet_from}
+use Rattle.bx_world.specs.Going.{Went}
+use Rattle.bx_world.specs.World.{letters_in}
+use Rattle.bx_world_events.specs.declared.event.Event.TheVariants.{Deliver}
+use Rattle.bx_world_machines.specs.Machines.{is_up}
+use Rattle.bx_world.proofs.Ending.{at_ok, ended, ready_said, ready_stopped, said_by, says_then, shows_said, shows_stopped, stops_then}
+use Rattle.bx_world.proofs.Letters.{letter_there, letters_settled}
+use Rattle.bx_world.proofs.world.World.deliver.Goals as goal
+
+pub end-requires : goal.end-requires
+end-requires g c =
+    let old = c.args.self.now in
+    let ready = c.requires.ready in
+    let at = c.in-Some.packet.now.to in
+    let found : packet_from 1 c.args.number old.post ≡ Some c.in-Some.packet.now = sym c.packet.ensures ∙ ap option_copied c.in-Some.is in
+    let up = subst (λ f. IsSomeAnd f (λ packet. is_up old.machines.up.items packet.to ≡ true)) found c.requires.up in
+    record {
+      by = if_ok_so _ _ c.hear-heard.result
+          (λ said is. said_by (Some c.args.reading) at old.machines.nodes.machines.items c.hear-heard.new.self.nodes.machines.items said.items _ _ _ (ready.machines.are_ready.there at up) ready.desks is)
+          c.hear-heard.ensures.answers;
+    }
+
+pub returns-clause-shows : goal.returns-clause-shows
+returns-clause-shows g c =
+    let old = c.args.self.now in
+    let new = c.end.new.self in
+    let heard = c.hear-heard.new.self in
+    let said = c.hear-heard.ensures in
+    let same = c.end.ensures.same.0 in
+    let at = c.in-Some.packet.now.to in
+    let event = Deliver c.args.reading c.args.number in
+    ended c.hear-heard.result c.end.result _ _ _ c.end.ensures.said c.end.ensures.stopped c.end.ensures.memory
+    (λ items is outcome ends. shows_said g.G.Register g.O.Owners g.S.Store g.E.Engine old new heard same at c.settle.new.self items.items _ outcome ends event c.settle.ensures refl (at_ok _ c.hear-heard.result items said.up is) said.clock said.same.1 said.same.2)
+    (λ fails outcome ends. shows_stopped g.G.Register g.O.Owners g.S.Store g.E.Engine old new heard same at c.settle.new.self outcome ends event c.settle.ensures refl (said.down fails) said.clock said.same.1 said.same.2)
+
+pub returns-clause-ready : goal.returns-clause-ready
+returns-clause-ready g c = λ sizes is_ready.
+    let old = c.args.self.now in
+    let new = c.end.new.self in
+    let heard = c.hear-heard.new.self in
+    let said = c.hear-heard.ensures in
+    let same = c.end.ensures.same.0 in
+    let at = c.in-Some.packet.now.to in
+    let less : heard.latest ≤ new.events = rw (said.same.3, c.end.ensures.same.1) is_ready.counted in
+    ended c.hear-heard.result c.end.result _ _ _ c.end.ensures.said c.end.ensures.stopped c.end.ensures.memory
+    (λ items is outcome ends. ready_said g.G.Register g.O.Owners g.S.Store g.E.Engine old new heard same at c.settle.new.self items.items _ outcome ends sizes (said.ready sizes is_ready.machines (λ fails. absurd (let wrong = sym is ∙ fails in cc))) said.same.1 is_ready.desks less)
+    (λ fails outcome ends. ready_stopped g.G.Register g.O.Owners g.S.Store g.E.Engine old new heard same at c.settle.new.self outcome ends sizes (said.ready sizes is_ready.machines (λ other. absurd (let wrong = sym fails ∙ other in cc))) said.same.1 is_ready.desks less)
+
+pub returns-clause-went : goal.returns-clause-went
+returns-clause-went g c =
+    let old = c.args.self.now in
+    let new = c.end.new.self in
+    let heard = c.hear-heard.new.self in
+    let said = c.hear-heard.ensures in
+    let same = c.end.ensures.same.0 in
+    let ready = c.requires.ready in
+    let x = g.R.Rack.state c.args.rack.now in
+    let y = g.R.Rack.state c.hear-heard.new.rack in
+    let packet = c.in-Some.packet.now in
+    let at = packet.to in
+    let found : packet_from 1 c.args.number old.post ≡ Some packet = sym c.packet.ensures ∙ ap option_copied c.in-Some.is in
+    let up = subst (λ f. IsSomeAnd f (λ packet. is_up old.machines.up.items packet.to ≡ true)) found c.requires.up in
+    let letters = ap letters_in c.settle.ensures ∙ letters_settled 1 c.args.number old.post in
+    let comes : Contains (letters_in old.post ++ c.new-out.result) (letter_of packet) = subst (λ l. Contains l (letter_of packet)) (sym (ap (λ l. letters_in old.post ++ l) c.new-out.ensures ∙ append-nil (letters_in old.post))) (letter_there 1 c.args.number old.post packet found) in
+    subst (λ f. IsSomeAnd f (λ packet. IfOk c.end.result (Went g.G.Register g.O.Owners g.S.Store g.E.Engine (Some c.args.reading) packet.to old new (g.R.Rack.tells c.args.rack.now) x y))) (sym found)
+    (ended c.hear-heard.result c.end.result _ _ _ c.end.ensures.said c.end.ensures.stopped c.end.ensures.memory
+    (λ items is outcome ends.
+    let answers = at_ok _ c.hear-heard.result items said.answers is in
+    inl (says_then g.G.Register g.O.Owners g.S.Store g.E.Engine old new heard same at c.settle.new.self items.items _ outcome ends (Some c.args.reading) (g.R.Rack.tells c.args.rack.now) x y c.new-out.result
+    (said_by (Some c.args.reading) at old.machines.nodes.machines.items heard.nodes.machines.items items.items _ _ _ (ready.machines.are_ready.there at up) ready.desks answers)
+    letters c.new-out.ensures answers (λ tells tree standing. at_ok _ c.hear-heard.result items (said.stands (letters_in old.post) tree tells comes standing) is)))
+    (λ fails outcome ends.
+    inr (stops_then g.G.Register g.O.Owners g.S.Store g.E.Engine old new heard same at c.settle.new.self outcome ends (g.R.Rack.tells c.args.rack.now) x y c.new-out.result letters c.new-out.ensures (said.empties fails)
+    (λ tells tree standing. said.stopped (letters_in old.post) tree tells comes standing fails))))

@@ -1,0 +1,40 @@
+use Rattle.std.proofs.Common.{sym, ap, subst, filter}
+use Rattle.bx_nodes.specs.bx_node_events.proofs.Registered.{HandedLaws}
+use Rattle.bx_post.specs.Posts.{is_waiting}
+use Rattle.bx_world.specs.World.{letters_in}
+use Rattle.bx_world.proofs.Letters.{letters_fewer, stands_fewer}
+use Rattle.bx_world_machines.specs.Standing as machines
+use Rattle.bx_world.proofs.world.World.forget.Goals as goal
+
+pub returns-clause-stands : goal.returns-clause-stands
+returns-clause-stands g c = λ x tree standing.
+    let self = c.args.self.now in
+    let laws : HandedLaws g.G.Register g.O.Owners g.S.Store = record {
+      allowed = g.met.G.Register.allowed;
+      legal = g.met.G.Register.legal;
+      places = g.met.G.Register.places;
+      registers_elsewhere = g.met.G.Register.elsewhere;
+      registers_lose = g.met.G.Register.loses;
+      lives = g.met.O.Owners.lives;
+      apart = λ one past keeps. record { each = λ session other block hold other_hold has has_other ne is is_other. g.met.O.Owners.apart one past session other block hold other_hold keeps has has_other ne is is_other };
+      alone = g.met.O.Owners.alone;
+      owners_grow = g.met.O.Owners.grows;
+      owners_lose = g.met.O.Owners.loses;
+      own_out = g.met.S.Store.own_out;
+      stores_grow = g.met.S.Store.grows;
+      stores_elsewhere = g.met.S.Store.elsewhere;
+      stores_lose = g.met.S.Store.loses;
+    } in
+    subst (λ letters. machines.Standing g.G.Register g.O.Owners g.S.Store g.E.Engine self.machines letters x tree) (sym (ap letters_in c.forget.ensures))
+    (stands_fewer g.G.Register g.O.Owners g.S.Store g.E.Engine laws self.machines (letters_in self.post) (letters_in (filter is_waiting self.post)) x tree (letters_fewer self.post) standing)
+
+pub returns-clause-led : goal.returns-clause-led
+returns-clause-led g c = λ x first parts led. record {
+  tree = led.tree;
+  history = led.history;
+  accounts = led.accounts;
+  stands = returns-clause-stands g c x led.tree led.stands;
+  counted = led.counted;
+  desks = led.desks;
+  left = led.left;
+}

@@ -1,0 +1,59 @@
+use Rattle.std.proofs.Common.{◌≤◌, ◌∙◌, Some, refl, sym, inl, inr}
+use Rattle.bx_nodes.proofs.Machines.{if_ok_so}
+use Rattle.bx_world.specs.World.{letters_in}
+use Rattle.bx_world_events.specs.declared.event.Event.TheVariants.{Tick}
+use Rattle.bx_world.proofs.Ending.{at_ok, ended, ready_said, ready_stopped, said_by, says_then, shows_said, shows_stopped, stops_then}
+use Rattle.bx_world.proofs.world.World.tick.Goals as goal
+
+pub end-requires : goal.end-requires
+end-requires g c =
+    let old = c.args.self.now in
+    let ready = c.requires.ready in
+    record {
+      by = if_ok_so _ _ c.hear-heard.result
+          (λ said is. said_by (Some c.args.reading) c.args.at old.machines.nodes.machines.items c.hear-heard.new.self.nodes.machines.items said.items _ _ _ (ready.machines.are_ready.there c.args.at c.requires.up) ready.desks is)
+          c.hear-heard.ensures.answers;
+    }
+
+pub returns-clause-shows : goal.returns-clause-shows
+returns-clause-shows g c =
+    let old = c.args.self.now in
+    let new = c.end.new.self in
+    let heard = c.hear-heard.new.self in
+    let said = c.hear-heard.ensures in
+    let same = c.end.ensures.same.0 in
+    ended c.hear-heard.result c.end.result _ _ _ c.end.ensures.said c.end.ensures.stopped c.end.ensures.memory
+    (λ items is outcome ends. shows_said g.G.Register g.O.Owners g.S.Store g.E.Engine old new heard same c.args.at old.post items.items _ outcome ends (Tick c.args.reading c.args.at) refl refl (at_ok _ c.hear-heard.result items said.up is) said.clock said.same.1 said.same.2)
+    (λ fails outcome ends. shows_stopped g.G.Register g.O.Owners g.S.Store g.E.Engine old new heard same c.args.at old.post outcome ends (Tick c.args.reading c.args.at) refl refl (said.down fails) said.clock said.same.1 said.same.2)
+
+pub returns-clause-ready : goal.returns-clause-ready
+returns-clause-ready g c = λ sizes is_ready.
+    let old = c.args.self.now in
+    let new = c.end.new.self in
+    let heard = c.hear-heard.new.self in
+    let said = c.hear-heard.ensures in
+    let same = c.end.ensures.same.0 in
+    let less : heard.latest ≤ new.events = rw (said.same.3, c.end.ensures.same.1) is_ready.counted in
+    ended c.hear-heard.result c.end.result _ _ _ c.end.ensures.said c.end.ensures.stopped c.end.ensures.memory
+    (λ items is outcome ends. ready_said g.G.Register g.O.Owners g.S.Store g.E.Engine old new heard same c.args.at old.post items.items _ outcome ends sizes (said.ready sizes is_ready.machines (λ fails. absurd (let wrong = sym is ∙ fails in cc))) said.same.1 is_ready.desks less)
+    (λ fails outcome ends. ready_stopped g.G.Register g.O.Owners g.S.Store g.E.Engine old new heard same c.args.at old.post outcome ends sizes (said.ready sizes is_ready.machines (λ other. absurd (let wrong = sym fails ∙ other in cc))) said.same.1 is_ready.desks less)
+
+pub returns-clause-went : goal.returns-clause-went
+returns-clause-went g c =
+    let old = c.args.self.now in
+    let new = c.end.new.self in
+    let heard = c.hear-heard.new.self in
+    let said = c.hear-heard.ensures in
+    let same = c.end.ensures.same.0 in
+    let ready = c.requires.ready in
+    let x = g.R.Rack.state c.args.rack.now in
+    let y = g.R.Rack.state c.hear-heard.new.rack in
+    ended c.hear-heard.result c.end.result _ _ _ c.end.ensures.said c.end.ensures.stopped c.end.ensures.memory
+    (λ items is outcome ends.
+    let answers = at_ok _ c.hear-heard.result items said.answers is in
+    inl (says_then g.G.Register g.O.Owners g.S.Store g.E.Engine old new heard same c.args.at old.post items.items _ outcome ends (Some c.args.reading) (g.R.Rack.tells c.args.rack.now) x y c.new-out.result
+    (said_by (Some c.args.reading) c.args.at old.machines.nodes.machines.items heard.nodes.machines.items items.items _ _ _ (ready.machines.are_ready.there c.args.at c.requires.up) ready.desks answers)
+    refl c.new-out.ensures answers (λ tells tree standing. at_ok _ c.hear-heard.result items (said.stands (letters_in old.post) tree tells tt standing) is)))
+    (λ fails outcome ends.
+    inr (stops_then g.G.Register g.O.Owners g.S.Store g.E.Engine old new heard same c.args.at old.post outcome ends (g.R.Rack.tells c.args.rack.now) x y c.new-out.result refl c.new-out.ensures (said.empties fails)
+    (λ tells tree standing. said.stopped (letters_in old.post) tree tells tt standing fails)))

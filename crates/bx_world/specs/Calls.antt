@@ -1,0 +1,105 @@
+-- What comes of a datagram that arrives at a node.
+use Rattle.std.specs.Prelude.{◌≡◌, ◌⊎◌, ℕ, ◌+◌, nat_le, true, false, List, length, option_map, slice_get, slice_set, Option, None, Some}
+use Rattle.std.specs.List.{list_any}
+use Rattle.bx_base.specs.declared.names.Actor.TheVariants.{Node}
+use Rattle.bx_cluster.specs.declared.outcome.Outcome.{Outcome}
+use Rattle.bx_cluster.specs.declared.outcome.ReplyOut.{ReplyOut}
+use Rattle.bx_desk.specs.Desks.{AtDesk, is_from, with_call}
+use Rattle.bx_desk.specs.declared.desk.Asked.{Asked}
+use Rattle.bx_disk.specs.Disks.{Disks}
+use Rattle.bx_facts.specs.declared.register.Register as register
+use Rattle.bx_facts.specs.declared.store.Store as store
+use Rattle.bx_node_rounds.specs.Rounds.{Rounded}
+use Rattle.bx_node_tries.specs.declared.round.Said.{Said}
+use Rattle.bx_node_tries.specs.declared.round.Waiting.{Waiting}
+use Rattle.bx_owners.specs.declared.owners.Owners as owners
+use Rattle.bx_replies.specs.Answers.{IsApart, reply_of}
+use Rattle.bx_rpc.specs.Message.{is_message}
+use Rattle.bx_views.specs.declared.engine.Engine as engine
+use Rattle.bx_world.specs.Outcomes.{desks_said, outcome_said}
+use Rattle.bx_world.specs.World.{Standing}
+use Rattle.bx_world.specs.declared.calls.Heard.{Heard}
+use Rattle.bx_world.specs.declared.calls.Heard.TheVariants.{New, Again, Passed}
+use Rattle.bx_world.specs.declared.world.World.{World}
+use Rattle.bx_world_machines.specs.Answering.{Answered, Called}
+
+-- ---- what it is to the node
+
+-- It is a call that is new to a desk: it repeats none that waits, and none of the answers that are kept is to it; and fewer than 64 wait.
+pub record IsNewTo (desk : AtDesk) (client : ℕ) (bytes : List ℕ) : Type 0 where
+  pub message : is_message bytes ≡ true
+  pub not_waiting : list_any (is_from client bytes) desk.waits ≡ false
+  pub none_kept : reply_of desk.kept client bytes ≡ None
+  pub room : nat_le 64 (length desk.waits) ≡ false
+
+-- It repeats a call that was answered, and this answer is kept.
+pub record IsKeptAt (desk : AtDesk) (client : ℕ) (bytes reply : List ℕ) : Type 0 where
+  pub message : is_message bytes ≡ true
+  pub not_waiting : list_any (is_from client bytes) desk.waits ≡ false
+  pub kept : reply_of desk.kept client bytes ≡ Some reply
+  pub apart : IsApart desk.kept
+
+-- It is no call; or it repeats one that waits; or it is new, and as many wait as may.
+pub data IsPassed (desk : AtDesk) (client : ℕ) (bytes : List ℕ) : Type 0 where
+  NoCall : is_message bytes ≡ false → IsPassed desk client bytes
+  Waits : is_message bytes ≡ true → list_any (is_from client bytes) desk.waits ≡ true → IsPassed desk client bytes
+  Crowded : is_message bytes ≡ true → reply_of desk.kept client bytes ≡ None → nat_le 64 (length desk.waits) ≡ true → IsPassed desk client bytes
+
+abbrev pub Hears : AtDesk → ℕ → List ℕ → Heard → Type 0
+Hears desk client bytes (New message) = (message ≡ bytes) × IsNewTo desk client bytes
+Hears desk client bytes (Again reply) = IsKeptAt desk client bytes reply
+Hears desk client bytes Passed = IsPassed desk client bytes
+
+-- the kept answer that is sent again, or none, where it isn't taken
+abbrev pub IsLeft : AtDesk → ℕ → List ℕ → Option (List ℕ) → Type 0
+IsLeft desk client bytes None = IsPassed desk client bytes
+IsLeft desk client bytes (Some reply) = IsKeptAt desk client bytes reply
+
+abbrev pub again_to : ℕ → ℕ → List ℕ → ReplyOut
+again_to node client reply = record { call = 0; node = node; client = client; bytes = reply }
+
+-- a call that waits, on a desk
+abbrev pub asked_of : Waiting → Asked
+asked_of call = record { call = call.number; client = call.client; bytes = call.message }
+
+-- ---- what comes of it
+
+module _ {G O S E T : Type 0} (g : register.Ghosts G) (o : owners.Ghosts O) (st : store.Ghosts S) (e : engine.Ghosts E T) where
+  -- The node had its turn, and answered calls, which are told and which its desk keeps.
+  pub record Turns (reading node : ℕ) (old new : World G O S E T) (x : Disks) (outcome : Outcome) : Type 0 where
+    pub said : List Said
+    pub outcome_is : outcome ≡ outcome_said (Node node) said
+    pub answers : Answered (Some reading) (Node node) old.machines.nodes.machines.items new.machines.nodes.machines.items said
+    pub desks : new.desks.items ≡ desks_said (Node node) said old.desks.items
+    pub latest : new.machines.latest ≡ old.machines.latest
+    pub leads : (tree : T) → Standing g o st e old x tree → Rounded e old.machines.nodes.engine (Standing g o st e new x) tree said
+
+  -- A call was taken, with the next number: it waits on the desk, and the node had its turn then.
+  pub record Takes (reading node client : ℕ) (bytes : List ℕ) (old new : World G O S E T) (x : Disks) (outcome : Outcome) : Type 0 where
+    pub call : Waiting
+    pub number : call.number ≡ old.machines.latest + 1
+    pub client_is : call.client ≡ client
+    pub bytes_are : call.message ≡ bytes
+    pub desk : AtDesk
+    pub there : slice_get old.desks.items node ≡ Some desk
+    pub said : List Said
+    pub outcome_is : outcome ≡ record (outcome_said (Node node) said) { took = Some call.number }
+    pub answers : Called reading node call old.machines.nodes.machines.items new.machines.nodes.machines.items said
+    pub desks : new.desks.items ≡ desks_said (Node node) said (slice_set old.desks.items node (with_call desk (asked_of call)))
+    pub latest : new.machines.latest ≡ call.number
+    pub leads : (tree : T) → Standing g o st e old x tree → Rounded e old.machines.nodes.engine (Standing g o st e new x) tree said
+
+  -- It isn't taken: a kept answer may be sent again; and the node had its turn.
+  pub record Leaves (reading node client : ℕ) (bytes : List ℕ) (old new : World G O S E T) (x : Disks) (outcome : Outcome) : Type 0 where
+    pub desk : AtDesk
+    pub there : slice_get old.desks.items node ≡ Some desk
+    pub again : Option (List ℕ)
+    pub is_left : IsLeft desk client bytes again
+    pub turned : Outcome
+    pub turns : Turns reading node old new x turned
+    pub outcome_is : outcome ≡ record turned { again = option_map (again_to node client) again }
+
+  -- A call is taken exactly where it is new to the desk of its node.
+  abbrev pub Arrives : ℕ → ℕ → ℕ → List ℕ → World G O S E T → World G O S E T → Disks → Outcome → Type 0
+  Arrives reading node client bytes old new x outcome =
+      ((desk : AtDesk) × (slice_get old.desks.items node ≡ Some desk) × IsNewTo desk client bytes × Takes reading node client bytes old new x outcome) ⊎ Leaves reading node client bytes old new x outcome

@@ -1,0 +1,165 @@
+//! Datagrams that arrive at a node.
+
+ghost use Rattle.std.proofs.Common.{Bor};
+ghost use Rattle.std.specs.Prelude.{◌≡◌, ◌+◌, ◌<◌, ◌≤◌, ℕ, true, List, length, slice_get, slice_set, IfErr, IfOk, IfSome, OnOk};
+ghost use Rattle.bx_base.specs.declared.names.Actor.TheVariants.{Node};
+ghost use Rattle.bx_cluster.specs.Steps.{Shown};
+ghost use Rattle.bx_desk.specs.Desks.{with_call};
+ghost use Rattle.bx_disk.specs.Disks.{Disks};
+ghost use Rattle.bx_world.specs.Calls.{Arrives, Hears, Takes, Turns, asked_of};
+ghost use Rattle.bx_world.specs.World.{IsReady, seen};
+ghost use Rattle.bx_world_events.specs.declared.event.Event.TheVariants.{Call};
+ghost use Rattle.bx_world_events.specs.declared.event.EventError.TheVariants.{OutOfMemory as NoMemory};
+ghost use Rattle.bx_world_machines.specs.Machines.{is_up};
+
+use crate::world::World;
+use bx_base::{Actor, OutOfMemory, Raw};
+use bx_cluster::{EventError, Outcome, ReplyOut};
+use bx_desk::Desk;
+use bx_facts::{Outbox, Register, Store};
+use bx_node_tries::{Message, Waiting};
+use bx_owners::Owners;
+use bx_views::Engine;
+use std::alloc::Global;
+
+/// What a datagram is to a node.
+#[derive(Drop)]
+pub(crate) enum Heard {
+    /// A call that is new to it.
+    New(Message),
+    /// A repeat of a call whose answer it keeps.
+    Again(Raw),
+    /// No call, a repeat of one that waits, or one too many.
+    Passed,
+}
+
+/// What a datagram from a client is to the node of a desk.
+fn hear(alloc: Global, desk: &Desk, client: u32, bytes: &[u8]) -> Result<Heard, OutOfMemory>
+    ensures { IfOk result (Hears desk.now client bytes.now) }
+{
+    let Some(message) = Message::read(Raw::of(alloc, bytes)?) else {
+        return Ok(Heard::Passed);
+    };
+    if desk.is_waiting(client, bytes) {
+        return Ok(Heard::Passed);
+    }
+    if let Some(reply) = desk.kept(client, bytes) {
+        return Ok(Heard::Again(Raw::of(alloc, reply.bytes())?));
+    }
+    if desk.is_full() {
+        return Ok(Heard::Passed);
+    }
+    Ok(Heard::New(message))
+}
+
+/// A call waits on the desk of its node, behind all others.
+fn wait_at(
+    alloc: Global,
+    desks: &mut Vec<Desk>,
+    node: u32,
+    call: &Waiting,
+) -> Result<(), OutOfMemory>
+    requires there { node < length desks.old.items }
+    ensures { OnOk result (IfSome (slice_get desks.old.items node) (λ desk. desks.new.items ≡ slice_set desks.old.items node (with_call desk (asked_of call.now)))) }
+{
+    desks[node as usize].take(alloc, call.number, call.client, call.message.bytes())
+}
+
+impl<G: Register, O: Owners, S: Store, E: Engine> World<G, O, S, E> {
+    /// A datagram from a client arrives at a node that is up. One that is a call and new to the node is taken; for a repeat of one that was answered the answer is sent again.
+    /// In each case the node has its turn then.
+    pub fn call(
+        &mut self,
+        alloc: Global,
+        reading: u64,
+        node: u32,
+        client: u32,
+        bytes: &[u8],
+    ) -> Result<Outcome, EventError>
+        requires up { is_up self.old.machines.up.items (Node node) ≡ true }
+        requires ready { (sizes : List ℕ) × IsReady G.Register O.Owners S.Store E.Engine self.old sizes }
+        requires steady { self.old.machines.clock ≤ reading + 500 }
+        requires time { reading ≤ 4294967295999 }
+        requires few { self.old.events < 4611686018427387904 }
+        ensures shows { IfOk result (λ outcome. Shown (Call reading node client bytes.entry) outcome.stopped (seen S.Store self.old) (seen S.Store self.new)) }
+        ensures arrives { (x : Disks) → IfOk result (Arrives G.Register O.Owners S.Store E.Engine reading node client bytes.now self.old self.new x) }
+        ensures ready { (sizes : List ℕ) → IsReady G.Register O.Owners S.Store E.Engine self.old sizes → OnOk result (IsReady G.Register O.Owners S.Store E.Engine self.new sizes) }
+        ensures error { IfErr result (λ error. error ≡ NoMemory) }
+        ensures events { OnOk result (self.new.events ≡ self.old.events + 1) }
+    {
+        match hear(alloc, &self.desks[node as usize], client, bytes)? {
+            Heard::New(message) => self.take(alloc, reading, node, client, message),
+            Heard::Again(reply) => {
+                let outcome = self.turn(alloc, reading, node)?;
+                Ok(Outcome {
+                    again: Some(ReplyOut {
+                        call: 0,
+                        node,
+                        client,
+                        bytes: reply,
+                    }),
+                    ..outcome
+                })
+            }
+            Heard::Passed => self.turn(alloc, reading, node),
+        }
+    }
+
+    /// Takes a call that is new to a node, which has its turn then.
+    fn take(
+        &mut self,
+        alloc: Global,
+        reading: u64,
+        node: u32,
+        client: u32,
+        message: Message,
+    ) -> Result<Outcome, EventError>
+        requires up { is_up self.old.machines.up.items (Node node) ≡ true }
+        requires ready { (sizes : List ℕ) × IsReady G.Register O.Owners S.Store E.Engine self.old sizes }
+        requires steady { self.old.machines.clock ≤ reading + 500 }
+        requires time { reading ≤ 4294967295999 }
+        requires few { self.old.events < 4611686018427387904 }
+        ensures shows { (bytes : Bor (List ℕ)) → IfOk result (λ outcome. Shown (Call reading node client bytes) outcome.stopped (seen S.Store self.old) (seen S.Store self.new)) }
+        ensures takes { (x : Disks) → IfOk result (Takes G.Register O.Owners S.Store E.Engine reading node client message self.old self.new x) }
+        ensures ready { (sizes : List ℕ) → IsReady G.Register O.Owners S.Store E.Engine self.old sizes → OnOk result (IsReady G.Register O.Owners S.Store E.Engine self.new sizes) }
+        ensures error { IfErr result (λ error. error ≡ NoMemory) }
+        ensures events { OnOk result (self.new.events ≡ self.old.events + 1) }
+    {
+        self.events += 1;
+        let number = self.machines.latest() + 1;
+        let call = Waiting {
+            number,
+            client,
+            message,
+            inners: 0,
+            is_over: false,
+        };
+        wait_at(alloc, &mut self.desks, node, &call)?;
+        let mut out = Outbox::new(alloc);
+        let said = self.machines.call(node, call, reading, &mut out)?;
+        let outcome = self.end(alloc, Actor::Node(node), Ok(said), out)?;
+        Ok(Outcome {
+            took: Some(number),
+            ..outcome
+        })
+    }
+
+    /// A node at which nothing was taken has its turn.
+    fn turn(&mut self, alloc: Global, reading: u64, node: u32) -> Result<Outcome, EventError>
+        requires up { is_up self.old.machines.up.items (Node node) ≡ true }
+        requires ready { (sizes : List ℕ) × IsReady G.Register O.Owners S.Store E.Engine self.old sizes }
+        requires steady { self.old.machines.clock ≤ reading + 500 }
+        requires time { reading ≤ 4294967295999 }
+        requires few { self.old.events < 4611686018427387904 }
+        ensures shows { (client : ℕ) (bytes : Bor (List ℕ)) → IfOk result (λ outcome. Shown (Call reading node client bytes) outcome.stopped (seen S.Store self.old) (seen S.Store self.new)) }
+        ensures turns { (x : Disks) → IfOk result (Turns G.Register O.Owners S.Store E.Engine reading node self.old self.new x) }
+        ensures ready { (sizes : List ℕ) → IsReady G.Register O.Owners S.Store E.Engine self.old sizes → OnOk result (IsReady G.Register O.Owners S.Store E.Engine self.new sizes) }
+        ensures error { IfErr result (λ error. error ≡ NoMemory) }
+        ensures events { OnOk result (self.new.events ≡ self.old.events + 1) }
+    {
+        self.events += 1;
+        let mut out = Outbox::new(alloc);
+        let said = self.machines.turn(node, reading, &mut out)?;
+        self.end(alloc, Actor::Node(node), Ok(said), out)
+    }
+}

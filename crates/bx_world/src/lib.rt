@@ -1,0 +1,13 @@
+//! A cluster, one event at a time: all of its machines, the packets between them, and the calls that its clients made.
+#![tactic(auto)]
+
+mod begins;
+mod calls;
+mod events;
+mod packets;
+mod shows;
+mod stops;
+mod tells;
+mod world;
+
+pub use world::World;

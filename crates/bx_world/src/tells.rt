@@ -1,0 +1,95 @@
+//! What comes of an event is told.
+
+ghost use Rattle.std.specs.Prelude.{◌≡◌, ◌<◌, None, map, length, IfOk, OnOk};
+ghost use Rattle.bx_world.specs.Outcomes.{IsBy, all_answered, desks_said, desks_without, nothing, outcome_said, point_said, reply_said, stopped_at};
+
+use bx_base::{Actor, List, OutOfMemory, Point, Raw};
+use bx_cluster::{Outcome, ReplyOut};
+use bx_desk::Desk;
+use bx_node_tries::Said;
+use std::alloc::Global;
+
+/// An event of which nothing comes.
+fn nothing(alloc: Global) -> Outcome
+    ensures { result ≡ nothing }
+{
+    Outcome {
+        took: None,
+        points: List::new(alloc),
+        replies: List::new(alloc),
+        again: None,
+        stopped: None,
+    }
+}
+
+/// Clears the desk of a machine, where that is a node. It takes no memory.
+pub(crate) fn clear_at(desks: &mut Vec<Desk>, at: Actor)
+    ensures { desks.new.items ≡ desks_without at desks.old.items }
+{
+    if let Actor::Node(node) = at {
+        if let Some(desk) = desks.get_mut(node as usize) {
+            desk.clear();
+        }
+    }
+}
+
+/// What comes of an event in which a disk failed: the machine stopped. It takes no memory.
+pub(crate) fn stopped(alloc: Global, at: Actor) -> Outcome
+    ensures { result ≡ stopped_at at }
+{
+    Outcome {
+        stopped: Some(at),
+        ..nothing(alloc)
+    }
+}
+
+/// What comes of an event at a machine that answered these calls: their points and their replies, which its desk keeps.
+pub(crate) fn told(
+    alloc: Global,
+    desks: &mut Vec<Desk>,
+    at: Actor,
+    said: Vec<Said>,
+) -> Result<Outcome, OutOfMemory>
+    requires by { IsBy (length desks.old.items) at said.items }
+    ensures outcome { IfOk result (λ outcome. outcome ≡ outcome_said at said.items) }
+    ensures desks { OnOk result (desks.new.items ≡ desks_said at said.items desks.old.items) }
+{
+    match at {
+        Actor::Node(node) => told_by(alloc, &mut desks[node as usize], node, said),
+        Actor::Replica(_) | Actor::Server(_) | Actor::Member(_) => Ok(nothing(alloc)),
+    }
+}
+
+/// .. at a node.
+fn told_by(
+    alloc: Global,
+    desk: &mut Desk,
+    node: u32,
+    said: Vec<Said>,
+) -> Result<Outcome, OutOfMemory>
+    ensures points { IfOk result (λ outcome. outcome.points ≡ map point_said said.items) }
+    ensures replies { IfOk result (λ outcome. outcome.replies ≡ map (reply_said node) said.items) }
+    ensures alone { IfOk result (λ outcome. (outcome.took ≡ None) × (outcome.again ≡ None) × (outcome.stopped ≡ None)) }
+    ensures desk { OnOk result (desk.new ≡ all_answered desk.old said.items) }
+{
+    let mut points: Vec<Point> = Vec::new(alloc);
+    let mut replies: Vec<ReplyOut> = Vec::new(alloc);
+    for one in said {
+        let kept = Raw::of(alloc, one.reply.bytes())?;
+        desk.answer(alloc, one.point.call, kept)?;
+        points.push(one.point)?;
+        replies.push(ReplyOut {
+            call: one.point.call,
+            node,
+            client: one.client,
+            bytes: one.reply,
+        })?;
+    }
+    Ok(Outcome {
+        took: None,
+        points: List::from(points),
+        replies: List::from(replies),
+        again: None,
+        stopped: None,
+    })
+}

@@ -1,0 +1,208 @@
+-- What comes of the calls that wait, from one step of a node to the next.
+use Rattle.std.proofs.Common.{◌≡◌, ◌≢◌, ◌⊎◌, ⊎_elim, inl, inr, ◌∙◌, ℕ, ◌<◌, Bool, List, [], length, Contains, Option, Some, None, IfSome, IsSomeAnd, refl, sym, ap, subst, arith}
+use Rattle.std.specs.Prelude.{◌↔◌, slice_get}
+use Rattle.bx_base.specs.declared.names.Actor.{Actor}
+use Rattle.bx_base.specs.declared.names.Actor.TheVariants.{Member, Node, Replica, Server}
+use Rattle.bx_facts.proofs.Lists.{nothing}
+use Rattle.bx_global.specs.declared.state.GlobalState.{GlobalState}
+use Rattle.bx_node_rounds.specs.Rounds.{AreNumbered, AreTold, IsTurn, Waits, acting_at, acting_in}
+use Rattle.bx_node_rounds.proofs.Coming.{Changed, changed_at, if_there, numbered_on}
+use Rattle.bx_node_rounds.proofs.Nodes.{both_there}
+use Rattle.bx_node_rounds.proofs.Ticking.{still_ticked, waits_ticked}
+use Rattle.bx_node_rounds.proofs.Turning.{there_then}
+use Rattle.bx_node_steps.specs.Calls.{Acting, ActsAt, Answers, AnswersCalls, AreApart, CallOf, IsAnswered, KeepsCalls, WaitsAt, acting_said, under_way}
+use Rattle.bx_node_steps.specs.Tidying.{Ticks}
+use Rattle.bx_node_steps.specs.declared.machine.Machine.{Machine}
+use Rattle.bx_node_tries.specs.declared.round.Said.{Said}
+use Rattle.bx_nodes.specs.Renewing.{Renews}
+use Rattle.bx_nodes.specs.Renewing.Renews.{Anew, Stays}
+use Rattle.bx_nodes.specs.Standing.{OfBoth, OfNode}
+use Rattle.bx_nodes.specs.Turns.{IsOldOrTold, OnlyMachine}
+use Rattle.bx_nodes.specs.declared.nodes.Nodes.{Nodes}
+use Rattle.bx_world_standing.specs.bx_volume.specs.Overlay.{Logs}
+use Rattle.bx_world_standing.specs.bx_volume.specs.Records.{Logged}
+use Rattle.bx_world_machines.specs.Answering.{Answered, AtNode}
+
+same_or : (a b : ℕ) → (a ≡ b) ⊎ (a ≢ b)
+same_or a b = grind arith
+
+some_and : {A : Type 0} (P : A → Type 0) (found : Option A) (one : A) → found ≡ Some one → IsSomeAnd found P → P one
+some_and P found one there is = subst (λ f. IsSomeAnd f P) there is
+
+and_some : {A : Type 0} (P : A → Type 0) (found : Option A) (one : A) → found ≡ Some one → P one → IsSomeAnd found P
+and_some P found one there is = subst (λ f. IsSomeAnd f P) (sym there) is
+
+-- The same calls wait at each node, and none writes a record that it didn't write.
+pub record Wakes (old new : List Machine) : Type 0 where
+  pub waits : (node : ℕ) (call : CallOf) → Waits new node call ↔ Waits old node call
+  pub acting : (node : ℕ) (acts : Acting) → acting_at new node ≡ Some acts → acting_at old node ≡ Some acts
+
+pub wakes_same : (old new : List Machine) → new ≡ old → Wakes old new
+wakes_same old new same = subst (λ (l : List Machine). Wakes old l) (sym same) (record { waits = λ node call. (λ w. w, λ w. w); acting = λ node acts is. is })
+
+pub wakes_on : (old middle new : List Machine) → Wakes old middle → Wakes middle new → Wakes old new
+wakes_on old middle new one two = record {
+  waits = λ node call. (λ w. (one.waits node call).0 ((two.waits node call).0 w), λ w. (two.waits node call).1 ((one.waits node call).1 w));
+  acting = λ node acts is. one.acting node acts (two.acting node acts is);
+}
+
+-- ---- one node changes
+
+module _ (node : ℕ) (old new : List Machine) (before after : Machine) (was : slice_get old node ≡ Some before) (is : slice_get new node ≡ Some after) (others : OnlyMachine node old new) where
+  pub wakes_one : ((call : CallOf) → WaitsAt after call ↔ WaitsAt before call) → ((acts : Acting) → under_way after ≡ Some acts → under_way before ≡ Some acts) → Wakes old new
+  wakes_one same acting = record { waits = waits; acting = acts_on }
+    where
+      waits : (n : ℕ) (call : CallOf) → Waits new n call ↔ Waits old n call
+      waits n call = ⊎_elim
+          (λ here. subst (λ (k : ℕ). Waits new k call ↔ Waits old k call) (sym here) (
+            (λ w. and_some (λ m. WaitsAt m call) (slice_get old node) before was ((same call).0 (some_and (λ m. WaitsAt m call) (slice_get new node) after is w))),
+            (λ w. and_some (λ m. WaitsAt m call) (slice_get new node) after is ((same call).1 (some_and (λ m. WaitsAt m call) (slice_get old node) before was w))),
+          ))
+          (λ ne. rw (others.others n ne) ((λ w. w), (λ w. w)))
+          (same_or n node)
+
+      acts_on : (n : ℕ) (acts : Acting) → acting_at new n ≡ Some acts → acting_at old n ≡ Some acts
+      acts_on n acts on = ⊎_elim
+          (λ here. subst (λ (k : ℕ). acting_at old k ≡ Some acts) (sym here) (ap acting_in was ∙ acting acts (sym (ap acting_in is) ∙ subst (λ (k : ℕ). acting_at new k ≡ Some acts) here on)))
+          (λ ne. sym (ap acting_in (others.others n ne)) ∙ on)
+          (same_or n node)
+
+module _ {G O S E T : Type 0} (node : ℕ) (old new : Nodes G O S E T) (there : node < length old.machines.items) (count : length new.machines.items ≡ length old.machines.items) (others : OnlyMachine node old.machines.items new.machines.items) where
+  -- it meets its session
+  pub wakes_renewed : (own : Option ℕ) (known : GlobalState) (reads : Bool) → OfBoth old new node (λ old new. AreApart old → KeepsCalls old new) → OfBoth old new node (Renews own known reads) → OfNode old node AreApart → Wakes old.machines.items new.machines.items
+  wakes_renewed own known reads calls renews apart = wakes_one node old.machines.items new.machines.items pair.before pair.after pair.was pair.is others
+      (λ call. (pair.says (if_there AreApart (slice_get old.machines.items node) pair.before pair.was apart)).same call)
+      (by (both_there (Renews own known reads) old new node pair.before pair.after pair.was pair.is renews))
+    where
+      pair : Changed node old new (λ old new. AreApart old → KeepsCalls old new)
+      pair = changed_at node old new (λ old new. AreApart old → KeepsCalls old new) there count calls
+
+      by : Renews own known reads pair.before pair.after → (acts : Acting) → under_way pair.after ≡ Some acts → under_way pair.before ≡ Some acts
+      by (Stays mine same) acts is = sym (ap under_way same) ∙ is
+      by (Anew other begins) acts is = absurd (let none : None ≡ Some acts = sym (ap under_way begins.only) ∙ is in cc)
+
+  -- its clock ticks
+  pub wakes_ticked : OfBoth old new node Ticks → Wakes old.machines.items new.machines.items
+  wakes_ticked ticks = record {
+    waits = waits_ticked node old new there count ticks others;
+    acting = λ n acts is. sym ((still_ticked node old new there count ticks others).acting n) ∙ is;
+  }
+
+-- ---- what is answered
+
+-- nothing is
+pub none_answered : (reading : Option ℕ) (at : Actor) (old new : List Machine) → Wakes old new → Answered reading at old new []
+none_answered reading at old new wakes = record {
+  waited = λ one has. absurd (nothing one has);
+  points = λ one has. absurd (nothing one has);
+  once = tt;
+  left = λ node call. (λ w. ((wakes.waits node call).0 w, λ answered. nothing answered.one answered.there), λ both. (wakes.waits node call).1 both.0);
+  acting = λ node acts is. inl (wakes.acting node acts is);
+}
+
+-- what is answered behind steps that answer nothing
+pub answered_behind : (reading : Option ℕ) (at : Actor) (old middle new : List Machine) (said : List Said) → Wakes old middle → Answered reading at middle new said → Answered reading at old new said
+answered_behind reading at old middle new said wakes is = record {
+  waited = λ one has. moved at (λ node. Waits middle node (acting_said one).call) (λ node. Waits old node (acting_said one).call) (λ node w. (wakes.waits node (acting_said one).call).0 w) (is.waited one has);
+  points = λ one has. ⊎_elim
+      (λ now. inl now)
+      (λ acts. inr (moved at (λ node. acting_at middle node ≡ Some (acting_said one)) (λ node. acting_at old node ≡ Some (acting_said one)) (λ node a. wakes.acting node (acting_said one) a) acts))
+      (is.points one has);
+  once = is.once;
+  left = λ node call. (
+    λ w. let both = (is.left node call).0 w in ((wakes.waits node call).0 both.0, both.1),
+    λ both. (is.left node call).1 ((wakes.waits node call).1 both.0, both.1),
+  );
+  acting = λ node acts on. ⊎_elim (λ before. inl (wakes.acting node acts before)) (λ begins. inr begins) (is.acting node acts on);
+}
+  where
+    moved : (who : Actor) (P Q : ℕ → Type 0) → ((node : ℕ) → P node → Q node) → AtNode who P → AtNode who Q
+    moved (Node n) P Q leads p = leads n p
+    moved (Replica n) P Q leads p = p
+    moved (Server n) P Q leads p = p
+    moved (Member n) P Q leads p = p
+
+-- in a turn
+module _ (moment node latest : ℕ) (old new : List Machine) (said : List Said) (machine : Machine) (there : slice_get old node ≡ Some machine) (turn : IsTurn moment node old new said) (numbers : AreNumbered latest old) where
+  now : (now : Machine) × (slice_get new node ≡ Some now) × AnswersCalls moment machine now said
+  now = there_then moment node latest old new said machine there turn
+
+  its : Answers moment (WaitsAt machine) (under_way machine) (WaitsAt now.0) (under_way now.0) said
+  its = now.2.answers
+
+  answered_waited : (one : Said) → Contains said one → Waits old node (acting_said one).call
+  answered_waited one has = and_some (λ m. WaitsAt m (acting_said one).call) (slice_get old node) machine there (its.waited one has)
+
+  under_is : acting_at old node ≡ under_way machine
+  under_is = ap acting_in there
+
+  points : (one : Said) → Contains said one → (Some moment ≡ Some one.point.moment) ⊎ (acting_at old node ≡ Some (acting_said one))
+  points one has = by (under_way machine) refl (its.points one has)
+    where
+      by : (under : Option Acting) → under_way machine ≡ under → ActsAt moment under (acting_said one) → (Some moment ≡ Some one.point.moment) ⊎ (acting_at old node ≡ Some (acting_said one))
+      by None is at = inl (ap (λ (n : ℕ). Some n) (sym at))
+      by (Some under) is at = ⊎_elim (λ same. inr (under_is ∙ is ∙ ap (λ (a : Acting). Some a) (sym same))) (λ both. inl (ap (λ (n : ℕ). Some n) (sym both.0))) at
+
+  left : (n : ℕ) (call : CallOf) → Waits new n call ↔ (Waits old n call × (IsAnswered said call.number → ⊥))
+  left n call = ⊎_elim
+      (λ here. subst (λ (k : ℕ). Waits new k call ↔ (Waits old k call × (IsAnswered said call.number → ⊥))) (sym here) (
+        (λ w. let both = (its.left call).0 (some_and (λ m. WaitsAt m call) (slice_get new node) now.0 now.1 w) in (and_some (λ m. WaitsAt m call) (slice_get old node) machine there both.0, both.1)),
+        (λ both. and_some (λ m. WaitsAt m call) (slice_get new node) now.0 now.1 ((its.left call).1 (some_and (λ m. WaitsAt m call) (slice_get old node) machine there both.0, both.1))),
+      ))
+      (λ ne. (
+        (λ w. let was = subst (λ found. IsSomeAnd found (λ m. WaitsAt m call)) (turn.others n ne) w in (was, λ is. ne (sym (numbers.alone n node call (acting_said is.one).call was (answered_waited is.one is.there) is.same)))),
+        (λ both. subst (λ found. IsSomeAnd found (λ m. WaitsAt m call)) (sym (turn.others n ne)) both.0),
+      ))
+      (same_or n node)
+
+  begins : (n : ℕ) (acts : Acting) → acting_at new n ≡ Some acts → (acting_at old n ≡ Some acts) ⊎ ((Node node ≡ Node n) × (Some moment ≡ Some acts.point.moment))
+  begins n acts on = ⊎_elim
+      (λ here.
+      let is : under_way now.0 ≡ Some acts = sym (ap acting_in now.1) ∙ subst (λ (k : ℕ). acting_at new k ≡ Some acts) here on in
+      by here (under_way machine) refl (subst (λ (u : Option Acting). IfSome u (ActsAt moment (under_way machine))) is its.begun))
+      (λ ne. inl (sym (ap acting_in (turn.others n ne)) ∙ on))
+      (same_or n node)
+    where
+      by : n ≡ node → (under : Option Acting) → under_way machine ≡ under → ActsAt moment under acts → (acting_at old n ≡ Some acts) ⊎ ((Node node ≡ Node n) × (Some moment ≡ Some acts.point.moment))
+      by here None is at = inr (ap Node (sym here), ap (λ (m : ℕ). Some m) (sym at))
+      by here (Some under) is at = ⊎_elim
+          (λ same. inl (subst (λ (k : ℕ). acting_at old k ≡ Some acts) (sym here) (under_is ∙ is ∙ ap (λ (a : Acting). Some a) (sym same))))
+          (λ both. inr (ap Node (sym here), ap (λ (m : ℕ). Some m) (sym both.0)))
+          at
+
+  pub turn_answers : Answered (Some moment) (Node node) old new said
+  turn_answers = record { waited = answered_waited; points = points; once = its.once; left = left; acting = begins }
+
+-- ---- what goes on
+
+module _ (reading : Option ℕ) (at : Actor) (latest : ℕ) (old new : List Machine) (said : List Said) (answers : Answered reading at old new said) (numbers : AreNumbered latest old) where
+  pub numbers_then : AreNumbered latest new
+  numbers_then = numbered_on latest old new (λ node call w. ((answers.left node call).0 w).0) numbers
+
+  -- what is answered waited at some node
+  waited_there : (one : Said) → Contains said one → (node : ℕ) × Waits old node (acting_said one).call
+  waited_there one has = by at (answers.waited one has)
+    where
+      by : (who : Actor) → AtNode who (λ node. Waits old node (acting_said one).call) → (node : ℕ) × Waits old node (acting_said one).call
+      by (Node n) w = (n, w)
+      by (Replica n) w = absurd w
+      by (Server n) w = absurd w
+      by (Member n) w = absurd w
+
+  pub told_answered : (logs logs_then : Logs) → AreTold latest old logs → ((slot : ℕ) (one : Logged) → Contains (logs_then slot) one → IsOldOrTold logs said slot one) → AreTold latest new logs_then
+  told_answered logs logs_then was logged = record {
+    came = λ slot one has. ⊎_elim
+        (was.came slot one)
+        (λ told. ⊎_elim
+        (λ zero. omega (arith, zero))
+        (λ is. let there = waited_there is.one is.there in let most = numbers.most there.0 (acting_said is.one).call there.1 in let e = is.same in omega (arith, most, e))
+        told)
+        (logged slot one has);
+    none = λ slot one n call has waits. let both = (answers.left n call).0 waits in ⊎_elim
+        (λ before. was.none slot one n call before both.0)
+        (λ told. ⊎_elim
+        (λ zero same. let least = numbers.least n call both.0 in absurd (omega (arith, zero, same, least)))
+        (λ is same. both.1 (record { one = is.one; there = is.there; same = is.same ∙ sym same }))
+        told)
+        (logged slot one has);
+  }

@@ -1,0 +1,221 @@
+-- How the machines stand once one of them heard something.
+use Rattle.std.proofs.Common.{◌≡◌, ◌∙◌, ℕ, ◌<◌, true, List, length, Option, Some, None, IfSome, IsSomeAnd, inl, refl, sym, ap, subst, arith}
+use Rattle.std.specs.Prelude.{max, not, slice_get}
+use Rattle.bx_base.specs.declared.names.Actor.{Actor}
+use Rattle.bx_base.specs.declared.names.Actor.TheVariants.{Node}
+use Rattle.bx_cluster.specs.Steps as steps
+use Rattle.bx_disk.specs.Disks.{Disks}
+use Rattle.bx_facts.specs.declared.input.Input.{Input}
+use Rattle.bx_facts.specs.declared.input.Input.TheVariants.{Packet, Synced, Tick}
+use Rattle.bx_facts.specs.declared.register.Register as register
+use Rattle.bx_facts.specs.declared.store.Store as store
+use Rattle.bx_facts.specs.Inputs.{greatest_with}
+use Rattle.bx_facts.specs.Machines.{put_at}
+use Rattle.bx_node_rounds.specs.Rounds.{AreNumbered, AreTold, Rounded, Waits}
+use Rattle.bx_node_rounds.proofs.Coming.{Changed, apart_then, changed_at, each_called, if_there, newest, numbered_on, numbered_with, still_called, told_on, told_with}
+use Rattle.bx_node_rounds.proofs.Nodes.{both_there}
+use Rattle.bx_node_steps.specs.Calls.{AreApart, CallOf, WaitsAt}
+use Rattle.bx_node_steps.specs.declared.machine.Machine.{Machine}
+use Rattle.bx_node_tries.specs.declared.round.Said.{Said}
+use Rattle.bx_node_tries.specs.declared.round.Waiting.{Waiting}
+use Rattle.bx_nodes.specs.Calls.{AddsCall, IsNewest, WaitsBehind}
+use Rattle.bx_nodes.specs.Standing.{BeReady, OfBoth, Stand}
+use Rattle.bx_nodes.specs.Stopping.{Empties, with_down}
+use Rattle.bx_nodes.specs.Taking.{Hears, with_reading}
+use Rattle.bx_nodes.specs.Turns.{IsOldOrTold, OnlyMachine, Turned}
+use Rattle.bx_nodes.specs.declared.nodes.Nodes.{Nodes}
+use Rattle.bx_nodes.proofs.Calling.{none_wait}
+use Rattle.bx_nodes.proofs.Emptied.{emptied}
+use Rattle.bx_owners.specs.declared.owners.Owners as owners
+use Rattle.bx_post.specs.declared.packets.Letter.{Letter}
+use Rattle.bx_views.specs.declared.engine.Engine as engine
+use Rattle.bx_world_machines.specs.Answering.{Answered, Comes, reading_in}
+use Rattle.bx_world_machines.specs.Machines.{is_up, up_without}
+use Rattle.bx_world_machines.specs.Standing.{AreClocks, AreNodes, AreReady, IsReady, Standing}
+use Rattle.bx_world_machines.specs.declared.machines.Machines.{Machines}
+use Rattle.bx_world_machines.proofs.Answering.{numbers_then, told_answered}
+use Rattle.bx_world_machines.proofs.Nodes.{nodes_with}
+use Rattle.bx_world_machines.proofs.WhoIsUp.{down_without, was_up}
+use Rattle.bx_world_standing.specs.Parts.{Clocks}
+use Rattle.bx_world_standing.specs.bx_volume.specs.Overlay.{Logs}
+
+-- the greatest reading then, in both words
+pub greatest_is : (input : Input) (greatest : ℕ) → greatest_with greatest input ≡ steps.greatest_with (reading_in input) greatest
+greatest_is (Packet packet reading) greatest = refl
+greatest_is (Tick reading) greatest = refl
+greatest_is Synced greatest = refl
+
+-- ---- a machine stops
+
+it_is : {A : Type 0} (found : Option A) → IfSome found (λ one. found ≡ Some one)
+it_is None = tt
+it_is (Some one) = refl
+
+both_and : {A : Type 0} (P Q : A → Type 0) (R : Type 0) (found : Option A) → IfSome found P → IsSomeAnd found Q → ((one : A) → P one → Q one → R) → R
+both_and P Q R None is also by = absurd also
+both_and P Q R (Some one) is also by = by one is also
+
+-- whatever call waits then waited
+pub waited_before : (who : Actor) (old new : List Machine) → Empties who old new → (node : ℕ) (call : CallOf) → Waits new node call → Waits old node call
+waited_before who old new empties node call waits =
+    both_and (λ m. WaitsAt m call → Waits old node call) (λ m. WaitsAt m call) (Waits old node call) (slice_get new node)
+    (emptied who old new empties node (λ m. slice_get old node ≡ Some m) (λ m. WaitsAt m call → Waits old node call)
+    (λ ne machine was w. subst (λ f. IsSomeAnd f (λ m. WaitsAt m call)) (sym was) w)
+    (λ same before after was has w. absurd (none_wait before.cache.devices before.cache.areas after has call w))
+    (it_is (slice_get old node)))
+    waits
+    (λ one leads w. leads w)
+
+-- ---- what stands then
+
+module _ {G O S E T : Type 0} (g : register.Ghosts G) (o : owners.Ghosts O) (st : store.Ghosts S) (e : engine.Ghosts E T) (old new : Machines G O S E T) (input : Input) (boots : new.boots ≡ old.boots) (count : new.count ≡ old.count) (devices : new.devices ≡ old.devices)
+    (latest : new.latest ≡ old.latest) (clock : new.clock ≡ steps.greatest_with (reading_in input) old.clock) where
+  module _ (up : new.up.items ≡ old.up.items) where
+    clocks_then : (clocks : Clocks) → AreClocks g o st e old clocks → AreClocks g o st e new (with_reading clocks input)
+    clocks_then clocks are = record {
+      down = λ who there. are.down who (rw (sym count, sym devices) there) ∙ ap (λ l. not (is_up l who)) (sym up);
+      boots = are.boots ∙ sym boots;
+      greatest = greatest_is input clocks.greatest ∙ ap (steps.greatest_with (reading_in input)) are.greatest ∙ sym clock;
+    }
+
+    -- it went on, and answered calls
+    pub stands_heard : AreReady g o st e old → (at : Actor) (letters letters_then : List Letter) (x y : Disks) (tree : T) (said : List Said) → Answered (reading_in input) at old.nodes.machines.items new.nodes.machines.items said → (standing : Standing g o st e old letters x tree)
+        → Hears (λ later. Turned (e.step old.nodes.engine) (Stand g o st e new.nodes y letters_then (with_reading standing.clocks input)) later tree said) standing.course → Rounded e old.nodes.engine (Standing g o st e new letters_then y) tree said
+    stands_heard ready at letters letters_then x y tree said answers standing heard = record {
+      next = heard.stands.next;
+      leads = heard.stands.leads;
+      stands = record {
+        clocks = with_reading standing.clocks input;
+        course = heard.stands.later;
+        are_clocks = clocks_then standing.clocks standing.are_clocks;
+        stands = heard.stands.stands;
+        told = subst (λ (n : ℕ). AreTold n new.nodes.machines.items heard.stands.later.logs) (sym latest)
+            (told_answered (reading_in input) at old.latest old.nodes.machines.items new.nodes.machines.items said answers ready.numbered standing.course.logs heard.stands.later.logs standing.told
+            (λ slot one has. subst (λ (logs : Logs). IsOldOrTold logs said slot one) heard.logs (heard.stands.logged slot one has)));
+      };
+    }
+
+  module _ (at : Actor) (up : new.up.items ≡ up_without at old.up.items) (empties : Empties at old.nodes.machines.items new.nodes.machines.items) where
+    clocks_stopped : (clocks : Clocks) → AreClocks g o st e old clocks → AreClocks g o st e new (with_down (with_reading clocks input) at)
+    clocks_stopped clocks are = record {
+      down = λ who there. down_put who (are.down who (rw (sym count, sym devices) there)) ∙ sym (down_without at who old.up.items) ∙ ap (λ l. not (is_up l who)) (sym up);
+      boots = are.boots ∙ sym boots;
+      greatest = greatest_is input clocks.greatest ∙ ap (steps.greatest_with (reading_in input)) are.greatest ∙ sym clock;
+    }
+      where
+        down_put : (who : Actor) → clocks.down who ≡ not (is_up old.up.items who) → put_at at true clocks.down who ≡ put_at at true (λ other. not (is_up old.up.items other)) who
+        down_put who same = rw same refl
+
+    -- it stopped
+    pub stands_stopped : (letters : List Letter) (x y : Disks) (tree : T) → (standing : Standing g o st e old letters x tree)
+        → Hears (λ later. Stand g o st e new.nodes y letters (with_down (with_reading standing.clocks input) at) later tree) standing.course → Standing g o st e new letters y tree
+    stands_stopped letters x y tree standing heard = record {
+      clocks = with_down (with_reading standing.clocks input) at;
+      course = heard.later;
+      are_clocks = clocks_stopped standing.clocks standing.are_clocks;
+      stands = heard.stands;
+      told = subst (λ (n : ℕ). AreTold n new.nodes.machines.items heard.later.logs) (sym latest)
+          (told_on old.latest old.nodes.machines.items new.nodes.machines.items (waited_before at old.nodes.machines.items new.nodes.machines.items empties) heard.later.logs
+          (subst (λ (logs : Logs). AreTold old.latest old.nodes.machines.items logs) (sym heard.logs) standing.told));
+    }
+
+    pub ready_stopped : AreReady g o st e old → (sizes : List ℕ) → IsReady g o st e old sizes → AreNodes g o st e new.nodes → st.made new.nodes.store ≡ st.made old.nodes.store → IsReady g o st e new sizes
+    ready_stopped ready sizes is nodes made = record {
+      are_ready = record {
+        nodes = nodes;
+        counted = empties.count ∙ ready.counted ∙ sym count;
+        members = ap (λ m. m.devices) made ∙ ready.members ∙ sym devices;
+        few = rw devices ready.few;
+        there = λ who is_up_then. rw (count, devices) (ready.there who (was_up at who old.up.items (subst (λ l. is_up l who ≡ true) up is_up_then)));
+        numbered = subst (λ (n : ℕ). AreNumbered n new.nodes.machines.items) (sym latest)
+            (numbered_on old.latest old.nodes.machines.items new.nodes.machines.items (waited_before at old.nodes.machines.items new.nodes.machines.items empties) ready.numbered);
+      };
+      replicas = is.replicas;
+      members = rw (devices, made) is.members;
+    }
+
+-- ---- a call comes
+
+-- A node that is up is there.
+pub node_there : {G O S E T : Type 0} (g : register.Ghosts G) (o : owners.Ghosts O) (st : store.Ghosts S) (e : engine.Ghosts E T) (machines : Machines G O S E T) (node : ℕ) → AreReady g o st e machines → is_up machines.up.items (Node node) ≡ true → node < length machines.nodes.machines.items
+node_there g o st e machines node ready up = let less = ready.there (Node node) up in let counted = ready.counted in omega (arith, less, counted)
+
+module _ {G O S E T : Type 0} (g : register.Ghosts G) (o : owners.Ghosts O) (st : store.Ghosts S) (e : engine.Ghosts E T) (old new : Machines G O S E T) (middle : Nodes G O S E T) (node reading : ℕ) (call : Waiting) (ready : AreReady g o st e old) (there : node < length old.nodes.machines.items)
+    (later : old.latest < call.number) (count : length middle.machines.items ≡ length old.nodes.machines.items) (behind : OfBoth old.nodes middle node (WaitsBehind call)) (others : OnlyMachine node old.nodes.machines.items middle.machines.items) where
+  pub comes_to : Comes node call old.nodes.machines.items middle.machines.items
+  comes_to = record { waits = each_called node call old.nodes middle there count behind others; acting = (still_called node call old.nodes middle there count behind others).acting }
+
+  pub numbers_with : AreNumbered call.number middle.machines.items
+  numbers_with = numbered_with old.latest node old.nodes.machines.items middle.machines.items call later (λ at other. (comes_to.waits at other).0) ready.numbered
+
+  pub nodes_called : (middle.register ≡ old.nodes.register) × (middle.owners ≡ old.nodes.owners) × (middle.store ≡ old.nodes.store) × (middle.engine ≡ old.nodes.engine) → BeReady st e middle node
+      → OfBoth old.nodes middle node (λ old new. IsNewest call old → AreApart old → AddsCall call old new) → AreNodes g o st e middle
+  nodes_called parts mine adds = nodes_with g o st e old.nodes middle ready.nodes node there count others mine parts
+      (apart_then node old.nodes.machines.items middle.machines.items pair.before pair.after pair.was pair.is others added.apart ready.nodes.apart)
+    where
+      pair : Changed node old.nodes middle (WaitsBehind call)
+      pair = changed_at node old.nodes middle (WaitsBehind call) there count behind
+
+      added : AddsCall call pair.before pair.after
+      added = both_there (λ old new. IsNewest call old → AreApart old → AddsCall call old new) old.nodes middle node pair.before pair.after pair.was pair.is adds
+          (newest node old.nodes.machines.items middle.machines.items pair.before pair.after pair.was pair.is others old.latest call ready.numbered later)
+          (if_there AreApart (slice_get old.nodes.machines.items node) pair.before pair.was (ready.nodes.apart node))
+
+  module _ (boots : new.boots ≡ old.boots) (same_count : new.count ≡ old.count) (devices : new.devices ≡ old.devices) (up : new.up.items ≡ old.up.items) (latest : new.latest ≡ call.number) (clock : new.clock ≡ max old.clock reading) where
+    pub stands_called : (letters letters_then : List Letter) (x : Disks) (tree : T) (said : List Said) → Answered (Some reading) (Node node) middle.machines.items new.nodes.machines.items said → (standing : Standing g o st e old letters x tree)
+        → Turned (e.step old.nodes.engine) (Stand g o st e new.nodes x letters_then (with_reading standing.clocks (Tick reading))) standing.course tree said → Rounded e old.nodes.engine (Standing g o st e new letters_then x) tree said
+    stands_called letters letters_then x tree said answers standing turned = record {
+      next = turned.next;
+      leads = turned.leads;
+      stands = record {
+        clocks = with_reading standing.clocks (Tick reading);
+        course = turned.later;
+        are_clocks = record {
+          down = λ who has. standing.are_clocks.down who (rw (sym same_count, sym devices) has) ∙ ap (λ l. not (is_up l who)) (sym up);
+          boots = standing.are_clocks.boots ∙ sym boots;
+          greatest = ap (λ n. max n reading) standing.are_clocks.greatest ∙ sym clock;
+        };
+        stands = turned.stands;
+        told = subst (λ (n : ℕ). AreTold n new.nodes.machines.items turned.later.logs) (sym latest)
+            (told_answered (Some reading) (Node node) call.number middle.machines.items new.nodes.machines.items said answers numbers_with standing.course.logs turned.later.logs
+            (told_with old.latest node old.nodes.machines.items middle.machines.items call later (λ at other. (comes_to.waits at other).0) standing.course.logs standing.told) turned.logged);
+      };
+    }
+
+    pub ready_called : (sizes : List ℕ) (said : List Said) → Answered (Some reading) (Node node) middle.machines.items new.nodes.machines.items said → IsReady g o st e old sizes → AreNodes g o st e new.nodes → st.made new.nodes.store ≡ st.made old.nodes.store
+        → length new.nodes.machines.items ≡ length old.nodes.machines.items → IsReady g o st e new sizes
+    ready_called sizes said answers is nodes made counts = record {
+      are_ready = record {
+        nodes = nodes;
+        counted = counts ∙ ready.counted ∙ sym same_count;
+        members = ap (λ m. m.devices) made ∙ ready.members ∙ sym devices;
+        few = rw devices ready.few;
+        there = λ who is_up_then. rw (same_count, devices) (ready.there who (subst (λ l. is_up l who ≡ true) up is_up_then));
+        numbered = subst (λ (n : ℕ). AreNumbered n new.nodes.machines.items) (sym latest) (numbers_then (Some reading) (Node node) call.number middle.machines.items new.nodes.machines.items said answers numbers_with);
+      };
+      replicas = is.replicas;
+      members = rw (devices, made) is.members;
+    }
+
+-- ---- a node has its turn
+
+module _ {G O S E T : Type 0} (g : register.Ghosts G) (o : owners.Ghosts O) (st : store.Ghosts S) (e : engine.Ghosts E T) (old new : Machines G O S E T) (node reading : ℕ) (ready : AreReady g o st e old) (boots : new.boots ≡ old.boots) (count : new.count ≡ old.count)
+    (devices : new.devices ≡ old.devices) (up : new.up.items ≡ old.up.items) (latest : new.latest ≡ old.latest) (clock : new.clock ≡ max old.clock reading) (said : List Said) (answers : Answered (Some reading) (Node node) old.nodes.machines.items new.nodes.machines.items said) where
+  pub ready_turned : (sizes : List ℕ) → IsReady g o st e old sizes → AreNodes g o st e new.nodes → st.made new.nodes.store ≡ st.made old.nodes.store → length new.nodes.machines.items ≡ length old.nodes.machines.items → IsReady g o st e new sizes
+  ready_turned sizes is nodes made counts = record {
+    are_ready = record {
+      nodes = nodes;
+      counted = counts ∙ ready.counted ∙ sym count;
+      members = ap (λ m. m.devices) made ∙ ready.members ∙ sym devices;
+      few = rw devices ready.few;
+      there = λ who is_up_then. rw (count, devices) (ready.there who (subst (λ l. is_up l who ≡ true) up is_up_then));
+      numbered = subst (λ (n : ℕ). AreNumbered n new.nodes.machines.items) (sym latest) (numbers_then (Some reading) (Node node) old.latest old.nodes.machines.items new.nodes.machines.items said answers ready.numbered);
+    };
+    replicas = is.replicas;
+    members = rw (devices, made) is.members;
+  }
+
+  pub stands_turned : (letters letters_then : List Letter) (x : Disks) (tree : T) → (standing : Standing g o st e old letters x tree) → Turned (e.step old.nodes.engine) (Stand g o st e new.nodes x letters_then (with_reading standing.clocks (Tick reading))) standing.course tree said
+      → Rounded e old.nodes.engine (Standing g o st e new letters_then x) tree said
+  stands_turned letters letters_then x tree standing turned = stands_heard g o st e old new (Tick reading) boots count devices latest clock up ready (Node node) letters letters_then x x tree said answers standing
+      (record { later = standing.course; grows = inl refl; logs = refl; stands = turned })

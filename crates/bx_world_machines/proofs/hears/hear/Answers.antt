@@ -1,0 +1,28 @@
+use Rattle.std.proofs.Common.{◌≡◌, false, refl, sym, subst}
+use Rattle.bx_nodes.proofs.Ending.{err_back}
+use Rattle.bx_nodes.proofs.Leading.{turned_none}
+use Rattle.bx_nodes.specs.Taking.{with_reading}
+use Rattle.bx_world_machines.proofs.Answering.{none_answered, wakes_same}
+use Rattle.bx_world_machines.proofs.Clocks.{steady_then}
+use Rattle.bx_world_machines.proofs.hears.hear.Goals as goal
+
+pub returns-in_err-take-clause-stopped : goal.returns-in_err-take-clause-stopped
+returns-in_err-take-clause-stopped g c = λ letters clocks course tree tells up steady comes stands fault.
+    c.in_err-take.ensures.stopped letters clocks course tree tells up steady comes stands (err_back c.from_residual.result _ c.from_residual.ensures.1 fault)
+
+pub returns-in_ok-wake-in-Node-clause-stands : goal.returns-in_ok-wake-in-Node-clause-stands
+returns-in_ok-wake-in-Node-clause-stands g c = λ letters clocks course tree tells up steady comes stands.
+    let heard = c.in_ok-take.ensures.stands letters clocks course tree tells up steady comes stands in
+    let input = c.args.input.now in
+    let turned = c.in_ok-wake-in-Node.ensures.stands (g.R.Rack.state c.take.new.rack) letters (with_reading clocks input) heard.later tree (subst (λ who. clocks.down who ≡ false) c.in-Node.is up) (steady_then clocks.greatest input steady) heard.stands in
+    record { later = heard.later; grows = heard.grows; logs = heard.logs; stands = rw (sym c.take.ensures.engine) turned }
+
+pub returns-in-Replica-clause-stands : goal.returns-in-Replica-clause-stands
+returns-in-Replica-clause-stands g c = λ letters clocks course tree tells up steady comes stands.
+    let heard = c.in_ok-take.ensures.stands letters clocks course tree tells up steady comes stands in
+    record { later = heard.later; grows = heard.grows; logs = heard.logs; stands = rw c.new.ensures.items (turned_none _ _ heard.later tree heard.stands) }
+
+pub returns-in-Replica-clause-answers : goal.returns-in-Replica-clause-answers
+returns-in-Replica-clause-answers g c = λ latest numbers.
+    rw c.new.ensures.items (none_answered _ c.args.at c.args.nodes.now.machines.items c.take.new.self.machines.items
+    (wakes_same c.args.nodes.now.machines.items c.take.new.self.machines.items (rw (c.in_ok-take.ensures.machines (λ fault. absurd cc)) refl)))

@@ -1,0 +1,22 @@
+use Rattle.std.proofs.Common.{inl, refl}
+use Rattle.bx_facts.specs.declared.input.Input.TheVariants.{Synced}
+use Rattle.bx_world_machines.proofs.Nodes.{nodes_emptied}
+use Rattle.bx_world_machines.proofs.Standing.{ready_stopped, stands_stopped}
+use Rattle.bx_world_machines.proofs.machines.Machines.crash.Goals as goal
+
+pub returns-clause-stands : goal.returns-clause-stands
+returns-clause-stands g c = λ letters x tree standing.
+    let old = c.args.self.now in
+    let said = c.crash.ensures in
+    let new = record old { nodes = c.crash.new.self; up = c.leave_out.new.up } in
+    let stopped = said.stands x letters standing.clocks standing.course tree standing.stands in
+    stands_stopped g.G.Register g.O.Owners g.S.Store g.E.Engine old new Synced refl refl refl refl refl c.args.who c.leave_out.ensures said.empties letters x x tree standing
+    (record { later = stopped.later; grows = inl stopped.chain; logs = stopped.logs; stands = stopped.stands })
+
+pub returns-clause-ready : goal.returns-clause-ready
+returns-clause-ready g c = λ sizes is_ready.
+    let old = c.args.self.now in
+    let said = c.crash.ensures in
+    let new = record old { nodes = c.crash.new.self; up = c.leave_out.new.up } in
+    ready_stopped g.G.Register g.O.Owners g.S.Store g.E.Engine old new Synced refl refl refl refl refl c.args.who c.leave_out.ensures said.empties is_ready.are_ready sizes is_ready
+    (nodes_emptied g.G.Register g.O.Owners g.S.Store g.E.Engine old.nodes c.crash.new.self is_ready.are_ready.nodes c.args.who said.empties said.ready said.apart (said.made.1, said.made.2, said.made.3)) said.made.3

@@ -1,0 +1,22 @@
+use Rattle.bx_nodes.proofs.Machines.{if_ok_so}
+use Rattle.bx_base.specs.declared.names.Actor.TheVariants.{Node}
+use Rattle.bx_node_rounds.proofs.Coming.{numbered_on}
+use Rattle.bx_world_machines.proofs.Answering.{answered_behind, wakes_ticked}
+use Rattle.bx_world_machines.proofs.Nodes.{nodes_ticked}
+use Rattle.bx_world_machines.proofs.wakes.tick.Goals as goal
+
+pub turn-requires-clause-nodes : goal.turn-requires-clause-nodes
+turn-requires-clause-nodes g c =
+    let said = c.tick.ensures in
+    let old = c.args.nodes.now in
+    nodes_ticked g.G.Register g.O.Owners g.S.Store g.E.Engine old c.tick.new.self c.requires.nodes c.args.node c.requires.there said.count said.others (said.ready (c.requires.nodes.ready c.args.node)) said.parts said.ticks
+
+pub returns-clause-answers : goal.returns-clause-answers
+returns-clause-answers g c = λ latest numbers.
+    let said = c.tick.ensures in
+    let old = c.args.nodes.now in
+    let middle = c.tick.new.self in
+    let wakes = wakes_ticked c.args.node old middle c.requires.there said.count said.others said.ticks in
+    if_ok_so _ _ c.turn.result
+    (λ items is. answered_behind _ (Node c.args.node) old.machines.items middle.machines.items c.turn.new.nodes.machines.items items.items wakes is)
+    (c.turn.ensures.answers latest (numbered_on latest old.machines.items middle.machines.items (λ at call. (wakes.waits at call).0) numbers))

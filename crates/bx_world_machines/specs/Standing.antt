@@ -1,0 +1,66 @@
+-- How the machines of a cluster stand between two events.
+use Rattle.std.specs.Prelude.{◌≡◌, ℕ, ◌+◌, ◌*◌, ◌/◌, ◌<◌, ◌≤◌, true, not, List, length, slice_index}
+use Rattle.bx_base.specs.declared.names.Actor.{Actor}
+use Rattle.bx_base.specs.declared.names.Actor.TheVariants.{Node, Replica, Server, Member}
+use Rattle.bx_disk.specs.Disks.{Disks}
+use Rattle.bx_facts.specs.declared.register.Register as register
+use Rattle.bx_facts.specs.declared.store.Store as store
+use Rattle.bx_facts.specs.Writes.{store_room}
+use Rattle.bx_node_rounds.specs.Rounds.{AreNumbered, AreTold}
+use Rattle.bx_node_steps.specs.Calls.{AreApart}
+use Rattle.bx_nodes.specs.Standing.{BeReady, OfNode, Stand}
+use Rattle.bx_nodes.specs.declared.nodes.Nodes.{Nodes}
+use Rattle.bx_owners.specs.declared.owners.Owners as owners
+use Rattle.bx_places.specs.Places.{replica_sectors}
+use Rattle.bx_post.specs.declared.packets.Letter.{Letter}
+use Rattle.bx_views.specs.declared.engine.Engine as engine
+use Rattle.bx_world_machines.specs.Machines.{is_up}
+use Rattle.bx_world_machines.specs.declared.machines.Machines.{Machines}
+use Rattle.bx_world_standing.specs.Parts.{Clocks}
+use Rattle.bx_world_standing.specs.Standing.{Course}
+
+-- a cluster of so many nodes and devices has a machine: three replicas and two lock servers always, and two members of each device
+abbrev pub HasMachine : ℕ → ℕ → Actor → Type 0
+HasMachine nodes devices (Node n) = n < nodes
+HasMachine nodes devices (Replica n) = n < 3
+HasMachine nodes devices (Server n) = n < 2
+HasMachine nodes devices (Member n) = n / 2 < devices
+
+module _ {G O S E T : Type 0} (g : register.Ghosts G) (o : owners.Ghosts O) (st : store.Ghosts S) (e : engine.Ghosts E T) where
+  -- The parts are for as many nodes as there are; each node may use them, and no two of the calls that wait at it have one number.
+  pub record AreNodes (nodes : Nodes G O S E T) : Type 0 where
+    pub registers : g.nodes nodes.register ≡ length nodes.machines.items
+    pub owners : o.nodes nodes.owners ≡ length nodes.machines.items
+    pub stores : (st.made nodes.store).nodes ≡ length nodes.machines.items
+    pub ready : (node : ℕ) → BeReady st e nodes node
+    pub apart : (node : ℕ) → OfNode nodes node AreApart
+
+  -- All is of one cluster, with as many nodes and devices as it says. Those machines that are up are there; and the calls that wait have numbers up to the latest one,
+  -- no two the same.
+  pub record AreReady (machines : Machines G O S E T) : Type 0 where
+    pub nodes : AreNodes machines.nodes
+    pub counted : length machines.nodes.machines.items ≡ machines.count
+    pub members : (st.made machines.nodes.store).devices ≡ machines.devices
+    pub few : machines.devices ≤ 4
+    pub there : (who : Actor) → is_up machines.up.items who ≡ true → HasMachine machines.count machines.devices who
+    pub numbered : AreNumbered machines.latest machines.nodes.machines.items
+
+  -- They are ready, and disks of these sizes are as long as their machines need them.
+  pub record IsReady (machines : Machines G O S E T) (sizes : List ℕ) : Type 0 where
+    pub are_ready : AreReady machines
+    pub replicas : (disk : ℕ) → disk < 3 → replica_sectors ≤ slice_index sizes disk
+    pub members : (disk : ℕ) → 3 ≤ disk → disk < 3 + 2 * machines.devices → store_room (st.made machines.nodes.store) ≤ slice_index sizes disk
+
+  -- The clocks are those that the machines have: who is down, of those that are there; the greatest boot; and the greatest reading.
+  pub record AreClocks (machines : Machines G O S E T) (clocks : Clocks) : Type 0 where
+    pub down : (who : Actor) → HasMachine machines.count machines.devices who → clocks.down who ≡ not (is_up machines.up.items who)
+    pub boots : clocks.most ≡ machines.boots
+    pub greatest : clocks.greatest ≡ machines.clock
+
+  -- They stand on disks for a tree, whatever was done, with these letters under way; and what their logs have was told.
+  pub record Standing (machines : Machines G O S E T) (letters : List Letter) (x : Disks) (tree : T) : Type 0 where
+    pub clocks : Clocks
+    pub course : Course
+    pub are_clocks : AreClocks machines clocks
+    pub stands : Stand g o st e machines.nodes x letters clocks course tree
+    pub told : AreTold machines.latest machines.nodes.machines.items course.logs

@@ -1,0 +1,12 @@
+//! All machines of a cluster, over any register, owners, store and engine, and what one of them does when it hears something.
+#![tactic(auto)]
+
+mod begins;
+mod calls;
+mod hears;
+mod machines;
+mod stops;
+mod up;
+mod wakes;
+
+pub use machines::Machines;

@@ -137,6 +137,7 @@ module _ {O E T : Type 0} (o : owners.Ghosts O) (e : engine.Ghosts E T) (engine_
         given = waits.given;
         calls = waits.calls;
         answered = waits.answered;
+        in_turn = waits.in_turn;
         newest = waits.newest;
         noted = waits.noted;
         later = λ call has newer. subst (λ (l : List Waiting). Contains l call) (sym calls) (waits.later call has newer);
@@ -165,6 +166,7 @@ sent_waits o e engine_is node moment session said before after out out_then IsAs
   given = waits.given;
   calls = waits.calls;
   answered = waits.answered;
+  in_turn = waits.in_turn;
   newest = waits.newest;
   noted = waits.noted;
   later = λ call has newer. subst (λ (l : List Waiting). Contains l call) (sym calls) (waits.later call has newer);

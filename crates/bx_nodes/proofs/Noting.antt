@@ -79,6 +79,7 @@ module _ {O E T : Type 0} (o : owners.Ghosts O) (e : engine.Ghosts E T) (engine_
     given = stood.given;
     calls = stood.calls;
     answered = stood.answered;
+    in_turn = stood.in_turn;
     newest = stood.newest;
     noted = stood.noted;
     later = stood.later;

@@ -1,5 +1,5 @@
 -- What a node waits for at the end of a turn.
-use Rattle.std.proofs.Common.{◌≡◌, ◌⊎◌, ⊎_elim, ◌∙◌, inl, inr, ℕ, ◌+◌, ◌<◌, ◌≤◌, false, true, List, [], ◌∷◌, ◌++◌, length, Contains, All, Option, Some, None, IfSome, IsSome, refl, sym, ap, subst, arith}
+use Rattle.std.proofs.Common.{◌≡◌, ◌⊎◌, ⊎_elim, ◌∙◌, inl, inr, Bool, ℕ, ◌+◌, ◌<◌, ◌≤◌, false, true, List, [], ◌∷◌, ◌++◌, length, Contains, All, Option, Some, None, IfSome, IsSome, refl, sym, ap, subst, arith}
 use Rattle.std.specs.List.{AllByRecursion}
 use Rattle.std.specs.Prelude.{IsSomeAnd}
 use Rattle.std.proofs.lemmas.Bool.Decides.{nat_tests}
@@ -33,7 +33,7 @@ use Rattle.bx_nodes.proofs.Machines.{count_waiting}
 use Rattle.bx_records.specs.Runs.{KindAndRuns}
 use Rattle.bx_nodes.proofs.Giving.{AreOf, gives_on, wanted_none}
 use Rattle.bx_nodes.specs.Giving.{AreWanted, GivesBack, IsInNeeds}
-use Rattle.bx_nodes.specs.Turns.{AreNeededBy, HasCause, Waits, newest_of}
+use Rattle.bx_nodes.specs.Turns.{AreNeededBy, CameInTurn, HasCause, Waits, newest_of}
 use Rattle.bx_nodes.specs.Turns.HasCause.{AskedBack, Needs, Over, Writes}
 use Rattle.bx_owners.specs.declared.owners.Owners as owners
 use Rattle.bx_places.specs.Places.{IsBlock, is_block}
@@ -187,6 +187,10 @@ none_said (one ∷ said) is = absurd (omega (arith, is))
 
 -- ---- why calls wait
 
+-- an answer that is said behind others is said
+said_later : (earlier later said : List Said) (number : ℕ) → said ≡ earlier ++ later → IsAnswered later number → IsAnswered said number
+said_later earlier later said number is one = subst (λ (l : List Said). IsAnswered l number) (sym is) (record { one = one.one; there = Contains-append_right earlier later one.one one.there; same = one.same })
+
 -- a node of which only what it has of blocks changed, with the calls that wait at it then
 same_calls : (a b : Machine) → OnlyHolds a b → record a { calls = b.calls } ≡ a
 same_calls a b only = ap (λ (m : Machine). record a { calls = m.calls }) only
@@ -212,6 +216,7 @@ module _ {O E T : Type 0} (o : owners.Ghosts O) (e : engine.Ghosts E T) (engine_
     given = first_given;
     calls = λ call has. subst (λ (l : List Waiting). Contains l call) first_calls has;
     answered = λ call has. inl (subst (λ (l : List Waiting). Contains l call) (sym first_calls) has);
+    in_turn = λ call has. inl (subst (λ (l : List Waiting). Contains l call) (sym first_calls) has);
     newest = newest;
     noted = noted;
     later = later;
@@ -247,6 +252,7 @@ module _ {O E T : Type 0} (o : owners.Ghosts O) (e : engine.Ghosts E T) (engine_
         given = first_given;
         calls = λ call has. subst (λ (l : List Waiting). Contains l call) first_calls has;
         answered = λ call has. inl (subst (λ (l : List Waiting). Contains l call) (sym first_calls) has);
+        in_turn = λ call has. inl (subst (λ (l : List Waiting). Contains l call) (sym first_calls) has);
         newest = newest;
         noted = noted;
         later = λ call has newer. subst (λ (l : List Waiting). Contains l call) (sym calls) (later call has newer);
@@ -263,38 +269,79 @@ module _ {O E T : Type 0} (o : owners.Ghosts O) (e : engine.Ghosts E T) (engine_
         keeps = inr (λ at. subst (λ k. (kept_in machine.cache.kept at ≡ kept_in k.kept at) ⊎ ((wants : List (ℕ × Mode)) × Contains needs wants × ((mode : Mode) × Contains wants (at, mode)))) cache (keeps at));
       }
 
+  -- One that isn't newer than those that a block is kept for comes in its turn.
+  comes : (newest : Option ℕ) → newest ≡ newest_of (first_of (o.asks between node)) given → (call : Waiting) → Contains given.calls.items call → is_newer newest call.number ≡ false → CameInTurn o node session said before old call
+  comes newest noted call waited older = record {
+    middle = given;
+    between = between;
+    back = back;
+    given = first_given;
+    calls = λ other has. subst (λ (l : List Waiting). Contains l other) first_calls has;
+    answered = λ other has. inl (subst (λ (l : List Waiting). Contains l other) (sym first_calls) has);
+    waited = waited;
+    older = subst (λ (n : Option ℕ). is_newer n call.number ≡ false) noted older;
+  }
+
+  waits_or_comes : (newest : Option ℕ) (tried : Machine) → newest ≡ newest_of (first_of (o.asks between node)) given → NewerWait newest tried → (call : Waiting) → Contains given.calls.items call → (is : Bool) → is_newer newest call.number ≡ is
+      → Contains tried.calls.items call ⊎ CameInTurn o node session said before old call
+  waits_or_comes newest tried noted newer call there true is = inl (newer call there is)
+  waits_or_comes newest tried noted newer call there false is = inr (comes newest noted call there is)
+
   -- They were attempted, and then it went on with a further round.
-  pub again : (earlier later : List Said) (tried machine : Machine) → said ≡ earlier ++ later → tried ≡ record given { calls = tried.calls } → AreOf given.calls.items tried.calls.items
-      → ((call : Waiting) → Contains given.calls.items call → Contains tried.calls.items call ⊎ IsAnswered earlier call.number) → Waits o e engine_is node moment session later between after out IsAsked tried machine
-      → Waits o e engine_is node moment session said before after out IsAsked old machine
-  again earlier later tried machine is attempted of answered waits =
-      let from : (call : Waiting) → Contains waits.middle.calls.items call → Contains old.calls.items call = λ call has. subst (λ (l : List Waiting). Contains l call) first_calls (of call (waits.calls call has)) in
-      let tidy : tried.tidy ≡ old.tidy = ap (λ (m : Machine). m.tidy) attempted ∙ ap (λ (m : Machine). m.tidy) held in
-      record {
-        middle = waits.middle;
-        between = waits.between;
-        back = back ++ waits.back;
-        given = gives_on o node session waits.middle back waits.back before between waits.between old given waits.middle gives from
-            (subst (λ (m : Machine). GivesBack o node session waits.back between m waits.between waits.middle) (ap (λ (m : Machine). record m { calls = waits.middle.calls }) attempted) waits.given);
-        calls = from;
-        answered = λ call has. ⊎_elim
-            (λ still. ⊎_elim (λ on. inl on) (λ one. inr (subst (λ (l : List Said). IsAnswered l call.number) (sym is) (record { one = one.one; there = Contains-append_right earlier later one.one one.there; same = one.same })))
-            (waits.answered call still))
-            (λ one. inr (subst (λ (l : List Said). IsAnswered l call.number) (sym is) (record { one = one.one; there = Contains-append_left earlier later one.one one.there; same = one.same })))
-            (answered call (subst (λ (l : List Waiting). Contains l call) (sym first_calls) has));
-        newest = waits.newest;
-        noted = waits.noted;
-        later = waits.later;
-        needs = waits.needs;
-        needed = All-weaker (AreNeededBy e engine_is waits.needs tried waits.middle machine moment) (AreNeededBy e engine_is waits.needs old waits.middle machine moment)
-            (λ wants need. ⊎_elim (λ calls. inl calls)
-            (λ of_tidy. inr (record { before = of_tidy.before; tidy = of_tidy.tidy; is = sym tidy ∙ of_tidy.is; fair = of_tidy.fair; keeps = of_tidy.keeps })) need) waits.needs waits.needed;
-        wanted = waits.wanted;
-        causes = waits.causes;
-        left = waits.left;
-        asking = waits.asking;
-        keeps = waits.keeps;
-      }
+  module _ (earlier later : List Said) (tried : Machine) (is : said ≡ earlier ++ later) (attempted : tried ≡ record given { calls = tried.calls }) (of : AreOf given.calls.items tried.calls.items)
+      (answered : (call : Waiting) → Contains given.calls.items call → Contains tried.calls.items call ⊎ IsAnswered earlier call.number) where
+    calls_on : (middle : Machine) → AreOf tried.calls.items middle.calls.items → AreOf old.calls.items middle.calls.items
+    calls_on middle few call has = subst (λ (l : List Waiting). Contains l call) first_calls (of call (few call has))
+
+    given_on : (middle : Machine) (then : O) (more : List ℕ) → AreOf tried.calls.items middle.calls.items → GivesBack o node session more between (record tried { calls = middle.calls }) then middle
+        → GivesBack o node session (back ++ more) before (record old { calls = middle.calls }) then middle
+    given_on middle then more few given_more = gives_on o node session middle back more before between then old given middle gives (calls_on middle few)
+        (subst (λ (m : Machine). GivesBack o node session more between m then middle) (ap (λ (m : Machine). record m { calls = middle.calls }) attempted) given_more)
+
+    answered_on : (middle : Machine) → ((call : Waiting) → Contains tried.calls.items call → Contains middle.calls.items call ⊎ IsAnswered later call.number)
+        → (call : Waiting) → Contains old.calls.items call → Contains middle.calls.items call ⊎ IsAnswered said call.number
+    answered_on middle more call has = ⊎_elim (λ still. ⊎_elim (λ on. inl on) (λ one. inr (said_later earlier later said call.number is one)) (more call still))
+        (λ one. inr (subst (λ (l : List Said). IsAnswered l call.number) (sym is) (record { one = one.one; there = Contains-append_left earlier later one.one one.there; same = one.same })))
+        (answered call (subst (λ (l : List Waiting). Contains l call) (sym first_calls) has))
+
+    came_on : (call : Waiting) → CameInTurn o node session later between tried call → CameInTurn o node session said before old call
+    came_on call came = record {
+      middle = came.middle;
+      between = came.between;
+      back = back ++ came.back;
+      given = given_on came.middle came.between came.back came.calls came.given;
+      calls = calls_on came.middle came.calls;
+      answered = answered_on came.middle came.answered;
+      waited = came.waited;
+      older = came.older;
+    }
+
+    pub again : (machine : Machine) (newest : Option ℕ) → newest ≡ newest_of (first_of (o.asks between node)) given → NewerWait newest tried → Waits o e engine_is node moment session later between after out IsAsked tried machine
+        → Waits o e engine_is node moment session said before after out IsAsked old machine
+    again machine newest noted newer waits =
+        let tidy : tried.tidy ≡ old.tidy = ap (λ (m : Machine). m.tidy) attempted ∙ ap (λ (m : Machine). m.tidy) held in
+        record {
+          middle = waits.middle;
+          between = waits.between;
+          back = back ++ waits.back;
+          given = given_on waits.middle waits.between waits.back waits.calls waits.given;
+          calls = calls_on waits.middle waits.calls;
+          answered = answered_on waits.middle waits.answered;
+          in_turn = λ call has. ⊎_elim (λ still. ⊎_elim (λ on. inl on) (λ came. inr (came_on call came)) (waits.in_turn call still)) (λ came. inr came)
+              (waits_or_comes newest tried noted newer call (subst (λ (l : List Waiting). Contains l call) (sym first_calls) has) (is_newer newest call.number) refl);
+          newest = waits.newest;
+          noted = waits.noted;
+          later = waits.later;
+          needs = waits.needs;
+          needed = All-weaker (AreNeededBy e engine_is waits.needs tried waits.middle machine moment) (AreNeededBy e engine_is waits.needs old waits.middle machine moment)
+              (λ wants need. ⊎_elim (λ calls. inl calls)
+              (λ of_tidy. inr (record { before = of_tidy.before; tidy = of_tidy.tidy; is = sym tidy ∙ of_tidy.is; fair = of_tidy.fair; keeps = of_tidy.keeps })) need) waits.needs waits.needed;
+          wanted = waits.wanted;
+          causes = waits.causes;
+          left = waits.left;
+          asking = waits.asking;
+          keeps = waits.keeps;
+        }
 
 -- What was answered before counts too.
 pub answered_more : {O E T : Type 0} (o : owners.Ghosts O) (e : engine.Ghosts E T) (engine_is : E) (node moment session : ℕ) (earlier later said : List Said) (before after : O) (out : Option Sent) (IsAsked : ℕ → Type 0) (first machine : Machine) → said ≡ earlier ++ later
@@ -305,8 +352,18 @@ answered_more o e engine_is node moment session earlier later said before after 
   back = waits.back;
   given = waits.given;
   calls = waits.calls;
-  answered = λ call has. ⊎_elim (λ on. inl on)
-      (λ one. inr (subst (λ (l : List Said). IsAnswered l call.number) (sym is) (record { one = one.one; there = Contains-append_right earlier later one.one one.there; same = one.same }))) (waits.answered call has);
+  answered = λ call has. ⊎_elim (λ on. inl on) (λ one. inr (said_later earlier later said call.number is one)) (waits.answered call has);
+  in_turn = λ call has. ⊎_elim (λ on. inl on)
+      (λ came. inr (record {
+        middle = came.middle;
+        between = came.between;
+        back = came.back;
+        given = came.given;
+        calls = came.calls;
+        answered = λ other waited. ⊎_elim (λ on. inl on) (λ one. inr (said_later earlier later said other.number is one)) (came.answered other waited);
+        waited = came.waited;
+        older = came.older;
+      })) (waits.in_turn call has);
   newest = waits.newest;
   noted = waits.noted;
   later = waits.later;

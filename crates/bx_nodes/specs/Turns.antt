@@ -78,9 +78,22 @@ pub data HasCause {E T : Type 0} (e : engine.Ghosts E T) (engine_is : E) (middle
 abbrev pub AreNeededBy : {E T : Type 0} → engine.Ghosts E T → E → List (List (ℕ × Mode)) → Machine → Machine → Machine → ℕ → List (ℕ × Mode) → Type 0
 AreNeededBy e engine_is needs first middle machine moment wants = AreNeeded e engine_is (held_in middle.cache.kept) (hint_in middle.cache.hinted) moment machine.calls.items wants ⊎ IsForTidy e engine_is needs first machine wants
 
+-- A call came in its turn: the node had given back what it may, by the calls that waited then, which are those that waited when it began, but for some that are answered; the call was one of
+-- them, and not newer than those that a block was kept for.
+pub record CameInTurn {O : Type 0} (o : owners.Ghosts O) (node session : ℕ) (said : List Said) (before : O) (first : Machine) (call : Waiting) : Type 0 where
+  pub middle : Machine
+  pub between : O
+  pub back : List ℕ
+  pub given : GivesBack o node session back before (record first { calls = middle.calls }) between middle
+  pub calls : (other : Waiting) → Contains middle.calls.items other → Contains first.calls.items other
+  pub answered : (other : Waiting) → Contains first.calls.items other → Contains middle.calls.items other ⊎ IsAnswered said other.number
+  pub waited : Contains middle.calls.items call
+  pub older : is_newer (newest_of (first_of (o.asks between node)) middle) call.number ≡ false
+
 -- What a node waits for at the end of a turn at a moment, of what it and owners had when it began to give back. It gave back what it may, by the calls that waited at the last attempts: those that
--- waited when it began, but for some that are answered. These were attempted over what it had then, and each that waits still has its cause; each that is newer than those that a block is
--- kept for waits on, and none of them was answered there, unless no block is asked back any more. Of owners it wants nothing but what they need, or its tidy; and where no write is out, something is out for each of these blocks, or there is a reason why not.
+-- waited when it began, but for some that came in their turn and are answered. These were attempted over what it had then, and each that waits still has its cause; each that is newer than those
+-- that a block is kept for waits on, and none of them was answered there, unless no block is asked back any more. Of owners it wants nothing but what they need, or its tidy; and where no write is
+-- out, something is out for each of these blocks, or there is a reason why not.
 pub record Waits {O E T : Type 0} (o : owners.Ghosts O) (e : engine.Ghosts E T) (engine_is : E) (node moment session : ℕ) (said : List Said) (before after : O) (out : Option Sent) (IsAsked : ℕ → Type 0) (first machine : Machine) : Type 0 where
   pub middle : Machine
   pub between : O
@@ -88,6 +101,7 @@ pub record Waits {O E T : Type 0} (o : owners.Ghosts O) (e : engine.Ghosts E T) 
   pub given : GivesBack o node session back before (record first { calls = middle.calls }) between middle
   pub calls : (call : Waiting) → Contains middle.calls.items call → Contains first.calls.items call
   pub answered : (call : Waiting) → Contains first.calls.items call → Contains middle.calls.items call ⊎ IsAnswered said call.number
+  pub in_turn : (call : Waiting) → Contains first.calls.items call → Contains middle.calls.items call ⊎ CameInTurn o node session said before first call
   pub newest : Option ℕ
   pub noted : newest ≡ newest_of (first_of (o.asks between node)) middle
   pub later : (call : Waiting) → Contains middle.calls.items call → is_newer newest call.number ≡ true → Contains machine.calls.items call

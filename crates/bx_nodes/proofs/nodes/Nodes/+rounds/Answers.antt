@@ -213,6 +213,8 @@ returns-clause-waits g t c =
     let settles = subst (λ (m : Option Machine). Settle c.newest_asked-newest.result moment m (Some tried_is.0) c.in_ok-said.field-0) given_is.1
     (subst (λ (m : Option Machine). Settle c.newest_asked-newest.result moment (slice_get given.machines.items node) m c.in_ok-said.field-0) tried_is.1 c.in_ok-said.ensures.goes) in
     let new = c.rounds.new.self in
+    let newest = c.newest_asked-newest.result in
+    let noted = of_there (λ (m : Machine). newest ≡ newest_of (first_of (g.O.Owners.asks given.owners node)) m) (slice_get given.machines.items node) given_is.0 given_is.1 c.newest_asked-newest.ensures in
     let said = c.in_ok-said.field-0.said.items in
     let more = c.in_ok-more.more.items in
     let all = c.append.new.self.items in
@@ -220,7 +222,8 @@ returns-clause-waits g t c =
     let Asks : ℕ → Type 0 = λ at. Asking g.G.Register g.O.Owners new node at in
     was_there (λ (a : Machine). IfSome (slice_get new.machines.items node) (Waits g.O.Owners e new.engine node moment session all owners new.owners out Asks a)) (slice_get items node) old_is.0 old_is.1
     (if_some (slice_get new.machines.items node) (Waits g.O.Owners e new.engine node moment session more given.owners new.owners out Asks tried_is.0) (Waits g.O.Owners e new.engine node moment session all owners new.owners out Asks old_is.0)
-    (λ b waits. again g.O.Owners e new.engine node moment session all owners given.owners new.owners gives.0 out Asks old_is.0 given_is.0 gives.1 held said more tried_is.0 b c.in_ok-append.ensures.items attempted (settles_of moment given_is.0 tried_is.0 c.in_ok-said.field-0 settles) (settles_each moment given_is.0 tried_is.0 c.in_ok-said.field-0 settles c.in_default.is) waits)
+    (λ b waits. again g.O.Owners e new.engine node moment session all owners given.owners new.owners gives.0 out Asks old_is.0 given_is.0 gives.1 held said more tried_is.0 c.in_ok-append.ensures.items attempted (settles_of moment given_is.0 tried_is.0 c.in_ok-said.field-0 settles) (settles_each moment given_is.0 tried_is.0 c.in_ok-said.field-0 settles c.in_default.is)
+    b newest noted (settles_newer moment given_is.0 tried_is.0 c.in_ok-said.field-0 settles) waits)
     (subst (λ w. IfSome (slice_get new.machines.items node) (Waits g.O.Owners e new.engine node moment session more w new.owners out Asks tried_is.0)) c.in_ok-said.ensures.parts.1
     (of_there (λ (m : Machine). IfSome (slice_get new.machines.items node) (Waits g.O.Owners e new.engine node moment session more tried.owners new.owners out Asks m)) (slice_get tried.machines.items node) tried_is.0 tried_is.1 c.in_ok-more.ensures.waits)))
 

@@ -1,8 +1,9 @@
 -- What one event is, what a cluster shows after it, and what it is in a run.
-use Rattle.std.specs.Prelude.{◌≡◌, ℕ, ◌+◌, ◌≤◌, ◌==◌, max, Bool, true, false, List, [], ◌∷◌, ◌++◌, map, reverse, Option, Some, None, IsSome, slice_index, if◌then◌else◌}
+use Rattle.std.specs.Prelude.{◌≡◌, ℕ, ◌+◌, ◌≤◌, max, Bool, true, false, List, [], ◌∷◌, ◌++◌, map, reverse, Option, Some, None, IsSome, if◌then◌else◌}
 use Rattle.bx_base.specs.declared.names.Actor.{Actor}
 use Rattle.bx_base.specs.declared.names.Actor.TheVariants.{Node, Replica, Server, Member}
-use Rattle.bx_facts.specs.Machines.{disk_of, put_at}
+use Rattle.bx_facts.specs.Machines.{put_at}
+use Rattle.bx_history.specs.Along.{ends_one}
 use Rattle.bx_history.specs.Parts.{Arrival, Part}
 use Rattle.bx_post.specs.declared.packets.Letter.{Letter}
 use Rattle.bx_post.specs.Posts.{Posted, fresh, settled_from}
@@ -24,16 +25,6 @@ IsTime (Some reading) = reading ≤ 4294967295999
 
 abbrev pub IsMoment : Event → Type 0
 IsMoment event = IsTime (reading_of event)
-
--- a machine that starts again has a disk with some sectors
-abbrev pub MayStep : List ℕ → Event → Type 0
-MayStep sizes (Restart reading at) = (disk : ℕ) → disk_of at ≡ Some disk → 1 ≤ slice_index sizes disk
-MayStep sizes (Call reading node client bytes) = Unit {0}
-MayStep sizes (Tick reading at) = Unit {0}
-MayStep sizes (Deliver reading number) = Unit {0}
-MayStep sizes (Sync at) = Unit {0}
-MayStep sizes (Crash at) = Unit {0}
-MayStep sizes (Blank at) = Unit {0}
 
 -- calls that came and machines that started again are counted
 abbrev pub Counted : Event → ℕ → ℕ → Type 0
@@ -88,12 +79,6 @@ pub record Shown (event : Event) (stopped : Option Actor) (old new : Seen) : Typ
   pub dropped : IsSome stopped → sent ≡ []
 
 -- ---- its part of a run
-
-abbrev pub ends_one : Actor → ℕ → Bool
-ends_one (Node n) node = n == node
-ends_one (Replica n) node = false
-ends_one (Server n) node = false
-ends_one (Member n) node = false
 
 -- a fault stops a node as a crash does
 abbrev pub ends_with : Option Actor → (ℕ → Bool) → ℕ → Bool

@@ -14,7 +14,10 @@ ghost use Rattle.bx_post.specs.Posts.{is_waiting, next_from, passing_from, settl
 ghost use Rattle.bx_world_events.specs.Refusals.{refusal};
 ghost use Rattle.bx_world_events.specs.declared.event.Event.TheVariants.{Blank};
 ghost use Rattle.bx_world_events.specs.declared.event.EventError.TheVariants.{OutOfMemory as NoMemory};
-ghost use Rattle.bx_cluster.specs.Steps.{Counted, IsMoment, MayStep, Shown, part_at};
+ghost use Rattle.bx_history.specs.Trace.{Entry};
+ghost use Rattle.bx_world_events.specs.Causes.{IsThere};
+ghost use Rattle.bx_cluster.specs.Runs.{Account};
+ghost use Rattle.bx_cluster.specs.Steps.{Counted, IsMoment, Shown, part_at};
 
 use crate::outcome::Outcome;
 use bx_base::Actor;
@@ -28,8 +31,14 @@ pub trait Cluster: Shows + Drop {
     /// How many events have started something: a call that came, a machine that started again.
     ghost events: { Self → ℕ };
 
-    /// A rack of disks of these sizes has those of all machines that are up.
+    /// A rack of disks of these sizes has those of all machines.
     ghost room: { Self → List ℕ → Type 0 };
+
+    /// What a call that acts at its point makes of a tree.
+    ghost steps: { Self → Tree → Entry → Tree → Type 0 };
+
+    /// The datagram is a call that touches no block.
+    ghost at_once: { Self → List ℕ → Type 0 };
 
     /// From this tree, what happened so far led to it, with these disks.
     ghost led: { Self → Disks → Tree → List Part → Type 0 };
@@ -48,7 +57,6 @@ pub trait Cluster: Shows + Drop {
         requires moment { IsMoment event.now }
         requires few { events self.old < 4611686018427387904 }
         requires room { room self.old (R.state rack.old).sizes }
-        requires disk { MayStep (R.state rack.old).sizes event.now }
         ensures refused { IfErr result (λ error. (error ≡ NoMemory) ⊎ (refusal (Self.seen self.old) event.now ≡ Some error)) }
         ensures does { OnOk result (refusal (Self.seen self.old) event.now ≡ None) }
         ensures unchanged { IfErr result (λ error. error ≢ NoMemory → (self.new ≡ self.old) × (R.state rack.new ≡ R.state rack.old) × (R.faults rack.new ≡ R.faults rack.old)) }
@@ -58,7 +66,7 @@ pub trait Cluster: Shows + Drop {
             → IfOk result (λ outcome. LeavesOnly (R.moment rack.old) (R.moment rack.new) (R.left_since rack.old) (R.left_since rack.new) (λ image. shown self.old (R.state rack.old).sizes image tree parts ⊎ shown self.new (R.state rack.old).sizes image tree (part_at event.now outcome ∷ parts))) }
         ensures stopped { IfOk result (λ outcome. IsSome outcome.stopped → Rose (R.faults rack.old) (R.faults rack.new)) }
         ensures counted { OnOk result (Counted event.now (events self.old) (events self.new)) }
-        ensures room { (sizes : List ℕ) → room self.old sizes → MayStep sizes event.now → OnOk result (room self.new sizes) }
+        ensures room { (sizes : List ℕ) → room self.old sizes → OnOk result (room self.new sizes) }
         ensures later { NoneFalls (R.faults rack.old) (R.faults rack.new) (R.faults_of rack.old) (R.faults_of rack.new) }
         ensures sizes { (R.state rack.new).sizes ≡ (R.state rack.old).sizes }
         ensures keeps_telling { R.tells rack.old → R.tells rack.new };
@@ -89,11 +97,14 @@ pub trait Cluster: Shows + Drop {
         ensures room { (sizes : List ℕ) → room self.old sizes → room self.new sizes }
         ensures events { events self.new ≡ events self.old };
 
+    /// What happened is told of by one history, which leads from that tree.
+    ghost accounts: { (w : Self) (x : Disks) (tree : Tree) (parts : List Part) → led w x tree parts → Account (steps w) (at_once w) tree parts };
+
     /// Each image shows such a tree.
     ghost shows: { (w : Self) (x : Disks) (tree : Tree) (parts : List Part) (image : Image) → led w x tree parts → IsImage x image → shown w x.sizes image tree parts };
 
-    /// The disk of a machine that is down may crash.
-    ghost crashes: { (w : Self) (x y : Disks) (tree : Tree) (parts : List Part) (who : Actor) (disk : ℕ) → led w x tree parts → (Self.seen w).down who ≡ true → disk_of who ≡ Some disk → y.sizes ≡ x.sizes → Crashes disk x y → led w y tree parts };
+    /// The disk of a machine that is there and down may crash.
+    ghost crashes: { (w : Self) (x y : Disks) (tree : Tree) (parts : List Part) (who : Actor) (disk : ℕ) → led w x tree parts → IsThere (Self.seen w) who → (Self.seen w).down who ≡ true → disk_of who ≡ Some disk → y.sizes ≡ x.sizes → Crashes disk x y → led w y tree parts };
 
     /// So may it be replaced by a blank one, where that isn't refused.
     ghost blanks: { (w : Self) (x : Disks) (tree : Tree) (parts : List Part) (who : Actor) (disk : ℕ) → led w x tree parts → refusal (Self.seen w) (Blank who) ≡ None → disk_of who ≡ Some disk → led w (blanked x disk) tree parts };

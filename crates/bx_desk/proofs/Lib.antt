@@ -2,3 +2,4 @@ pub mod Lists
 pub mod Answers
 pub mod Hearing
 pub mod Going
+pub mod Serving

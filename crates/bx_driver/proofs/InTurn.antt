@@ -1,7 +1,7 @@
 -- The machines of a cluster, one kind behind the other.
-use Rattle.std.proofs.Common.{◌≡◌, ℕ, zero, suc, ◌+◌, ◌*◌, ◌/◌, ◌%◌, ◌<◌, List, [], ◌∷◌, ◌++◌, true, false, Bool, filter, inl, inr, refl, arith, ap, sym, ◌∙◌, subst, append_assoc}
+use Rattle.std.proofs.Common.{◌≡◌, ℕ, zero, suc, ◌+◌, ◌*◌, ◌/◌, ◌%◌, ◌<◌, ◌≤◌, List, [], ◌∷◌, ◌++◌, true, false, Bool, filter, length, inl, inr, refl, arith, ap, sym, ◌∙◌, subst, append_assoc}
 use Rattle.std.proofs.lemmas.Bool.{cases_lt}
-use Rattle.std.proofs.lemmas.List.{append-nil}
+use Rattle.std.proofs.lemmas.List.{append-nil, length-append}
 use Rattle.std.proofs.lemmas.List.Elements.{All-append, All-filter, All-nil, All-push, Contains-append_cases, Contains-append_left, Contains-append_right, Contains-push, Contains-push_cases, filter_passes}
 use Rattle.std.proofs.lemmas.List.Kept.{AllPairs-filter}
 use Rattle.std.proofs.lemmas.List.Quantifiers.{all_pairs_push}
@@ -12,7 +12,7 @@ use Rattle.bx_base.specs.declared.names.Actor.{Actor}
 use Rattle.bx_base.specs.declared.names.Actor.TheVariants.{Node, Replica, Server, Member}
 use Rattle.bx_world_events.specs.Causes.{IsThere}
 use Rattle.bx_world_events.specs.Refusals.{Seen}
-use Rattle.bx_driver.specs.Machines.{AreInTurn}
+use Rattle.bx_driver.specs.Machines.{AreInTurn, machines_of}
 
 -- so many machines of one kind, by their numbers from 0 on
 abbrev pub first_ones : (ℕ → Actor) → ℕ → List Actor
@@ -200,3 +200,29 @@ passed_in_turn P Q test these to from all = record {
   every = λ who stands. has_passed test these who (from who stands).1 (all.every who (from who stands).0);
   rise = AllPairs-filter ComesBefore test these all.rise;
 }
+
+-- ---- how many there are
+
+count_ones : (name : ℕ → Actor) (n : ℕ) → length (first_ones name n) ≡ n
+count_ones name zero = refl
+count_ones name (suc n) = let e = length-append (first_ones name n) (name n ∷ []) in omega (arith, e, count_ones name n)
+
+pub all_counted : (seen : Seen) (these : List Actor) → these ≡ machines seen → length these ≡ machines_of seen
+all_counted seen these is =
+    let nodes = count_ones Node seen.nodes in
+    let firsts = count_ones first_member seen.devices in
+    let seconds = count_ones second_member seen.devices in
+    let a = length-append (first_ones Node seen.nodes) (first_ones Replica 3) in
+    let b = length-append (to_replicas seen) (first_ones Server 2) in
+    let c = length-append (to_servers seen) (first_ones first_member seen.devices) in
+    let d = length-append (to_firsts seen) (first_ones second_member seen.devices) in
+    let e : length these ≡ length (machines seen) = ap length is in
+    omega (arith, e, d, c, b, a, nodes, firsts, seconds)
+
+pub fewer_passed : (test : Actor → Bool) (these : List Actor) → length (filter test these) ≤ length these
+fewer_passed test [] = omega arith
+fewer_passed test (one ∷ rest) = by_test (test one) (fewer_passed test rest)
+  where
+    by_test : (b : Bool) → length (filter test rest) ≤ length rest → length (cond b (one ∷ filter test rest) (filter test rest)) ≤ suc (length rest)
+    by_test true less = omega (arith, less)
+    by_test false less = omega (arith, less)

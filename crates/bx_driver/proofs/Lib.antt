@@ -5,3 +5,4 @@ pub mod Least
 pub mod Numbers
 pub mod Sets
 pub mod Turns
+pub mod Stepping

@@ -5,3 +5,5 @@ pub mod Machines
 pub mod Nexts
 pub mod Pending
 pub mod Runs
+pub mod Steps
+pub mod Racks

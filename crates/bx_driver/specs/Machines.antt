@@ -1,5 +1,5 @@
 -- The machines of a cluster, in their order.
-use Rattle.std.specs.Prelude.{◌≡◌, ◌+◌, ◌*◌, ◌^◌, ◌<◌, true, false, List}
+use Rattle.std.specs.Prelude.{◌≡◌, ℕ, ◌+◌, ◌*◌, ◌^◌, ◌<◌, true, false, List}
 use Rattle.std.specs.List.{All, AllPairs, Contains}
 use Rattle.bx_base.specs.Actors.{ComesBefore}
 use Rattle.bx_base.specs.declared.names.Actor.{Actor}
@@ -22,3 +22,7 @@ pub record AreInTurn (Stands : Actor → Type 0) (these : List Actor) : Type 0 w
 -- its disks have numbers of 32 bits
 abbrev pub HasDiskNumbers : Seen → Type 0
 HasDiskNumbers seen = 3 + 2 * seen.devices < 2 ^ 32
+
+-- how many machines there are
+abbrev pub machines_of : Seen → ℕ
+machines_of seen = seen.nodes + 2 * seen.devices + 5

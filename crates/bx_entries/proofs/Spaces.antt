@@ -7,7 +7,7 @@ use Rattle.bx_blink.specs.Places.{IsPlaceOf}
 use Rattle.bx_blink.proofs.Under.{agrees}
 use Rattle.bx_layout.specs.declared.block.Block.{Block}
 use Rattle.bx_leaves.specs.Changes.{IsFullLeaf}
-use Rattle.bx_leaves.specs.Leaves.{IsNearlyFull}
+use Rattle.bx_leaves.specs.Leaves.{IsPageNearlyFull}
 use Rattle.bx_leaves.proofs.Exchanged.{with_page}
 use Rattle.bx_leaves.proofs.Members.{in_left, in_middle, in_right, in_split}
 use Rattle.bx_leaves.proofs.Replaced.{Fits, replaced, with_level}
@@ -35,7 +35,7 @@ space_of areas held hints truth root tree key u r = record { handle = r.handle; 
     node : IsNode (chunks_of areas truth) 0 r.place.node
     node = (u.is.levels 0 r.place.within).nodes_are r.place.node r.place.there
 
-    full : IsNearlyFull held r.handle → ⊥
+    full : IsPageNearlyFull held r.handle → ⊥
     full n =
         let same = (agrees areas held hints truth [] root tree u).sees.same r.handle Exclusive n.block node.block n.there (ap (chunks_of areas truth) (sym r.place.handle_is) ∙ node.chunk) in
         let pages : n.page ≡ r.page = some_same n.block node.block same n.page r.place.node.page n.has node.has ∙ r.place.page_is in
@@ -53,8 +53,8 @@ finds_space chunks root held tree key value space leaf is s short enough f = by 
     same : (leaf ≡ s.handle) × (f.page ≡ s.page)
     same = one_place chunks root tree 0 key s.handle leaf s.page f.page is s.place f.place
 
-    by : IsNearlyFull held leaf ⊎ (4096 < size (with_value f.page key value)) → ⊥
-    by (inl n) = s.roomy (subst (IsNearlyFull held) same.0 n)
+    by : IsPageNearlyFull held leaf ⊎ (4096 < size (with_value f.page key value)) → ⊥
+    by (inl n) = s.roomy (subst (IsPageNearlyFull held) same.0 n)
     by (inr big) =
         let sizes = ap size same.1 in
         let room = s.room in

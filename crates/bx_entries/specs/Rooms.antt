@@ -1,7 +1,7 @@
 -- Room for an entry in the leaves of a directory's tree, over a view with a draft.
 use Rattle.std.specs.Prelude.{ℕ, ◌+◌, ◌≤◌, List}
 use Rattle.bx_blink.specs.Places.{IsPlaceOf}
-use Rattle.bx_leaves.specs.Leaves.{IsNearlyFull}
+use Rattle.bx_leaves.specs.Leaves.{IsPageNearlyFull}
 use Rattle.bx_page.specs.Contents.{Contents, size}
 use Rattle.bx_records.specs.Drafts.{Changed}
 use Rattle.bx_truth.specs.Chunks.{chunks_of}
@@ -15,7 +15,7 @@ pub record HasSpace (held : Held) (tree : PageTree) (key : List ℕ) (space : �
   pub page : Contents
   pub place : IsPlaceOf tree 0 key handle page
   pub room : size page + space ≤ 4096
-  pub roomy : IsNearlyFull held handle → ⊥
+  pub roomy : IsPageNearlyFull held handle → ⊥
 
 -- The tree under a root has room for two greatest entries, which take 544 bytes, at the key of a name and at that of a number.
 pub record HasRooms (areas : ℕ) (held : Held) (truth : Truth) (draft : List Changed) (root : ℕ) (name : List ℕ) (number : ℕ) : Type 0 where

@@ -10,9 +10,10 @@ use Rattle.bx_history.specs.Trace.{Entry, Taking, takings}
 use Rattle.bx_history.specs.Parts.{Part, trace_of}
 use Rattle.bx_history.specs.Placed.{Rules, HasReadingSince, IsAnsweredAtOnce}
 use Rattle.bx_history.specs.Along.{all_end}
-use Rattle.bx_history.specs.Account.{AwaitsNewest, IsPatient, IsPending, LacksPoint, answers_at, entry_for}
+use Rattle.bx_history.specs.Account.{AwaitsNewest, IsPatient, IsPending, LacksPoint, entry_for}
 use Rattle.bx_history.proofs.Lists.{all_mapped}
-use Rattle.bx_history.proofs.Waiting.{no_prompt}
+use Rattle.bx_history.proofs.OnePart.{no_prompt, some_ended}
+use Rattle.bx_history.proofs.Waiting.{awaits_own, awaits_these}
 
 module _ {Tree : Type 0} (Step : Tree → Entry → Tree → Type 0) (rules : Rules) (patient : IsPatient rules) where
   -- ---- all nodes end: no call waits any more
@@ -20,18 +21,8 @@ module _ {Tree : Type 0} (Step : Tree → Entry → Tree → Type 0) (rules : Ru
   pub ended_part : (first : Tree) (parts : List Part) (history : List Entry) (last : Tree) (waits : ℕ → List Taking) (reading : Option ℕ)
       → AwaitsNewest Step rules first parts history last waits
       → AwaitsNewest Step rules first (record { what = record { arrives = None; reading = reading; ends = all_end; runs = false }; lines = [] } ∷ parts) history last (λ _. [])
-  ended_part first parts history last waits reading so_far = record {
-    fits = so_far.fits;
-    leads = so_far.leads;
-    placed = (
-      record { takes = refl; repeats = refl; immediate = tt; prompt = λ is. absurd (no_prompt Step rules patient _ is); moments = tt },
-      so_far.placed,
-    );
-    waiting_are = λ node. refl;
-    pending = λ node. tt;
-    in_order = λ node. tt;
-    split = λ node. record { before = answers_at (trace_of parts) node; whole = refl };
-  }
+  ended_part first parts history last waits reading so_far = awaits_these Step rules patient first _ history last (λ _. []) (λ node. refl)
+      (some_ended Step rules patient first parts history last (awaits_own Step rules patient first parts history last waits so_far) reading all_end)
 
   -- ---- a call acted that waits no more
 

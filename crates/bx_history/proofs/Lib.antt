@@ -2,6 +2,8 @@ pub mod Numbering
 pub mod Since
 pub mod Lists
 pub mod Unanswered
+pub mod Serving
+pub mod OnePart
 pub mod Waiting
 pub mod Taking
 pub mod Whole

@@ -1,8 +1,9 @@
 -- Lists that are tested.
-use Rattle.std.proofs.Common.{◌≡◌, Bool, true, false, cond, List, [], ◌∷◌, ◌++◌, inl, inr, refl, sym, ap, subst, ◌∙◌}
-use Rattle.std.specs.Prelude.{◌&&◌, ◌⊎◌, filter}
+use Rattle.std.proofs.Common.{◌≡◌, ◌<◌, Bool, true, false, cond, List, [], ◌∷◌, ◌++◌, inl, inr, refl, sym, ap, subst, ◌∙◌}
+use Rattle.std.specs.Prelude.{◌&&◌, filter}
 use Rattle.std.specs.List.{AllByRecursion}
-use Rattle.bx_history.specs.Trace.{IsIn}
+use Rattle.bx_history.specs.Trace.{IsIn, Taking}
+use Rattle.bx_history.specs.Account.{AreNewestFirst}
 
 pub all_mapped : {X : Type 0} (P Q : X → Type 0) (xs : List X) → ((x : X) → P x → Q x) → AllByRecursion P xs → AllByRecursion Q xs
 all_mapped P Q [] gives all = tt
@@ -30,6 +31,15 @@ all_passed P Q p (x ∷ xs) gives all = by (p x) refl (all_passed P Q p xs gives
     by : (b : Bool) → p x ≡ b → AllByRecursion Q (filter p xs) → AllByRecursion Q (cond b (x ∷ filter p xs) (filter p xs))
     by true is later = (gives x is all.0, later)
     by false is later = later
+
+-- what passes a test keeps its order
+pub order_passed : (p : Taking → Bool) (waits : List Taking) → AreNewestFirst waits → AreNewestFirst (filter p waits)
+order_passed p [] order = tt
+order_passed p (t ∷ waits) order = by (p t) (order_passed p waits order.1)
+  where
+    by : (b : Bool) → AreNewestFirst (filter p waits) → AreNewestFirst (cond b (t ∷ filter p waits) (filter p waits))
+    by true later = (all_passed (λ other. other.call < t.call) (λ other. other.call < t.call) p waits (λ other is less. less) order.0, later)
+    by false later = later
 
 -- ---- one of a list
 

@@ -1,6 +1,6 @@
 -- What was taken since a node ended is found there.
-use Rattle.std.proofs.Common.{◌≡◌, ℕ, Bool, true, false, cond, eqb, List, [], ◌∷◌, ◌++◌, Some, inl, inr, refl, sym, ap, ◌∙◌}
-use Rattle.std.specs.Prelude.{◌⊎◌, filter, if◌then◌else◌}
+use Rattle.std.proofs.Common.{◌≡◌, ℕ, Bool, true, false, eqb, List, [], ◌∷◌, ◌++◌, Some, inl, inr, refl, sym, ap, ◌∙◌}
+use Rattle.std.specs.Prelude.{if◌then◌else◌}
 use Rattle.std.proofs.lemmas.Bool.{eq-eqb}
 use Rattle.std.proofs.lemmas.List.{append_assoc}
 use Rattle.bx_script.specs.declared.trace_line.TraceLine.{TraceLine}
@@ -35,12 +35,24 @@ takings-append (Acted point ∷ a) b = takings-append a b
 takings-append (Reply call reply ∷ a) b = takings-append a b
 takings-append (Again node client reply ∷ a) b = takings-append a b
 
--- the trace since a node ended is the front of the trace
-record IsFront (front whole : List TraceLine) : Type 0 where
-  rest : List TraceLine
-  is : whole ≡ front ++ rest
+-- lines are the front of others
+pub record IsFront (front whole : List TraceLine) : Type 0 where
+  pub rest : List TraceLine
+  pub is : whole ≡ front ++ rest
 
-since_front : (parts : List Part) (node : ℕ) → IsFront (trace_since parts node) (trace_of parts)
+-- what was taken in the front is found in the whole exactly where it is found there
+module _ (since trace : List TraceLine) (front : IsFront since trace) where
+  whole : takings trace ≡ takings since ++ takings front.rest
+  whole = ap takings front.is ∙ takings-append since front.rest
+
+  pub known_there : (taking other : Taking) → IsIn taking (takings since) → taking_of trace taking.call ≡ Some other → taking_of since taking.call ≡ Some other
+  known_there taking other is found = found_first (takings since) (takings front.rest) taking other is (rw whole at found)
+
+  pub found_there : (call : ℕ) (other : Taking) → taking_of since call ≡ Some other → taking_of trace call ≡ Some other
+  found_there call other found = rw whole (found_front (takings since) (takings front.rest) call other found)
+
+-- the trace since a node ended is the front of the trace
+pub since_front : (parts : List Part) (node : ℕ) → IsFront (trace_since parts node) (trace_of parts)
 since_front [] node = record { rest = []; is = refl }
 since_front (part ∷ older) node = by (part.what.ends node) (since_front older node)
   where
@@ -50,13 +62,7 @@ since_front (part ∷ older) node = by (part.what.ends node) (since_front older 
 
 pub taken_since : (parts : List Part) (node : ℕ) (taking other : Taking) → IsIn taking (takings (trace_since parts node)) → taking_of (trace_of parts) taking.call ≡ Some other
     → taking_of (trace_since parts node) taking.call ≡ Some other
-taken_since parts node taking other is found =
-    let front = since_front parts node in
-    let whole : takings (trace_of parts) ≡ takings (trace_since parts node) ++ takings front.rest = ap takings front.is ∙ takings-append (trace_since parts node) front.rest in
-    found_first (takings (trace_since parts node)) (takings front.rest) taking other is (rw whole at found)
+taken_since parts node = known_there (trace_since parts node) (trace_of parts) (since_front parts node)
 
 pub found_whole : (parts : List Part) (node call : ℕ) (other : Taking) → taking_of (trace_since parts node) call ≡ Some other → taking_of (trace_of parts) call ≡ Some other
-found_whole parts node call other found =
-    let front = since_front parts node in
-    let whole : takings (trace_of parts) ≡ takings (trace_since parts node) ++ takings front.rest = ap takings front.is ∙ takings-append (trace_since parts node) front.rest in
-    rw whole (found_front (takings (trace_since parts node)) (takings front.rest) call other found)
+found_whole parts node = found_there (trace_since parts node) (trace_of parts) (since_front parts node)

@@ -1,8 +1,11 @@
 -- A trace along a schedule: what happens at each line, and the lines of the trace that come at it.
-use Rattle.std.specs.Prelude.{◌≡◌, ℕ, Bool, true, false, List, [], ◌∷◌, map, reverse, Some, None}
+use Rattle.std.specs.Prelude.{◌≡◌, ◌==◌, ℕ, Bool, true, false, List, [], ◌∷◌, map, reverse, Some, None}
 use Rattle.std.specs.List.{AllByRecursion}
+use Rattle.bx_base.specs.declared.names.Actor.{Actor}
+use Rattle.bx_base.specs.declared.names.Actor.TheVariants.{Node, Replica, Server, Member}
+use Rattle.bx_script.specs.Schedule.{reading_of}
 use Rattle.bx_script.specs.declared.line.Line.{Line}
-use Rattle.bx_script.specs.declared.line.Line.TheVariants.{Heading, Call, Run, Crash, Restart, Tick}
+use Rattle.bx_script.specs.declared.line.Line.TheVariants.{Call, Run, Crash, CrashAll}
 use Rattle.bx_script.specs.declared.trace_line.TraceLine.{TraceLine}
 use Rattle.bx_history.specs.Parts.{Happening, Part, trace_of}
 use Rattle.bx_history.specs.Placed.{Rules, PlacedNewest, IsClosing}
@@ -15,15 +18,21 @@ none_ends node = false
 abbrev pub all_end : ℕ → Bool
 all_end node = true
 
+-- a machine ends, which may be this node
+abbrev pub ends_one : Actor → ℕ → Bool
+ends_one (Node n) node = n == node
+ends_one (Replica n) node = false
+ends_one (Server n) node = false
+ends_one (Member n) node = false
+
 -- what happens at a line of a schedule
 abbrev pub happening : Line → Happening
-happening (Heading volume nodes devices areas) = record { arrives = None; reading = None; ends = none_ends; runs = false }
 happening (Call reading node client bytes) =
     record { arrives = Some (record { node = node; client = client; bytes = bytes }); reading = Some reading; ends = none_ends; runs = false }
 happening (Run reading limit) = record { arrives = None; reading = Some reading; ends = none_ends; runs = true }
-happening (Crash noise) = record { arrives = None; reading = None; ends = all_end; runs = false }
-happening (Restart reading) = record { arrives = None; reading = Some reading; ends = none_ends; runs = false }
-happening (Tick reading node) = record { arrives = None; reading = Some reading; ends = none_ends; runs = false }
+happening (Crash machine noise) = record { arrives = None; reading = None; ends = ends_one machine; runs = false }
+happening (CrashAll noise) = record { arrives = None; reading = None; ends = all_end; runs = false }
+happening line = record { arrives = None; reading = reading_of line; ends = none_ends; runs = false }
 
 -- a line of the schedule that was done, with the lines of the trace that came at it, the newest first
 pub record Done : Type 0 where

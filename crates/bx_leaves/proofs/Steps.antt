@@ -13,13 +13,13 @@ use Rattle.bx_blink.specs.bx_views.specs.Truths.{Held, Hints}
 use Rattle.bx_blink.specs.declared.error.BlinkError.{BlinkError}
 use Rattle.bx_blink.specs.declared.error.BlinkError.TheVariants.{Need, Stale, Full, NoRoom, Absent, Present, OutOfMemory, Crowded}
 use Rattle.bx_blink.specs.Walks.{reads_with}
-use Rattle.bx_leaves.specs.Leaves.{IsNearlyFull, TakesEntry, PutsOrNot, InsertsAt}
+use Rattle.bx_leaves.specs.Leaves.{IsPageNearlyFull, TakesEntry, PutsOrNot, InsertsAt}
 
 same_block : (a b : Block) → Some a ≡ Some b → a ≡ b
 same_block a b e = cc
 
 pub nearly_full : (held : Held) (handle : ℕ) (block : Block) (page : Contents) (room : ℕ) → held (block_at handle) Exclusive ≡ Some block → block.handle ≡ handle → HasPage page block → room + size page ≡ 4096
-    → IsTrue (nat_lt room 544) ↔ IsNearlyFull held handle
+    → IsTrue (nat_lt room 544) ↔ IsPageNearlyFull held handle
 nearly_full held handle block page room there header has sum = (
   (λ less. record { block = block; there = there; header = header; page = page; has = has; full = grind (arith, nat_tests, less, sum) }),
   (λ n.

@@ -90,7 +90,7 @@ pub record LacksKey (reads : Reads) (root : ℕ) (key : List ℕ) (handle : ℕ)
   pub absent : value_of page.entries key ≡ None
 
 -- the page as the view holds it, exclusively, has less left than two greatest entries take, which are 544 bytes
-pub record IsNearlyFull (held : Held) (handle : ℕ) : Type 0 where
+pub record IsPageNearlyFull (held : Held) (handle : ℕ) : Type 0 where
   pub block : Block
   pub there : held (block_at handle) Exclusive ≡ Some block
   pub header : block.handle ≡ handle
@@ -100,7 +100,7 @@ pub record IsNearlyFull (held : Held) (handle : ℕ) : Type 0 where
 
 -- the leaf has no room for an entry
 abbrev pub HasNoRoom : Held → ℕ → Contents → List ℕ → List ℕ → Type 0
-HasNoRoom held handle page key value = IsNearlyFull held handle ⊎ (4096 < size (with_value page key value))
+HasNoRoom held handle page key value = IsPageNearlyFull held handle ⊎ (4096 < size (with_value page key value))
 
 -- the leaf hasn't got the key, and has no room for an entry; or takes it
 pub record RefusesEntry (held : Held) (reads : Reads) (root : ℕ) (key value : List ℕ) (handle : ℕ) : Type 0 where

@@ -3,7 +3,7 @@
 ghost use Rattle.std.specs.Prelude.{◌≡◌, ◌+◌, ◌<◌, ◌↔◌, IsTrue, OnErr};
 ghost use Rattle.bx_page.specs.Contents.{Contents, IsPage};
 ghost use Rattle.bx_page.specs.Spelling.{Spells};
-ghost use Rattle.bx_leaves.specs.Leaves.{IsNearlyFull, PutsOrNot};
+ghost use Rattle.bx_leaves.specs.Leaves.{IsPageNearlyFull, PutsOrNot};
 
 use bx_base::{Mode, Raw};
 use bx_blink::views::View;
@@ -59,7 +59,7 @@ pub(crate) fn put_bytes(
 
 /// Whether a page as the view holds it, exclusively, has less left than two greatest entries take.
 pub(crate) fn is_nearly_full<V: View>(view: &V, handle: u64) -> bool
-    ensures { IsTrue result ↔ IsNearlyFull (V.held view.now) handle }
+    ensures { IsTrue result ↔ IsPageNearlyFull (V.held view.now) handle }
 {
     match view.block(block_at(handle), Mode::Exclusive) {
         None => false,

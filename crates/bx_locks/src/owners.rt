@@ -2,9 +2,8 @@
 
 use crate::locks::Locks;
 use bx_base::{Actor, Mode, OutOfMemory};
-use bx_facts::{Input, Outbox};
+use bx_facts::{Input, Outbox, Owners};
 use bx_global::{Change, GlobalState};
-use bx_owners::Owners;
 
 impl Owners for Locks {
     ghost use Rattle.std.specs.Prelude.{◌≡◌, ⊤, true};

@@ -8,10 +8,10 @@ mod members;
 mod newest;
 mod record;
 
-pub use logs::{points_of, read_logs};
+pub use logs::{points_of, push_points, read_logs};
 pub use members::Members;
-pub use newest::{Newest, clash_in, copy_of, newest_of_all};
-pub use record::Record;
+pub use newest::{Newest, clash_in, copy_of, newest_of, newest_of_all};
+pub use record::{Record, are_numbers};
 
 /// What the crates above use of `bx_homes`.
 pub mod homes {

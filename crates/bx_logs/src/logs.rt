@@ -84,7 +84,7 @@ pub fn points_of(alloc: Global, logs: &[List<Record>]) -> Result<Points, OutOfMe
 }
 
 /// Puts the points of records behind others.
-fn push_points(points: &mut Points, records: &[Record]) -> Result<(), OutOfMemory>
+pub fn push_points(points: &mut Points, records: &[Record]) -> Result<(), OutOfMemory>
     ensures { OnOk result (points.new ≡ points.old ++ map point_of records.now) }
 {
     for record in records {

@@ -15,7 +15,7 @@ use std::collections::BTreeMap;
 pub type Newest = BTreeMap<u64, Block>;
 
 /// The newest blocks of the records of a log, the oldest of which comes first.
-fn newest_of(alloc: Global, records: &[Record]) -> Result<Newest, OutOfMemory>
+pub fn newest_of(alloc: Global, records: &[Record]) -> Result<Newest, OutOfMemory>
     ensures { IfOk result (λ newest. (at : ℕ) → newest_at newest at ≡ newest_in (reverse records.now) at) }
 {
     let mut newest = Newest::new(alloc);

@@ -61,13 +61,20 @@ impl Record {
         }
         let found = read_blocks(alloc, rack, disk, sector + 1, head.blocks.items())?;
         match found {
-            Some(changed) => Ok(Some(Record { head, changed })),
+            Some(changed) => Ok(Some(Record::new(head, changed))),
             None => Ok(None),
         }
     }
 
+    /// The record of a header and the blocks behind it.
+    pub fn new(head: RecordHead, changed: List<(u64, Block)>) -> Record
+        ensures { result ≡ record { head = head; changed = changed } }
+    {
+        Record { head, changed }
+    }
+
     /// The point of the call that it is of.
-    pub(crate) fn point(&self) -> Point
+    pub fn point(&self) -> Point
         ensures { result ≡ point_of self.now }
     {
         Point {
@@ -79,7 +86,7 @@ impl Record {
     }
 
     /// Its blocks with their numbers.
-    pub(crate) fn changed(&self) -> &[(u64, Block)]
+    pub fn changed(&self) -> &[(u64, Block)]
         ensures { result.now ≡ self.now.changed }
     {
         self.changed.items()
@@ -108,7 +115,7 @@ fn read_head<R: Rack>(
 }
 
 /// Whether numbers are those of blocks of a volume with so many areas, each once.
-fn are_numbers(areas: u16, numbers: &[u64]) -> bool
+pub fn are_numbers(areas: u16, numbers: &[u64]) -> bool
     ensures { IsTrue result ↔ AreNumbers areas numbers.now }
 {
     match numbers {

@@ -15,10 +15,6 @@ use Rattle.bx_node_cache.specs.declared.cache.Kept.{Kept}
 use Rattle.bx_node_cache.specs.Kept.{CacheView, IsCache, Settles, home_runs, kept_in, settled}
 use Rattle.bx_redo.specs.Homes.{home_run}
 
-pub made_run : (devices at : ℕ) (block : Block) (place : ℕ × ℕ) (bytes : List ℕ) → place ≡ block_place at devices → bytes ≡ block_text block
-    → record { device = place.0; place = place.1; bytes = bytes } ≡ home_run devices at block
-made_run devices at block place bytes same text = rw (same, text) refl
-
 -- What is kept is a block of the volume.
 pub is_kept : (view : CacheView) (kept : List (ℕ × Kept)) (at : ℕ) (one : Kept) → IsCache view → kept ≡ view.kept → kept_in kept at ≡ Some one → IsBlock view.areas at × HasParts one.block
 is_kept view kept at one is same has =

@@ -2,16 +2,16 @@
 
 ghost use Rattle.std.specs.Prelude.{◌≡◌, ℕ, ◌<◌, [], IfOk, IfSome, None, OnOk, Some, false};
 ghost use Rattle.std.specs.List.{AllByRecursion};
-ghost use Rattle.bx_layout.specs.Blocks.{HasParts, block_text};
+ghost use Rattle.bx_layout.specs.Blocks.{HasParts};
 ghost use Rattle.bx_node_cache.specs.Kept.{AreHomesOf, Commits, LeavesHint, OnlyHinted, OnlyKept, Settles, away_in, held_in, hint_in, home_runs, kept_in};
 ghost use Rattle.bx_node_cache.specs.Shares.{shares_held};
 ghost use Rattle.bx_places.specs.Places.{IsBlock, IsVolume, block_place, log_device};
-ghost use Rattle.bx_redo.specs.Homes.{home_run};
 
 use bx_base::{Mode, OutOfMemory, Raw};
 use bx_layout::Block;
-use bx_places::{PAYLOAD, SECTOR, gate_place, place};
-use bx_records::{Draft, Run, Runs};
+use bx_places::{gate_place, place};
+use bx_records::{Draft, Runs};
+use bx_redo::home_of;
 use bx_views::View;
 use std::alloc::Global;
 use std::collections::BTreeMap;
@@ -165,36 +165,11 @@ impl Cache {
         let mut runs = Runs::new(self.alloc, HOME);
         for (at, kept) in self.kept.iter() {
             if kept.committed {
-                let write = self.home_of(*at, &kept.block)?;
+                let write = home_of(self.alloc, self.devices, self.areas, *at, &kept.block)?;
                 runs.push(write)?;
             }
         }
         Ok(runs)
-    }
-
-    /// The write of a block to its home.
-    fn home_of(&self, at: u64, block: &Block) -> Result<Run, OutOfMemory>
-        requires is_block { IsBlock self.now.areas at }
-        requires parts { HasParts block.now }
-        ensures { IfOk result (λ run. run ≡ home_run self.now.devices at block.now) }
-    {
-        let (device, place) = place(at, self.devices, self.areas);
-        let bytes = self.text_of(block)?;
-        Ok(Run {
-            device,
-            place,
-            bytes,
-        })
-    }
-
-    /// The bytes of a block.
-    fn text_of(&self, block: &Block) -> Result<Raw, OutOfMemory>
-        requires parts { HasParts block.now }
-        ensures { IfOk result (λ bytes. bytes ≡ block_text block.now) }
-    {
-        let mut bytes = [0; SECTOR + PAYLOAD];
-        block.write(&mut bytes);
-        Raw::of(self.alloc, &bytes)
     }
 
     /// All that was committed is home.

@@ -21,7 +21,7 @@ use Rattle.bx_node_machines.proofs.Sending.{fetching, landing_leaves, sending_le
 use Rattle.bx_node_sends.proofs.Sent.{sent_at, surely_on, with_write}
 use Rattle.bx_node_views.proofs.Touching.{may_write, touch_clash}
 use Rattle.bx_node_events.proofs.Working.{IsHanded, IsSending, MaySend, SureBehind}
-use Rattle.bx_owners.specs.declared.owners.Owners as owners
+use Rattle.bx_facts.specs.declared.owners.Owners as owners
 use Rattle.bx_places.specs.Places.{IsBlock, block_place, log_device}
 use Rattle.bx_post.specs.declared.packets.Letter.{Letter}
 use Rattle.bx_records.specs.Drafts.{Block, block_in}

@@ -18,7 +18,7 @@ use Rattle.bx_node_views.proofs.Knowing.{read_knows}
 use Rattle.bx_node_events.proofs.Keeping.{keeping, shows_own}
 use Rattle.bx_node_events.proofs.Opened.{opened_most}
 use Rattle.bx_node_events.proofs.Unlogged as unlogging
-use Rattle.bx_owners.specs.declared.owners.Owners as owners
+use Rattle.bx_facts.specs.declared.owners.Owners as owners
 use Rattle.bx_places.specs.Places.{IsBlock, block_place}
 use Rattle.bx_post.specs.declared.packets.Letter.{Letter}
 use Rattle.bx_rows.specs.Words.{row_in}

@@ -13,19 +13,19 @@ use Rattle.bx_facts.specs.Pasts.{MayTake, Told, told_with}
 use Rattle.bx_facts.specs.Writes.{GoesOn, IsDone, Sent, StorePast, store_heard, store_with}
 use Rattle.bx_global.specs.declared.change.Change.{Change}
 use Rattle.bx_global.specs.declared.state.GlobalState.{GlobalState}
-use Rattle.bx_owners.specs.declared.owners.Owners as owners
+use Rattle.bx_facts.specs.declared.owners.Owners as owners
 use Rattle.bx_post.specs.declared.packets.Letter.{Letter}
 use Rattle.bx_node_events.proofs.Hears.{rises_then}
 use Rattle.bx_node_events.proofs.Taken.{TakesOwners, TakesStore}
 use Rattle.bx_world_stays.proofs.Stays.{only_stays}
 
 -- what comes still comes where letters are more
-comes_more : (fewer more : List Letter) (input : Input) → ((letter : Letter) → Contains fewer letter → Contains more letter) → IsComing fewer input → IsComing more input
+pub comes_more : (fewer more : List Letter) (input : Input) → ((letter : Letter) → Contains fewer letter → Contains more letter) → IsComing fewer input → IsComing more input
 comes_more fewer more (Packet packet reading) has comes = has _ comes
 comes_more fewer more (Tick reading) has comes = tt
 comes_more fewer more Synced has comes = tt
 
-may_more : (told : Told) (one two : List Letter) (known : GlobalState) (who : Actor) (input : Input) → ((letter : Letter) → Contains (told.letters ++ one) letter → Contains (told.letters ++ two) letter)
+pub may_more : (told : Told) (one two : List Letter) (known : GlobalState) (who : Actor) (input : Input) → ((letter : Letter) → Contains (told.letters ++ one) letter → Contains (told.letters ++ two) letter)
     → MayTake (told_with told one) known who input → MayTake (told_with told two) known who input
 may_more told one two known who input more may = record {
   up = may.up;

@@ -1,5 +1,5 @@
--- A machine that is down tries to start again, and a disk fails: it stays down, and the nodes stand. By the clauses of the calls: the store's own fails; or the register's, behind the
--- store's and the owners' start, and these are stopped again.
+-- A machine that is down tries to start again, and a disk fails: it stays down, and the nodes stand. By the clauses of the calls: the store's own fails, and it is stopped again; or the
+-- register's, behind the store's and the owners' start, and these are stopped again.
 use Rattle.std.proofs.Common.{◌≡◌, ◌∙◌, ℕ, ◌+◌, ◌<◌, ◌≤◌, max, Bool, true, false, List, ◌++◌, refl, sym, ap, subst, arith}
 use Rattle.std.specs.Prelude.{if◌then◌else◌}
 use Rattle.bx_base.specs.declared.names.Actor.{Actor}
@@ -11,14 +11,14 @@ use Rattle.bx_facts.specs.Holds.{OwnersPast, owners_crashed, owners_restarted}
 use Rattle.bx_facts.specs.Machines.{OnlyAt, is_same, put_at}
 use Rattle.bx_facts.specs.Pasts.{MayRestart, RegisterPast, register_failed, register_with}
 use Rattle.bx_facts.specs.Writes.{GoesOn, IsOnly, StorePast, store_crashed, store_failed, store_restarted}
-use Rattle.bx_facts.proofs.Machines.{elsewhere, is_itself, is_one}
+use Rattle.bx_facts.proofs.Machines.{elsewhere, here, is_itself, is_one}
 use Rattle.bx_global.specs.declared.state.GlobalState.{GlobalState}
 use Rattle.bx_node_events.proofs.Registered.{HandedLaws, same_lengths, same_member_lengths}
 use Rattle.bx_node_events.proofs.Starting.{OwnersStart, StoreTries, may_start}
 use Rattle.bx_node_events.proofs.Stopping.{OwnersStop, PartsStop, StoreStops, but_for, stays_down}
 use Rattle.bx_node_machines.specs.Machines.{MachineView}
 use Rattle.bx_node_machines.specs.Nodes.{NodesStand, known_of}
-use Rattle.bx_owners.specs.declared.owners.Owners as owners
+use Rattle.bx_facts.specs.declared.owners.Owners as owners
 use Rattle.bx_post.specs.declared.packets.Letter.{Letter}
 use Rattle.bx_views.specs.Attempts.{Deed}
 use Rattle.bx_views.specs.Truths.{Hints, Truth}
@@ -64,16 +64,25 @@ put_low who other value most old low rest = by (is_same who other) refl
     by false differ = let e : put_at who value old other ≡ old other = ap (λ (t : Bool). if t then value else old other) differ in omega (arith, e, rest)
 
 module _ {G O S T : Type 0} (g : register.Ghosts G) (o : owners.Ghosts O) (st : store.Ghosts S) (Stands : Truth → Hints → T → Type 0) (Step : T → Deed → T → Type 0) (laws : HandedLaws g o st)
-    (register_is : G) (owners_are : O) (store_is store_then : S) (x y : Disks) (letters box : List Letter) (clocks : Clocks) (machines : List MachineView) (c : Course) (tree : T)
-    (who : Actor) (boot reading : ℕ)
+    (register_is : G) (owners_are : O) (store_is store_up store_then : S) (x y : Disks) (letters box : List Letter) (clocks : Clocks) (machines : List MachineView) (c : Course) (tree : T)
+    (who : Actor) (boot reading : ℕ) (store_stops : StoreStops st store_up store_then who)
     (stands : NodesStand g o st Stands Step register_is owners_are store_is x (letters ++ box) clocks machines c tree)
     (down : clocks.down who ≡ true) (above : clocks.most < boot) (steady : clocks.greatest ≤ reading + 500) where
   low_boots : (old : Actor → ℕ) → ((other : Actor) → old other ≤ clocks.most) → (other : Actor) → old other ≤ boot
   low_boots old low other = let l = low other in omega (arith, l, above)
 
   -- The store's disk failed: owners and register know nothing of it.
-  module _ (store_tries : StoreTries st store_is store_then x y who boot reading (λ past. store_failed past who boot reading)) where
-    is_down : Stops (known_of g o st Stands Step register_is owners_are store_is x (letters ++ box) clocks machines) c who (tried_clocks clocks boot reading) (letters ++ box) c.register c.owners (store_failed c.store who boot reading)
+  module _ (store_tries : StoreTries st store_is store_up x y who boot reading (λ past. store_failed past who boot reading)) where
+    abbrev store_left : StorePast
+    store_left = store_crashed (store_failed c.store who boot reading) who
+
+    may_try : MayRestart c.store.told who boot reading
+    may_try = (may_start g o st Stands Step register_is owners_are store_is x (letters ++ box) clocks machines c tree who boot reading stands down above steady).1
+
+    failed_keeps : st.keeps store_up y (store_failed c.store who boot reading)
+    failed_keeps = store_tries.keeps c.store stands.at.parts.store_keeps may_try
+
+    is_down : Stops (known_of g o st Stands Step register_is owners_are store_is x (letters ++ box) clocks machines) c who (tried_clocks clocks boot reading) (letters ++ box) c.register c.owners store_left
     is_down = record {
       clocks_down = λ other. sym (down_still who other clocks.down down);
       clocks_boots = λ other differ. refl;
@@ -85,7 +94,7 @@ module _ {G O S T : Type 0} (g : register.Ghosts G) (o : owners.Ghosts O) (st : 
       store_letters = stands.at.pasts.store_letters;
       down = stands.at.pasts.down;
       owners_down = stands.at.pasts.owners_down;
-      store_down = λ other. down_still who other c.store.told.down (stands.at.pasts.store_down who ∙ down) ∙ stands.at.pasts.store_down other;
+      store_down = λ other. down_still who other (put_at who true c.store.told.down) (here who true c.store.told.down) ∙ down_still who other c.store.told.down (stands.at.pasts.store_down who ∙ down) ∙ stands.at.pasts.store_down other;
       boots = low_boots c.register.boots stands.at.pasts.boots;
       owners_most = low_boots c.owners.told.boots stands.at.pasts.owners_most;
       store_most = λ other. put_low who other boot boot c.store.told.boots (omega arith) (low_boots c.store.told.boots stands.at.pasts.store_most other);
@@ -104,36 +113,37 @@ module _ {G O S T : Type 0} (g : register.Ghosts G) (o : owners.Ghosts O) (st : 
       holds = record { each = λ session block hold has. has };
     }
 
-    parts_stop : PartsStop g o st register_is register_is owners_are owners_are store_is store_then x y c who c.register c.owners (store_failed c.store who boot reading)
+    parts_stop : PartsStop g o st register_is register_is owners_are owners_are store_is store_then x y c who c.register c.owners store_left
     parts_stop = record {
       register_keeps = laws.registers_elsewhere register_is x y c.register stands.at.parts.register_keeps (same_lengths x y store_tries.sizes) store_tries.replicas store_tries.labels;
       owners_keep = stands.at.parts.owners_keep;
-      store_keeps = store_tries.keeps c.store stands.at.parts.store_keeps (may_start g o st Stands Step register_is owners_are store_is x (letters ++ box) clocks machines c tree who boot reading stands down above steady).1;
+      store_keeps = store_stops.keeps y (store_failed c.store who boot reading) failed_keeps;
       owners_knew = stands.at.parts.owners_knew;
       store_knew = λ other. put_low who other 0 (g.knows register_is other).index c.store.told.knew (omega arith) (stands.at.parts.store_knew other);
       knows = λ other differ. refl;
       own = λ node differ. refl;
-      stands = λ d s content index only was. store_tries.stands c.store d s content index stands.at.parts.store_keeps (may_start g o st Stands Step register_is owners_are store_is x (letters ++ box) clocks machines c tree who boot reading stands down above steady).1 only was;
+      stands = λ d s content index only was. store_stops.stands y (store_failed c.store who boot reading) d s content index failed_keeps (store_tries.stands c.store d s content index stands.at.parts.store_keeps may_try only was);
       reads = λ node s content asks differ asked only was.
-          store_tries.reads c.store node s content asks stands.at.parts.store_keeps (may_start g o st Stands Step register_is owners_are store_is x (letters ++ box) clocks machines c tree who boot reading stands down above steady).1 differ asked only was;
-      others = store_tries.others;
-      made = store_tries.made;
+          store_stops.reads y (store_failed c.store who boot reading) node s content differ failed_keeps (store_tries.reads c.store node s content asks stands.at.parts.store_keeps may_try differ asked only was);
+      others = λ node differ. let one = store_stops.others node differ in let two = store_tries.others node differ in (one.0 ∙ two.0, one.1 ∙ two.1, one.2 ∙ two.2);
+      made = store_stops.made ∙ store_tries.made;
       labels = labels_keep (st.made store_is) x y store_tries.sizes (same_labels x y store_tries.labels) stands.at.labels;
     }
 
-    pub store_fails : (later : Course) × (later.register.chain ≡ c.register.chain) × NodesStand g o st Stands Step register_is owners_are store_then y (letters ++ box) (tried_clocks clocks boot reading) machines later tree
+    pub store_fails : (later : Course) × (later.register.chain ≡ c.register.chain) × (later.logs ≡ c.logs) × NodesStand g o st Stands Step register_is owners_are store_then y (letters ++ box) (tried_clocks clocks boot reading) machines later tree
     store_fails = (
-      record c { store = store_failed c.store who boot reading },
+      record c { store = store_left },
+      refl,
       refl,
       stays_down g o st Stands Step laws register_is register_is owners_are owners_are store_is store_then x y (letters ++ box) clocks (tried_clocks clocks boot reading) machines c tree who
-          c.register c.owners (store_failed c.store who boot reading) (but_for g o st Stands Step register_is owners_are store_is x who (letters ++ box) clocks machines c tree stands) is_down parts_stop,
+          c.register c.owners store_left (but_for g o st Stands Step register_is owners_are store_is x who (letters ++ box) clocks machines c tree stands) is_down parts_stop,
     )
 
   -- The register's did, when store and owners had started; they are stopped again.
-  module _ (register_then : G) (owners_up owners_then : O) (store_up : S) (z : Disks)
+  module _ (register_then : G) (owners_up owners_then : O) (z : Disks)
       (store_tries : StoreTries st store_is store_up x y who boot reading (λ past. store_restarted past who boot reading)) (owners_start : OwnersStart o owners_are owners_up who boot reading)
       (register_fails : RegisterFails g register_is register_then y z who boot box)
-      (owners_stop : OwnersStop o owners_up owners_then who) (store_stops : StoreStops st store_up store_then who) where
+      (owners_stop : OwnersStop o owners_up owners_then who) where
     abbrev register_past : RegisterPast
     register_past = register_failed c.register who boot
 
@@ -221,9 +231,10 @@ module _ {G O S T : Type 0} (g : register.Ghosts G) (o : owners.Ghosts O) (st : 
       labels = labels_keep (st.made store_is) y z register_fails.sizes (same_labels y z register_fails.labels) (labels_keep (st.made store_is) x y store_tries.sizes (same_labels x y store_tries.labels) stands.at.labels);
     }
 
-    pub register_fails_too : (later : Course) × (later.register.chain ≡ c.register.chain) × NodesStand g o st Stands Step register_then owners_then store_then z (letters ++ box) (tried_clocks clocks boot reading) machines later tree
+    pub register_fails_too : (later : Course) × (later.register.chain ≡ c.register.chain) × (later.logs ≡ c.logs) × NodesStand g o st Stands Step register_then owners_then store_then z (letters ++ box) (tried_clocks clocks boot reading) machines later tree
     register_fails_too = (
       record c { register = register_past; owners = owners_past; store = store_crashed store_past who },
+      refl,
       refl,
       stays_down g o st Stands Step laws register_is register_then owners_are owners_then store_is store_then x z (letters ++ box) clocks (tried_clocks clocks boot reading) machines c tree who
           register_past owners_past (store_crashed store_past who) (but_for g o st Stands Step register_is owners_are store_is x who (letters ++ box) clocks machines c tree stands) is_down_too parts_stop_too,

@@ -23,7 +23,7 @@ use Rattle.bx_node_machines.specs.Machines.{Fetch, IsAbout, IsAtWork, IsDoubtIn,
 use Rattle.bx_node_machines.specs.Nodes.{NodesStand, hinted, known_of, nothing_held, scene_of, shown}
 use Rattle.bx_node_machines.proofs.Owning as owning
 use Rattle.bx_node_sends.proofs.Sent.{with_write}
-use Rattle.bx_owners.specs.declared.owners.Owners as owners
+use Rattle.bx_facts.specs.declared.owners.Owners as owners
 use Rattle.bx_places.specs.Places.{IsBlock, block_place}
 use Rattle.bx_post.specs.declared.packets.Letter.{Letter}
 use Rattle.bx_records.specs.Drafts.{Block, Changed, block_in}

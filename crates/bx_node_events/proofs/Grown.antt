@@ -16,7 +16,7 @@ use Rattle.bx_node_machines.specs.Nodes.{IsOfNode, known_of, scene_of}
 use Rattle.bx_node_machines.proofs.Growing.{IsOld, grows_on}
 use Rattle.bx_node_machines.proofs.Leaving.{Leaves}
 use Rattle.bx_node_machines.proofs.Owning as owning
-use Rattle.bx_owners.specs.declared.owners.Owners as owners
+use Rattle.bx_facts.specs.declared.owners.Owners as owners
 use Rattle.bx_places.specs.Places.{block_place}
 use Rattle.bx_post.specs.declared.packets.Letter.{Letter}
 use Rattle.bx_records.specs.declared.runs.Run.{Run}

@@ -1,6 +1,6 @@
 -- What the clauses of the three calls `take`, and of `propose`, come to where a machine that is up is handed an input: the register first, owners and store then, with
 -- the state that it knows, and last the register is handed the change that one of these handed back. The nodes stand.
-use Rattle.std.proofs.Common.{◌≡◌, ◌≢◌, ◌⊎◌, ⊎_elim, inl, inr, ◌∙◌, ℕ, ◌<◌, ◌≤◌, false, List, ◌∷◌, ◌++◌, Option, Some, None, IfSome, refl, sym, subst, arith}
+use Rattle.std.proofs.Common.{◌≡◌, ◌≢◌, ◌⊎◌, ⊎_elim, inl, inr, ◌∙◌, ℕ, ◌<◌, ◌≤◌, false, List, ◌∷◌, ◌++◌, Option, Some, None, IfSome, refl, sym, ap, subst, arith}
 use Rattle.std.specs.Option.{option_or}
 use Rattle.std.specs.Prelude.{slice_get}
 use Rattle.bx_base.specs.declared.names.Actor.{Actor}
@@ -23,12 +23,12 @@ use Rattle.bx_global.specs.declared.state.GlobalState.{GlobalState}
 use Rattle.bx_node_events.proofs.Clauses.{owners_taken, store_taken}
 use Rattle.bx_node_events.proofs.Decided.{lettered}
 use Rattle.bx_node_events.proofs.Handing.{not_owners, not_registers}
-use Rattle.bx_node_events.proofs.Registered.{HandedLaws, RegisterTook, among_both, kept_by, owners_not_registers, owners_not_stores, registered, registers_not_owners, registers_not_stores, same_lengths}
+use Rattle.bx_node_events.proofs.Registered.{HandedLaws, IsLast, RegisterTook, among_both, kept_by, owners_not_registers, owners_not_stores, registered, registers_not_owners, registers_not_stores, same_lengths}
 use Rattle.bx_node_events.proofs.Taken as taken
 use Rattle.bx_node_events.proofs.Taken.{TakesOwners, TakesStore, loose, loosen}
 use Rattle.bx_node_machines.specs.Machines.{AreAbout, MachineView}
 use Rattle.bx_node_machines.specs.Nodes.{IsOfNode, NodesStand, known_of, scene_of}
-use Rattle.bx_owners.specs.declared.owners.Owners as owners
+use Rattle.bx_facts.specs.declared.owners.Owners as owners
 use Rattle.bx_post.specs.declared.packets.Letter.{Letter}
 use Rattle.bx_views.specs.Attempts.{Deed}
 use Rattle.bx_views.specs.Truths.{Hints, Truth}
@@ -188,11 +188,17 @@ module _ {G O S T : Type 0} (g : register.Ghosts G) (o : owners.Ghosts O) (st : 
       by Synced there = tt
 
   pub handed : (later : Course) × GrowsBy c.register.proposed c.register.chain later.register.chain × NodesStand g o st Stands Step register_then owners_then store_then z (letters ++ last_box) (heard_clocks clocks input) machines later tree × (later.logs ≡ c.logs)
+      × IsLast (g.knows register_then who) c.register.chain later.register.chain
   handed =
       let heard = registered g o st Stands Step laws register_is register_heard owners_are store_is x y letters box heard_box clocks machines who input c tree stands up comes register_took in
       let but = heard.2 in
       let all = finished g o st Stands Step laws register_heard register_then owners_are owners_then store_is store_then y z letters heard_box tended_box served_box last_box clocks machines who input change shift proposal up steady heard_comes
       owners_took store_took offered heard.0 tree
       (loosen g o st Stands Step register_heard register_heard owners_are store_is y (known_of g o st Stands Step register_heard owners_are store_is y (letters ++ heard_box) clocks machines) (lettered heard.0 (letters ++ heard_box)) tree (λ other. omega arith) but.at)
-      but.about but.given but.at.parts.register_keeps (λ other one own differ. but.told other one differ own) in
-      (all.0, subst (λ (chain : Chain). GrowsBy c.register.proposed c.register.chain chain) (sym all.1) heard.1, all.2, all.3 ∙ heard.3)
+      but.about but.given but.at.parts.register_keeps (λ other one own differ. but.told other one differ own) in (
+        all.0,
+        subst (λ (chain : Chain). GrowsBy c.register.proposed c.register.chain chain) (sym all.1) heard.1,
+        all.2,
+        all.3 ∙ heard.3.logs,
+        ⊎_elim (λ same. inl (all.1 ∙ same)) (λ known. inr (offered.knows who ∙ known ∙ ap (λ (chain : Chain). last chain) (sym all.1))) heard.4,
+      )

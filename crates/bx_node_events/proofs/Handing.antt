@@ -18,7 +18,7 @@ use Rattle.bx_node_events.proofs.Quieted.{none_sent, quieted}
 use Rattle.bx_node_events.proofs.Working.{IsHanded, IsSending, store_sent}
 use Rattle.bx_node_machines.specs.Machines.{MachineView, home_of}
 use Rattle.bx_node_machines.specs.Nodes.{NodesStand}
-use Rattle.bx_owners.specs.declared.owners.Owners as owners
+use Rattle.bx_facts.specs.declared.owners.Owners as owners
 use Rattle.bx_post.specs.declared.packets.Letter.{Letter}
 use Rattle.bx_views.specs.Attempts.{Deed}
 use Rattle.bx_views.specs.Truths.{Hints, Truth}

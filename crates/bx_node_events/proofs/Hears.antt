@@ -22,7 +22,7 @@ use Rattle.bx_node_events.proofs.Passing as passing
 use Rattle.bx_node_machines.specs.Machines.{AreAbout, MachineView, is_one as marks}
 use Rattle.bx_node_machines.specs.Nodes.{IsOfNode, NodesStand, hinted, known_of, nothing_held, scene_of, shown}
 use Rattle.bx_node_machines.proofs.Hearing.{own_or_not}
-use Rattle.bx_owners.specs.declared.owners.Owners as owners
+use Rattle.bx_facts.specs.declared.owners.Owners as owners
 use Rattle.bx_post.specs.declared.packets.Letter.{Letter}
 use Rattle.bx_rows.specs.Words.{row_in}
 use Rattle.bx_rows.specs.declared.session.SessionRow.{SessionRow}

@@ -13,7 +13,7 @@ use Rattle.bx_node_logs.proofs.Moved.{fills_few}
 use Rattle.bx_node_logs.proofs.Starts.{slot_sure}
 use Rattle.bx_node_machines.proofs.Owning as owning
 use Rattle.bx_node_sends.proofs.Sent.{surely_on}
-use Rattle.bx_owners.specs.declared.owners.Owners as owners
+use Rattle.bx_facts.specs.declared.owners.Owners as owners
 use Rattle.bx_places.specs.Places.{IsBlock, IsVolume, block_place, gate_place, body_place}
 use Rattle.bx_post.specs.declared.packets.Letter.{Letter}
 use Rattle.bx_records.specs.Drafts.{Block}

@@ -16,7 +16,7 @@ use Rattle.bx_node_machines.specs.Machines.{IsAbout, IsAtWork, IsDoubtIn, IsDoub
 use Rattle.bx_node_machines.specs.Nodes.{NodesStand, known_of, scene_of}
 use Rattle.bx_node_machines.proofs.Owning as owning
 use Rattle.bx_node_sends.proofs.Sent.{with_write}
-use Rattle.bx_owners.specs.declared.owners.Owners as owners
+use Rattle.bx_facts.specs.declared.owners.Owners as owners
 use Rattle.bx_places.specs.Places.{block_place, log_device}
 use Rattle.bx_post.specs.declared.packets.Letter.{Letter}
 use Rattle.bx_records.specs.Drafts.{Changed}

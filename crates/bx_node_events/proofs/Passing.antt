@@ -19,7 +19,7 @@ use Rattle.bx_node_machines.proofs.Leaving.{Leaves}
 use Rattle.bx_node_machines.proofs.Owning as owning
 use Rattle.bx_node_views.proofs.Reaching.{reaches}
 use Rattle.bx_node_views.proofs.Touching.{may_write}
-use Rattle.bx_owners.specs.declared.owners.Owners as owners
+use Rattle.bx_facts.specs.declared.owners.Owners as owners
 use Rattle.bx_places.specs.Places.{block_place}
 use Rattle.bx_post.specs.declared.packets.Letter.{Letter}
 use Rattle.bx_records.specs.declared.runs.Run.{Run}

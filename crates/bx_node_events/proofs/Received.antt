@@ -16,7 +16,7 @@ use Rattle.bx_node_machines.specs.Nodes.{NodesStand, hinted, known_of, scene_of,
 use Rattle.bx_node_machines.proofs.Sending.{fetching}
 use Rattle.bx_node_machines.proofs.Showing.{shown_at}
 use Rattle.bx_node_events.proofs.Keeping.{keeping, shows_own}
-use Rattle.bx_owners.specs.declared.owners.Owners as owners
+use Rattle.bx_facts.specs.declared.owners.Owners as owners
 use Rattle.bx_places.specs.Places.{IsBlock, block_place}
 use Rattle.bx_post.specs.declared.packets.Letter.{Letter}
 use Rattle.bx_records.specs.Drafts.{Block}

@@ -1,6 +1,6 @@
 -- What a register leaves that was handed an input, by its clauses: the chain grows by what it decided, and the nodes stand, but that the machine may not have been handed what
 -- its register knows now.
-use Rattle.std.proofs.Common.{◌≡◌, ◌≢◌, ⊎_elim, inl, inr, ◌∙◌, ℕ, ◌+◌, ◌≤◌, false, List, ◌++◌, Contains, Some, refl, sym, ap, subst, arith}
+use Rattle.std.proofs.Common.{◌≡◌, ◌≢◌, ◌⊎◌, ⊎_elim, inl, inr, ◌∙◌, ℕ, ◌+◌, ◌≤◌, false, List, ◌++◌, Contains, Some, refl, sym, ap, subst, arith}
 use Rattle.std.specs.Prelude.{slice_index}
 use Rattle.std.proofs.lemmas.List.Elements.{Contains-append_cases, Contains-append_left, Contains-append_right}
 use Rattle.bx_base.specs.declared.names.Actor.{Actor}
@@ -27,7 +27,7 @@ use Rattle.bx_node_events.proofs.Taken.{tightened}
 use Rattle.bx_node_machines.specs.Machines.{MachineView}
 use Rattle.bx_node_machines.specs.Nodes.{NodesStand}
 use Rattle.bx_node_machines.specs.Stopping.{StandsBut}
-use Rattle.bx_owners.specs.declared.owners.Owners as owners
+use Rattle.bx_facts.specs.declared.owners.Owners as owners
 use Rattle.bx_post.specs.declared.packets.Letter.{Letter}
 use Rattle.bx_views.specs.Attempts.{Deed}
 use Rattle.bx_views.specs.Truths.{Hints, Truth}
@@ -38,6 +38,20 @@ use Rattle.bx_world_standing.specs.Standing.{Course, own_up}
 use Rattle.bx_world_standing.proofs.Grows.{grown_course}
 use Rattle.bx_world_stays.proofs.Labels.{labels_keep, same_labels}
 use Rattle.bx_world_views.specs.Views.{AreApart}
+
+-- the chain is as it was, or this is its last state
+abbrev pub IsLast : GlobalState → Chain → Chain → Type 0
+IsLast known old new = (new ≡ old) ⊎ (known ≡ last new)
+
+-- What the volume has is as it was.
+pub record SameVolume (old new : Course) : Type 0 where
+  pub before : new.before ≡ old.before
+  pub logs : new.logs ≡ old.logs
+  pub slots : new.slots ≡ old.slots
+  pub truth : new.truth ≡ old.truth
+
+same_volume : (c : Course) → SameVolume c c
+same_volume c = record { before = refl; logs = refl; slots = refl; truth = refl }
 
 -- What a register's clauses say of an input that it took.
 pub record RegisterTook {G : Type 0} (g : register.Ghosts G) (old new : G) (x y : Disks) (who : Actor) (input : Input) (box box_then : List Letter) : Type 0 where
@@ -179,9 +193,12 @@ module _ {G O S T : Type 0} (g : register.Ghosts G) (o : owners.Ghosts O) (st : 
   }
 
   pub registered : (later : Course) × GrowsBy c.register.proposed c.register.chain later.register.chain
-      × StandsBut g o st Stands Step register_heard owners_are store_is y who (letters ++ heard_box) clocks machines (lettered later (letters ++ heard_box)) tree × (later.logs ≡ c.logs)
+      × StandsBut g o st Stands Step register_heard owners_are store_is y who (letters ++ heard_box) clocks machines (lettered later (letters ++ heard_box)) tree × SameVolume c later × IsLast (g.knows register_heard who) c.register.chain later.register.chain
   registered = ⊎_elim
-      (λ same. (c, inl refl, still same, refl))
+      (λ same. (c, inl refl, still same, same_volume c, inl refl))
       (λ (one : (decision : Change) × Contains c.register.proposed decision × IsLegal (last c.register.chain) decision × (decides.chain ≡ grown c.register.chain decision)).
-      (grown_course c one.0, inr (one.0, one.1, one.2, refl), more one.0 one.1 one.2 one.3, refl))
+      (grown_course c one.0, inr (one.0, one.1, one.2, refl), more one.0 one.1 one.2 one.3, record { before = refl; logs = refl; slots = refl; truth = refl }, told_of one.0 one.3))
       decides.grows
+    where
+      told_of : (decision : Change) → decides.chain ≡ grown c.register.chain decision → IsLast (g.knows register_heard who) c.register.chain (grown c.register.chain decision)
+      told_of decision is = ⊎_elim (λ same. inl (sym is ∙ same)) (λ known. inr (known ∙ ap (λ (chain : Chain). last chain) is)) decides.told

@@ -22,7 +22,7 @@ use Rattle.bx_node_events.proofs.Stopping.{node_or_none, same_number}
 use Rattle.bx_node_machines.specs.Machines.{MachineView}
 use Rattle.bx_node_machines.specs.Nodes.{IsOfNode, NodesStand, hinted, known_of, shown}
 use Rattle.bx_node_machines.proofs.Showing.{shown_at}
-use Rattle.bx_owners.specs.declared.owners.Owners as owners
+use Rattle.bx_facts.specs.declared.owners.Owners as owners
 use Rattle.bx_post.specs.declared.packets.Letter.{Letter}
 use Rattle.bx_rows.specs.Words.{row_in}
 use Rattle.bx_rows.specs.declared.session.SessionRow.{SessionRow}
@@ -221,5 +221,5 @@ module _ {G O S T : Type 0} (g : register.Ghosts G) (o : owners.Ghosts O) (st : 
       let e = same_knew node was.1 in omega (arith, low, same, e))
 
   -- The nodes stand then.
-  pub starts : (later : Course) × (later.register.chain ≡ c.register.chain) × NodesStand g o st Stands Step register_then owners_then store_then z (letters ++ box_then) clocks_then machines later tree
-  starts = (course_then, refl, stand_then)
+  pub starts : (later : Course) × (later.register.chain ≡ c.register.chain) × (later.logs ≡ c.logs) × NodesStand g o st Stands Step register_then owners_then store_then z (letters ++ box_then) clocks_then machines later tree
+  starts = (course_then, refl, refl, stand_then)

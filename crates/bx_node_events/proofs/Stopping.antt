@@ -19,7 +19,7 @@ use Rattle.bx_node_machines.specs.Machines.{MachineView}
 use Rattle.bx_node_machines.specs.Nodes.{NodesStand, hinted, known_of, shown}
 use Rattle.bx_node_machines.specs.Stopping.{StandsBut}
 use Rattle.bx_node_machines.proofs.Showing.{shown_at}
-use Rattle.bx_owners.specs.declared.owners.Owners as owners
+use Rattle.bx_facts.specs.declared.owners.Owners as owners
 use Rattle.bx_post.specs.declared.packets.Letter.{Letter}
 use Rattle.bx_views.specs.Attempts.{Deed}
 use Rattle.bx_views.specs.Truths.{Hints, Truth}

@@ -17,7 +17,7 @@ use Rattle.bx_node_machines.specs.Nodes.{NodesStand, hinted, known_of, scene_of,
 use Rattle.bx_node_views.specs.Changes.{Hides}
 use Rattle.bx_node_events.proofs.Keeping.{keeping, shows_own}
 use Rattle.bx_node_events.proofs.Unlogged.{none_in}
-use Rattle.bx_owners.specs.declared.owners.Owners as owners
+use Rattle.bx_facts.specs.declared.owners.Owners as owners
 use Rattle.bx_places.specs.Places.{IsBlock, block_place}
 use Rattle.bx_post.specs.declared.packets.Letter.{Letter}
 use Rattle.bx_records.specs.Drafts.{Block as Content}

@@ -13,7 +13,7 @@ use Rattle.bx_node_landings.specs.bx_node_closings.proofs.Sends.{sends}
 use Rattle.bx_node_machines.specs.Machines.{home_of}
 use Rattle.bx_node_machines.proofs.Owning as owning
 use Rattle.bx_node_sends.proofs.Sent.{surely_on, with_write}
-use Rattle.bx_owners.specs.declared.owners.Owners as owners
+use Rattle.bx_facts.specs.declared.owners.Owners as owners
 use Rattle.bx_places.specs.Places.{IsBlock, block_place, log_device}
 use Rattle.bx_post.specs.declared.packets.Letter.{Letter}
 use Rattle.bx_records.specs.declared.runs.Run.{Run}

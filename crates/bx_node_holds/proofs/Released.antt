@@ -9,7 +9,7 @@ use Rattle.bx_facts.specs.declared.store.Store as store
 use Rattle.bx_facts.specs.Chains.{HasRow, LivesIn, last, oldest}
 use Rattle.bx_facts.specs.Holds.{Hold, Holds, KeepsOthers, is_exclusive}
 use Rattle.bx_facts.specs.Writes.{IsOnly, Sent}
-use Rattle.bx_owners.specs.declared.owners.Owners as owners
+use Rattle.bx_facts.specs.declared.owners.Owners as owners
 use Rattle.bx_post.specs.declared.packets.Letter.{Letter}
 use Rattle.bx_rows.specs.Words.{row_in}
 use Rattle.bx_rows.specs.declared.session.SessionRow.{SessionRow}

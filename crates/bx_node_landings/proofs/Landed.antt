@@ -11,7 +11,7 @@ use Rattle.bx_global.specs.Allowed.{IsAllowed, IsSession}
 use Rattle.bx_global.specs.declared.change.Change.TheVariants.{Close}
 use Rattle.bx_layout.specs.Labels.{gate_text}
 use Rattle.bx_layout.specs.declared.gate.Gate.TheVariants.{Closed}
-use Rattle.bx_owners.specs.declared.owners.Owners as owners
+use Rattle.bx_facts.specs.declared.owners.Owners as owners
 use Rattle.bx_places.specs.Places.{IsBlock, block_place}
 use Rattle.bx_records.specs.Drafts.{block_in}
 use Rattle.bx_redo.specs.Stands.{IsAcknowledged}

@@ -11,7 +11,7 @@ use Rattle.bx_node_machines.specs.Machines.{AreAbout, MachineView, Scene, is_und
 use Rattle.bx_node_machines.specs.Nodes.{IsOfNode, NodesStand, hinted, known_of, scene_of, shown}
 use Rattle.bx_node_machines.proofs.Leaving.{all_same}
 use Rattle.bx_node_machines.proofs.Showing.{shown_at}
-use Rattle.bx_owners.specs.declared.owners.Owners as owners
+use Rattle.bx_facts.specs.declared.owners.Owners as owners
 use Rattle.bx_post.specs.declared.packets.Letter.{Letter}
 use Rattle.bx_rows.specs.declared.session.SessionRow.{SessionRow}
 use Rattle.bx_views.specs.Attempts.{Deed}

@@ -13,7 +13,7 @@ use Rattle.bx_node_machines.specs.Machines.{AreAbout, Fetch, IsAbout, IsAtWork, 
 use Rattle.bx_node_machines.specs.Nodes.{IsOfNode, NodesStand, hinted, known_of, nothing_held, scene_of, shown}
 use Rattle.bx_node_machines.proofs.Leaving.{LeavesSlot, all_same, fresh_stays}
 use Rattle.bx_node_machines.proofs.Showing.{shown_at}
-use Rattle.bx_owners.specs.declared.owners.Owners as owners
+use Rattle.bx_facts.specs.declared.owners.Owners as owners
 use Rattle.bx_places.specs.Places.{log_device}
 use Rattle.bx_post.specs.declared.packets.Letter.{Letter}
 use Rattle.bx_node_views.specs.bx_redo.specs.Steps.{closed_log}

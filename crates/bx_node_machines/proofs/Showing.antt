@@ -10,7 +10,7 @@ use Rattle.bx_facts.specs.Chains.{HasRow, LivesIn, last}
 use Rattle.bx_node_machines.specs.Machines.{MachineView, is_one}
 use Rattle.bx_node_machines.specs.Nodes.{NodesStand, hinted, known_of, nothing_held, shown}
 use Rattle.bx_node_views.proofs.Views as views
-use Rattle.bx_owners.specs.declared.owners.Owners as owners
+use Rattle.bx_facts.specs.declared.owners.Owners as owners
 use Rattle.bx_post.specs.declared.packets.Letter.{Letter}
 use Rattle.bx_views.specs.Attempts.{Deed}
 use Rattle.bx_views.specs.Truths.{Held, Hints, Truth, no_hints}

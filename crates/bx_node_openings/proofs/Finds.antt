@@ -18,7 +18,7 @@ use Rattle.bx_node_openings.specs.Opening.{AreFound, HaveNothing, found_clocks}
 use Rattle.bx_node_openings.specs.Resting.{VolumeRests}
 use Rattle.bx_node_openings.proofs.Closed.{logs_closed, none_in}
 use Rattle.bx_node_openings.proofs.Opens.{hints_nothing, is_unmarked}
-use Rattle.bx_owners.specs.declared.owners.Owners as owners
+use Rattle.bx_facts.specs.declared.owners.Owners as owners
 use Rattle.bx_rows.specs.declared.device.DeviceRow.{DeviceRow}
 use Rattle.bx_rows.specs.declared.session.SessionRow.{SessionRow}
 use Rattle.bx_rows.specs.Words.{row_in}

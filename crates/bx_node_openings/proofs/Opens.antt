@@ -15,7 +15,7 @@ use Rattle.bx_node_machines.specs.Nodes.{NodesStand, hinted, known_of, nothing_h
 use Rattle.bx_node_openings.specs.Opening.{AreNew, HaveNothing, opening_clocks}
 use Rattle.bx_node_openings.specs.Resting.{VolumeRests}
 use Rattle.bx_node_openings.proofs.Closed.{logs_closed}
-use Rattle.bx_owners.specs.declared.owners.Owners as owners
+use Rattle.bx_facts.specs.declared.owners.Owners as owners
 use Rattle.bx_views.specs.Attempts.{Deed}
 use Rattle.bx_views.specs.Truths.{Hints, Truth, no_hints}
 use Rattle.bx_volume.specs.Records.{Logged}

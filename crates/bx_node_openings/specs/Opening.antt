@@ -10,7 +10,7 @@ use Rattle.bx_facts.specs.Writes.{NamesUpTo}
 use Rattle.bx_global.specs.Allowed.{IsAllowed}
 use Rattle.bx_global.specs.declared.state.GlobalState.{GlobalState}
 use Rattle.bx_node_machines.specs.Machines.{MachineView}
-use Rattle.bx_owners.specs.declared.owners.Owners as owners
+use Rattle.bx_facts.specs.declared.owners.Owners as owners
 use Rattle.bx_views.specs.Truths.{no_hints}
 use Rattle.bx_world_stays.specs.bx_world_standing.specs.Parts.{Clocks}
 

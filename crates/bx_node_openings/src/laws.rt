@@ -11,8 +11,7 @@ ghost use Rattle.bx_views.specs.Truths.{Truth, no_hints};
 ghost use Rattle.bx_volume.specs.Records.{Logged};
 ghost use Rattle.bx_world_stays.proofs.Begins.{opening_course};
 
-use bx_facts::{Register, Store};
-use bx_owners::Owners;
+use bx_facts::{Owners, Register, Store};
 use bx_views::Engine;
 
 /// With parts that are new, and nodes that have nothing, a cluster stands on disks at rest, for each tree that their truth stands for; so on those of a volume that was

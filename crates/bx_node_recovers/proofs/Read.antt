@@ -69,33 +69,14 @@ module _ (Sure : ℕ → ℕ → List ℕ → Type 0) (devices areas : ℕ) (row
       same (log_device slot devices) (log_start slot + 8 + 145 * body + i)
       (body_out (slots slot).activity its.finds body i (in_run body low).0 (fills_few now devices areas slot run body i log.stand low fills))
 
-  -- what of it stands surely: each sector that its record fills
-  filled_sure : (body i : ℕ) → body < length run → i < filled_of run body → Sure (body_place slot body devices).0 ((body_place slot body devices).1 + i) (before (body_place slot body devices).0 ((body_place slot body devices).1 + i))
-  filled_sure body i low fills = by (in_run body low)
-    where
-      opening : (activity : Activity) → Finds Sure devices areas before logs (slots slot).more slot activity → opens activity ≡ true → i < length (logged_text (slots slot).more) / 512
-          → Sure (body_place slot (length (logs slot)) devices).0 ((body_place slot (length (logs slot)) devices).1 + i) (before (body_place slot (length (logs slot)) devices).0 ((body_place slot (length (logs slot)) devices).1 + i))
-      opening (OfLog works.Idle) finds is few = absurd cc
-      opening (OfLog (works.Body text point)) finds is few = absurd cc
-      opening (OfLog (works.Opens point)) finds is few = finds.2 i few
-      opening (OfLog works.Closes) finds is few = absurd cc
-      opening (OfLog works.Shuts) finds is few = absurd cc
-      opening Found finds is few = absurd cc
-
-      by : ((body < length (logs slot)) ⊎ ((body ≡ length (logs slot)) × (opens (slots slot).activity ≡ true))) × (filled_of run body ≡ filled_of ((slots slot).more ∷ logs slot) body)
-          → Sure (body_place slot body devices).0 ((body_place slot body devices).1 + i) (before (body_place slot body devices).0 ((body_place slot body devices).1 + i))
-      by (inl lower, same_fill) = its.bodies body i lower (subst (λ (n : ℕ). i < n) (same_fill ∙ filled_below (logs slot) (slots slot).more body lower) fills)
-      by (inr last, same_fill) =
-          subst (λ (n : ℕ). Sure (body_place slot n devices).0 ((body_place slot n devices).1 + i) (before (body_place slot n devices).0 ((body_place slot n devices).1 + i))) (sym last.0)
-          (opening (slots slot).activity its.finds last.1 (subst (λ (n : ℕ). i < n) (same_fill ∙ filled_there (logs slot) (slots slot).more body last.0) fills))
-
-  -- Where whatever stands surely in a body is what was read there, the records that were read are those of the run.
+  -- Where bodies were read as they stand, as far as their records fill them, the records that were read are those of the run.
   pub read_run : (stage : Stage) (records : List Logged) (steps : List Step) (has : HasRun (recovery_of slot devices areas stage records) steps) → AreGates now devices slot has.settled.gates
-      → ((body i : ℕ) (bytes content : List ℕ) → WasRead steps (reads_body (recovery_of slot devices areas stage records) body) bytes → i < 145
-      → Sure (body_place slot body devices).0 ((body_place slot body devices).1 + i) content → sector_of bytes i ≡ content)
+      → ((body i : ℕ) (bytes : List ℕ) → WasRead steps (reads_body (recovery_of slot devices areas stage records) body) bytes → i < 145
+      → (body < length (logs slot)) ⊎ ((body ≡ length (logs slot)) × (opens (slots slot).activity ≡ true)) → i < filled_of ((slots slot).more ∷ logs slot) body
+      → sector_of bytes i ≡ before (body_place slot body devices).0 ((body_place slot body devices).1 + i))
       → records ≡ reverse run
   read_run stage records steps has gates bodies =
       the_log now (recovery_of slot devices areas stage records) steps run has gates
       (λ body i bytes came low fills. bodies_same body i low fills
-      ∙ sym (bodies body i bytes (before (body_place slot body devices).0 ((body_place slot body devices).1 + i)) came (fills_few now devices areas slot run body i log.stand low fills) (filled_sure body i low fills)))
+      ∙ sym (bodies body i bytes came (fills_few now devices areas slot run body i log.stand low fills) (in_run body low).0 (subst (λ (n : ℕ). i < n) (in_run body low).1 fills)))
       log

@@ -26,7 +26,6 @@ use Rattle.bx_world_standing.specs.Rights.{IsOfSlot, MayTouch}
 use Rattle.bx_world_standing.specs.Rights.MayTouch.{OfLogged, OfSlot}
 use Rattle.bx_node_logs.proofs.Moved.{fills_few, is_some_block}
 use Rattle.bx_node_logs.proofs.Starts.{slot_sure}
-use Rattle.bx_node_closings.proofs.Sends.{sends}
 use Rattle.bx_node_events.proofs.Homing.{apart_home, apart_slot}
 
 -- ---- what may be written
@@ -60,10 +59,6 @@ module _ (devices areas : ℕ) (s : GlobalState) (holding : Holds) (logs : Logs)
 
 module _ (Sure Sure_then : ℕ → ℕ → List ℕ → Type 0) (devices areas : ℕ) (rows : List SessionRow) (before : Image) (logs : Logs) (slots : ℕ → Slot) (truth : Truth) (slot : ℕ)
     (less : slot < 8) (taken : is_taken rows slot ≡ true) (st : LogsStand Sure devices areas rows before logs slots truth) where
-  -- The gates are written back: all that stood so does.
-  pub gates_sent : ((d s : ℕ) (content : List ℕ) → Sure d s content → Sure_then d s content) → LogsStand Sure_then devices areas rows before logs slots truth
-  gates_sent keeps = sends Sure Sure_then devices areas rows before logs slots truth slot less taken st (λ d s content apart sure. keeps d s content sure)
-
   -- The blocks of a log that was found are written home: all that they aren't written to does.
   module _ (volume : IsVolume devices areas) (runs : List Run) (its : AreItsHomes devices areas logs slot runs) (rests : (slots slot).activity ≡ Found)
       (keeps : (d s : ℕ) (content : List ℕ) → ((other : List ℕ) → WritesIn runs d s other → ⊥) → Sure d s content → Sure_then d s content) where

@@ -9,7 +9,7 @@ use Rattle.bx_facts.specs.Writes.{IsOnly, Sent, Writes, WritesIn, WritesTo}
 use Rattle.bx_facts.proofs.Lists.{front_or_behind}
 use Rattle.bx_global.specs.Allowed.{IsAllowed, IsSession}
 use Rattle.bx_global.specs.declared.change.Change.TheVariants.{Close}
-use Rattle.bx_owners.specs.declared.owners.Owners as owners
+use Rattle.bx_facts.specs.declared.owners.Owners as owners
 use Rattle.bx_places.specs.Places.{gate_place, log_device, log_start}
 use Rattle.bx_post.specs.declared.packets.Letter.{Letter}
 use Rattle.bx_records.specs.declared.runs.Run.{Run}
@@ -33,7 +33,7 @@ use Rattle.bx_world_standing.specs.Standing.{Course, Known, StandsAt, SureOf}
 use Rattle.bx_node_closings.proofs.Sends.{sends}
 use Rattle.bx_node_events.proofs.Homing.{apart_slot}
 use Rattle.bx_node_sends.proofs.Sent.{sent_at, surely_on, with_write}
-use Rattle.bx_node_recovers.proofs.Sending.{gates_sent, homes_sent, homes_touch, slot_touches, unclosed}
+use Rattle.bx_node_recovers.proofs.Sending.{homes_sent, homes_touch, slot_touches, unclosed}
 
 -- what a write of gates brings to a sector
 record Brings (devices slot : ℕ) (gates : List ℕ) (d s : ℕ) (content : List ℕ) : Type 0 where
@@ -113,12 +113,13 @@ module _ {G O S T : Type 0} (g : register.Ghosts G) (o : owners.Ghosts O) (st : 
         (λ who d s row content there is w in_row. unclosed (st.made old).devices (st.made old).areas (last c.register.chain) c.owners.holding c.logs c.slots gone session slot low entitled c.register.proposed allowed unproposed who d s row there is (inside d s content w) in_row)
         logs
 
-    -- The gates, written back as they were read.
+    -- The gates, written back as they were read, but for those that are being written.
     pub gates_sent_at : (gates : List ℕ) → length gates ≡ 4096 → write.runs ≡ (one_run 18 (gate_place slot 0 (st.made old).devices) gates).1
-        → ((gate : ℕ) (content : List ℕ) → gate < 8 → SureOf g o st Stands Step register_is owners_are old x known c (gate_place slot gate (st.made old).devices).0 (gate_place slot gate (st.made old).devices).1 content → sector_of gates gate ≡ content)
+        → ((gate : ℕ) (content : List ℕ) → gate < 8 → writes_in (st.made old).devices slot (length (c.logs slot)) (c.slots slot).activity (gate_place slot gate (st.made old).devices).0 (gate_place slot gate (st.made old).devices).1 ≡ false
+        → SureOf g o st Stands Step register_is owners_are old x known c (gate_place slot gate (st.made old).devices).0 (gate_place slot gate (st.made old).devices).1 content → sector_of gates gate ≡ content)
         → StandsAt g o st Stands Step register_is owners_are new x (record known { letters = letters }) (with_write c letters write) tree
     gates_sent_at gates long runs_are as_read = slot_sent_at inside
-        (gates_sent (SureOf g o st Stands Step register_is owners_are old x known c) SureThen (st.made old).devices (st.made old).areas (last c.register.chain).sessions c.before c.logs c.slots c.truth slot low taken at.logs keeps)
+        (sends (SureOf g o st Stands Step register_is owners_are old x known c) SureThen (st.made old).devices (st.made old).areas (last c.register.chain).sessions c.before c.logs c.slots c.truth slot low taken at.logs keeps)
       where
         brought : (d s : ℕ) (content : List ℕ) → WritesTo write d s content → Brings (st.made old).devices slot gates d s content
         brought = brings (st.made old).devices slot gates long write runs_are
@@ -126,10 +127,12 @@ module _ {G O S T : Type 0} (g : register.Ghosts G) (o : owners.Ghosts O) (st : 
         inside : (d s : ℕ) (content : List ℕ) → WritesTo write d s content → IsOfSlot (st.made old).devices slot d s
         inside d s content w = let b = brought d s content w in let place = b.place in let few = b.low in record { device = b.device; from = omega (arith, place); to = omega (arith, place, few) }
 
-        keeps : (d s : ℕ) (content : List ℕ) → SureOf g o st Stands Step register_is owners_are old x known c d s content → SureThen d s content
-        keeps d s content sure = same_on d s content
+        keeps : (d s : ℕ) (content : List ℕ) → writes_in (st.made old).devices slot (length (c.logs slot)) (c.slots slot).activity d s ≡ false → SureOf g o st Stands Step register_is owners_are old x known c d s content → SureThen d s content
+        keeps d s content apart sure = same_on d s content
             (λ other w. let b = brought d s other w in
             b.is ∙ as_read b.gate content b.low
+            (subst (λ (n : ℕ). writes_in (st.made old).devices slot (length (c.logs slot)) (c.slots slot).activity n (log_start slot + b.gate) ≡ false) b.device
+            (subst (λ (n : ℕ). writes_in (st.made old).devices slot (length (c.logs slot)) (c.slots slot).activity d n ≡ false) b.place apart))
             (subst (λ (n : ℕ). SureOf g o st Stands Step register_is owners_are old x known c n (log_start slot + b.gate) content) b.device
             (subst (λ (n : ℕ). SureOf g o st Stands Step register_is owners_are old x known c d n content) b.place sure)))
             sure

@@ -1,5 +1,5 @@
 -- A recovery has written the gates back as it read them, and read the bodies: its records are the log, and the tree is as it was, or that after the record in doubt.
-use Rattle.std.proofs.Common.{◌≡◌, ◌≢◌, inl, inr, ℕ, ◌+◌, ◌-◌, ◌<◌, ◌≤◌, Bool, true, false, List, Contains, length, reverse, refl, sym, ◌∙◌, ap, subst, arith}
+use Rattle.std.proofs.Common.{◌≡◌, ◌≢◌, ◌⊎◌, inl, inr, ℕ, ◌+◌, ◌-◌, ◌<◌, ◌≤◌, Bool, true, false, List, ◌∷◌, Contains, length, reverse, refl, sym, ◌∙◌, ap, subst, arith}
 use Rattle.std.specs.Prelude.{if◌then◌else◌}
 use Rattle.bx_disk.specs.Disks.{Disks, Image, is_within, sector_of}
 use Rattle.bx_facts.specs.declared.register.Register as register
@@ -8,18 +8,18 @@ use Rattle.bx_facts.specs.Chains.{last}
 use Rattle.bx_facts.specs.Writes.{Sent}
 use Rattle.bx_global.specs.Allowed.{IsAllowed}
 use Rattle.bx_global.specs.declared.change.Change.TheVariants.{Close}
-use Rattle.bx_owners.specs.declared.owners.Owners as owners
+use Rattle.bx_facts.specs.declared.owners.Owners as owners
 use Rattle.bx_places.specs.Places.{body_place, gate_place, log_device, log_start}
 use Rattle.bx_redo.proofs.Within.{part, within_is, within_it}
 use Rattle.bx_rows.specs.Words.{is_taken}
 use Rattle.bx_views.specs.Attempts.{Deed}
 use Rattle.bx_views.specs.Truths.{Hints, Truth}
-use Rattle.bx_volume.specs.Overlay.{with_log}
+use Rattle.bx_volume.specs.Overlay.{filled_of, with_log}
 use Rattle.bx_volume.specs.Records.{IsLog, LogWhere, Logged, gate_of}
 use Rattle.bx_volume.proofs.Overlay.{log_here}
 use Rattle.bx_world_chains.specs.Entitled.{IsEntitled}
 use Rattle.bx_world_chains.proofs.Rows.{taken_of}
-use Rattle.bx_world_standing.specs.bx_world_logs.specs.Logs.{IsLogOf, Slot, SlotStands, writes_in}
+use Rattle.bx_world_standing.specs.bx_world_logs.specs.Logs.{IsLogOf, Slot, SlotStands, opens, writes_in}
 use Rattle.bx_world_standing.specs.bx_world_logs.specs.Shown.{IsRun, ShowsSlot}
 use Rattle.bx_world_standing.specs.Standing.{Course, Known, StandsAt, SureOf}
 use Rattle.bx_world_volumes.proofs.Recovered.{IsSettledTo, after, recovered, settled}
@@ -55,8 +55,9 @@ module _ {G O S T : Type 0} (g : register.Ghosts G) (o : owners.Ghosts O) (st : 
     (as_read : (gate : ℕ) (content : List ℕ) → gate < 8 → SureOf g o st Stands Step_is register_is owners_are store_is x known c (gate_place slot gate (st.made store_is).devices).0 (gate_place slot gate (st.made store_is).devices).1 content
     → sector_of has.settled.gates gate ≡ content)
     (sure : (gate : ℕ) → gate < 8 → SureOf g o st Stands Step_is register_is owners_are store_is x known c (gate_place slot gate (st.made store_is).devices).0 (gate_place slot gate (st.made store_is).devices).1 (sector_of has.settled.gates gate))
-    (bodies : (body i : ℕ) (bytes content : List ℕ) → WasRead steps (reads_body (recovery_of slot (st.made store_is).devices (st.made store_is).areas stage records) body) bytes → i < 145
-    → SureOf g o st Stands Step_is register_is owners_are store_is x known c (body_place slot body (st.made store_is).devices).0 ((body_place slot body (st.made store_is).devices).1 + i) content → sector_of bytes i ≡ content) where
+    (bodies : (body i : ℕ) (bytes : List ℕ) → WasRead steps (reads_body (recovery_of slot (st.made store_is).devices (st.made store_is).areas stage records) body) bytes → i < 145
+    → (body < length (c.logs slot)) ⊎ ((body ≡ length (c.logs slot)) × (opens (c.slots slot).activity ≡ true)) → i < filled_of ((c.slots slot).more ∷ c.logs slot) body
+    → sector_of bytes i ≡ c.before (body_place slot body (st.made store_is).devices).0 ((body_place slot body (st.made store_is).devices).1 + i)) where
   abbrev pub now : Image
   now = with_gates (st.made store_is).devices slot c.before has.settled.gates
 
@@ -93,7 +94,7 @@ module _ {G O S T : Type 0} (g : register.Ghosts G) (o : owners.Ghosts O) (st : 
           there : c.before (log_device slot (st.made store_is).devices) (log_start slot + gate.0) ≡ c.before d s
           there = ap (λ (n : ℕ). c.before n (log_start slot + gate.0)) (sym region.0) ∙ ap (λ (n : ℕ). c.before d n) (sym gate.1)
 
-  gates_are : AreGates now (st.made store_is).devices slot has.settled.gates
+  pub gates_are : AreGates now (st.made store_is).devices slot has.settled.gates
   gates_are = gate_here (st.made store_is).devices slot c.before has.settled.gates
 
   pub gates_sure : (gate : ℕ) → gate < 8 → SureOf g o st Stands Step_is register_is owners_are store_is x known c (gate_place slot gate (st.made store_is).devices).0 (gate_place slot gate (st.made store_is).devices).1 (gate_of now (st.made store_is).devices slot gate)
@@ -105,10 +106,10 @@ module _ {G O S T : Type 0} (g : register.Ghosts G) (o : owners.Ghosts O) (st : 
   abbrev pub then_is : Course
   then_is = after g o st Stands Step_is register_is owners_are store_is x known c tree at gone session slot less now allowed entitled other none_out unproposed same gates_sure
 
-  abbrev run : List Logged
+  abbrev pub run : List Logged
   run = (settled g o st Stands Step_is register_is owners_are store_is x known c tree at gone session slot less now allowed entitled other none_out unproposed same gates_sure).run
 
-  its_log : IsLog now (st.made store_is).devices (st.made store_is).areas slot run
+  pub its_log : IsLog now (st.made store_is).devices (st.made store_is).areas slot run
   its_log =
       let it = settled g o st Stands Step_is register_is owners_are store_is x known c tree at gone session slot less now allowed entitled other none_out unproposed same gates_sure in
       subst (IsLog now (st.made store_is).devices (st.made store_is).areas slot) (log_here c.logs slot run)

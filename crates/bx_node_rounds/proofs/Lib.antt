@@ -2,5 +2,5 @@ pub mod Coming
 pub mod Leading
 pub mod Nodes
 pub mod Ticking
-pub mod Turning
+pub mod Tidies
 pub use Rattle.bx_nodes.proofs.Machines

@@ -1,86 +1,34 @@
 -- How nodes stand that are driven in rounds, and what a round makes of them.
-use Rattle.std.specs.Prelude.{◌≡◌, ◌≢◌, ℕ, ◌+◌, ◌*◌, ◌<◌, ◌≤◌, List, [], ◌++◌, Contains, IfSome, IsSome, IsSomeAnd, Option, None, Some, length, map, option_map, reverse, slice_get, slice_index}
+use Rattle.std.specs.Prelude.{◌≡◌, ℕ, ◌+◌, ◌*◌, ◌<◌, ◌≤◌, List, [], ◌++◌, IsSome, length, map, slice_index}
 use Rattle.bx_disk.specs.Disks.{Disks}
 use Rattle.bx_facts.specs.declared.register.Register as register
 use Rattle.bx_facts.specs.declared.store.Store as store
 use Rattle.bx_facts.specs.Disks.{HasRoom}
 use Rattle.bx_facts.specs.Holds.{first_of}
 use Rattle.bx_facts.specs.Writes.{store_room}
+use Rattle.bx_node_calls.specs.Turns.{IsTurn}
+use Rattle.bx_node_calls.specs.Waits.{AreNumbered, AreTold}
 use Rattle.bx_nodes.specs.bx_node_openings.specs.Opening.{opening_clocks}
 use Rattle.bx_node_rounds.specs.declared.cluster.Cluster.{Cluster}
 use Rattle.bx_node_rounds.specs.declared.cluster.Parts.{Parts}
 use Rattle.bx_node_rounds.specs.declared.rounds.Told.{Told}
-use Rattle.bx_node_steps.specs.Calls.{Acting, AnswersCalls, AreApart, CallOf, WaitsAt, under_way}
+use Rattle.bx_node_steps.specs.Calls.{AreApart}
 use Rattle.bx_node_steps.specs.Tidying.{TidyGoes}
 use Rattle.bx_node_steps.specs.declared.machine.Machine.{Machine}
-use Rattle.bx_node_tries.specs.Tries.{LeadsBack}
 use Rattle.bx_node_tries.specs.declared.round.Said.{Said}
 use Rattle.bx_nodes.specs.Cleaning.{CleansArea}
 use Rattle.bx_nodes.specs.Standing.{BeReady, OfBoth, OfNode, Stand}
-use Rattle.bx_owners.specs.declared.owners.Owners as owners
+use Rattle.bx_facts.specs.declared.owners.Owners as owners
 use Rattle.bx_plain_parts.specs.declared.parts.Shape.{Shape}
 use Rattle.bx_post.specs.declared.packets.Letter.{Letter}
 use Rattle.bx_views.specs.declared.engine.Engine as engine
-use Rattle.bx_volume.specs.Overlay.{Logs}
-use Rattle.bx_volume.specs.Records.{Logged}
 use Rattle.bx_world_standing.specs.Standing.{Course}
-
--- ---- calls that wait
-
--- a call waits at a node
-abbrev pub Waits : List Machine → ℕ → CallOf → Type 0
-Waits machines node call = IsSomeAnd (slice_get machines node) (λ machine. WaitsAt machine call)
-
--- The calls that wait have numbers from 1 up to one, and two that have one number wait at one node.
-pub record AreNumbered (latest : ℕ) (machines : List Machine) : Type 0 where
-  pub least : (node : ℕ) (call : CallOf) → Waits machines node call → 0 < call.number
-  pub most : (node : ℕ) (call : CallOf) → Waits machines node call → call.number ≤ latest
-  pub alone : (node other : ℕ) (call twin : CallOf) → Waits machines node call → Waits machines other twin → twin.number ≡ call.number → other ≡ node
-
--- What the logs have was told: it is of no call that waits, nor of one that comes later.
-pub record AreTold (latest : ℕ) (machines : List Machine) (logs : Logs) : Type 0 where
-  pub came : (slot : ℕ) (one : Logged) → Contains (logs slot) one → one.head.call ≤ latest
-  pub none : (slot : ℕ) (one : Logged) (node : ℕ) (call : CallOf) → Contains (logs slot) one → Waits machines node call → call.number ≢ one.head.call
-
--- none waits
-abbrev pub NoneWaits : List Machine → Type 0
-NoneWaits machines = (node : ℕ) (call : CallOf) → Waits machines node call → ⊥
-
--- ---- what else nodes have
-
--- a node has what it has under this session
-abbrev pub HasSession : List Machine → ℕ → Option ℕ → Type 0
-HasSession machines node session = IfSome (slice_get machines node) (λ machine. machine.session ≡ session)
-
-abbrev pub session_at : List Machine → ℕ → Option (Option ℕ)
-session_at machines node = option_map (λ (machine : Machine). machine.session) (slice_get machines node)
-
--- the call whose record is written at a node
-abbrev pub acting_in : Option Machine → Option Acting
-acting_in None = None
-acting_in (Some machine) = under_way machine
-
-abbrev pub acting_at : List Machine → ℕ → Option Acting
-acting_at machines node = acting_in (slice_get machines node)
-
--- Nodes have what they had under the sessions that they had it under, and write the records that they wrote.
-pub record HaveStill (old new : List Machine) : Type 0 where
-  pub sessions : (node : ℕ) → session_at new node ≡ session_at old node
-  pub acting : (node : ℕ) → acting_at new node ≡ acting_at old node
 
 -- ---- turns
 
 -- what is told of a turn of a node
 abbrev pub at_node : ℕ → Said → Told
 at_node node said = record { node = node; said = said }
-
--- One node has its turn at a moment: it answers calls, its tidy goes on, or rests where the node was asked for a block, and all other nodes are as they were.
-pub record IsTurn (moment node : ℕ) (old new : List Machine) (said : List Said) : Type 0 where
-  pub answers : (machine : Machine) → slice_get old node ≡ Some machine → IsSomeAnd (slice_get new node) (λ now. AnswersCalls moment machine now said)
-  pub asked : Option (ℕ × ℕ)
-  pub tidies : (machine : Machine) → slice_get old node ≡ Some machine → IsSomeAnd (slice_get new node) (TidyGoes (IsSome asked) machine)
-  pub sessions : session_at new node ≡ session_at old node
-  pub others : (other : ℕ) → other ≢ node → slice_get new other ≡ slice_get old other
 
 -- The first so many nodes have their turns, in their order.
 pub data AreTurns (moment : ℕ) : ℕ → List Machine → List Machine → List Told → Type 0 where
@@ -135,9 +83,3 @@ module _ {G O S E T : Type 0} (g : register.Ghosts G) (o : owners.Ghosts O) (st 
     pub owners : O
     pub own : (other : ℕ) → o.own new.nodes.owners other ≡ o.own owners other
     pub tidies : OfBoth old.nodes new.nodes node (TidyGoes (IsSome (first_of (o.asks owners node))))
-
--- The answers lead to a next tree, for which something stands.
-pub record Rounded {E T : Type 0} (e : engine.Ghosts E T) (engine_is : E) (Stands_then : T → Type 0) (tree : T) (said : List Said) : Type 0 where
-  pub next : T
-  pub leads : LeadsBack (e.step engine_is) tree (reverse said) next
-  pub stands : Stands_then next

@@ -7,8 +7,7 @@ ghost use Rattle.bx_nodes.specs.Tells.{lacks_in};
 
 use crate::cluster::Cluster;
 use bx_base::{Actor, CallNo};
-use bx_facts::{Register, Store};
-use bx_owners::Owners;
+use bx_facts::{Owners, Register, Store};
 use bx_views::Engine;
 
 impl<G: Register, O: Owners, S: Store, E: Engine> Cluster<G, O, S, E> {

@@ -5,14 +5,14 @@ ghost use Rattle.bx_base.specs.Faults.{Rose};
 ghost use Rattle.bx_base.specs.declared.names.Actor.TheVariants.{Member};
 ghost use Rattle.bx_disk.specs.Disks.{Disks};
 ghost use Rattle.bx_facts.specs.Disks.{SameLabels};
-ghost use Rattle.bx_node_rounds.specs.Rounds.{AreTurns, IsReady, IsTurn, Rounded, Standing, StandsClean, all_said, at_node, session_at};
+ghost use Rattle.bx_node_calls.specs.Turns.{IsTurn, Rounded, session_at};
+ghost use Rattle.bx_node_rounds.specs.Rounds.{AreTurns, IsReady, Standing, StandsClean, all_said, at_node};
 
 use crate::cluster::Cluster;
 use bx_base::{Actor, OutOfMemory};
 use bx_disk::Rack;
-use bx_facts::{FactError, Input, Register, Store};
+use bx_facts::{FactError, Input, Owners, Register, Store};
 use bx_node_tries::Said;
-use bx_owners::Owners;
 use bx_post::Outbox;
 use bx_views::Engine;
 

@@ -3,14 +3,15 @@
 ghost use Rattle.std.specs.Prelude.{◌≡◌, ◌≢◌, ◌↔◌, ◌<◌, ℕ, length, List, option_map, slice_get, true};
 ghost use Rattle.bx_disk.specs.Disks.{Disks};
 ghost use Rattle.bx_node_rounds.specs.Quiet.{tidies_in};
-ghost use Rattle.bx_node_rounds.specs.Rounds.{AreReady, HaveStill, IsReady, Standing, Waits};
+ghost use Rattle.bx_node_calls.specs.Turns.{HaveStill};
+ghost use Rattle.bx_node_calls.specs.Waits.{Waits};
+ghost use Rattle.bx_node_rounds.specs.Rounds.{AreReady, IsReady, Standing};
 ghost use Rattle.bx_node_steps.specs.Calls.{CallOf, call_written};
 ghost use Rattle.bx_nodes.specs.Standing.{OfNode};
 
 use crate::cluster::Cluster;
 use bx_base::CallNo;
-use bx_facts::{Register, Store};
-use bx_owners::Owners;
+use bx_facts::{Owners, Register, Store};
 use bx_views::Engine;
 
 impl<G: Register, O: Owners, S: Store, E: Engine> Cluster<G, O, S, E> {

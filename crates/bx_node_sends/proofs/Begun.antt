@@ -10,7 +10,7 @@ use Rattle.bx_facts.specs.declared.store.Store as store
 use Rattle.bx_facts.specs.Chains.{LivesIn, last, oldest}
 use Rattle.bx_facts.specs.Holds.{Hold, is_exclusive}
 use Rattle.bx_global.specs.declared.change.Change.TheVariants.{Close}
-use Rattle.bx_owners.specs.declared.owners.Owners as owners
+use Rattle.bx_facts.specs.declared.owners.Owners as owners
 use Rattle.bx_places.specs.Places.{IsBlock}
 use Rattle.bx_records.specs.Drafts.{Block, block_in}
 use Rattle.bx_node_views.specs.bx_redo.specs.declared.work.Work.TheVariants as works

@@ -10,7 +10,7 @@ use Rattle.bx_facts.specs.Chains.{LivesIn, last, oldest}
 use Rattle.bx_facts.specs.Writes.{IsOnly, Made, Sent, WritesTo}
 use Rattle.bx_facts.proofs.Lists.{front_or_behind}
 use Rattle.bx_global.specs.declared.change.Change.TheVariants.{Close}
-use Rattle.bx_owners.specs.declared.owners.Owners as owners
+use Rattle.bx_facts.specs.declared.owners.Owners as owners
 use Rattle.bx_post.specs.declared.packets.Letter.{Letter}
 use Rattle.bx_rows.specs.Words.{row_in}
 use Rattle.bx_rows.specs.declared.session.SessionRow.{SessionRow}

@@ -6,7 +6,7 @@ use Rattle.bx_base.specs.declared.names.Mode.TheVariants.{Shared, Exclusive}
 use Rattle.bx_facts.specs.Chains.{Chain, HasRow, LivesIn, last, oldest, opened_at}
 use Rattle.bx_facts.specs.Holds.{Hold, Holds, KeepsOthers, OwnersPast, given_floor, is_exclusive, leased, raised}
 use Rattle.bx_facts.proofs.Lists.{front}
-use Rattle.bx_world_standing.specs.bx_owners.specs.declared.owners.Owners as owners
+use Rattle.bx_facts.specs.declared.owners.Owners as owners
 use Rattle.bx_rows.specs.Words.{row_in}
 use Rattle.bx_rows.specs.declared.session.SessionRow.{SessionRow}
 use Rattle.bx_world_standing.specs.Rights.{HasBlock, IsReached}

@@ -9,7 +9,7 @@ use Rattle.bx_node_machines.proofs.Showing.{answered}
 use Rattle.bx_node_tries.specs.Tries.{LedTo}
 use Rattle.bx_node_tries.specs.declared.round.Said.{Said}
 use Rattle.bx_nodes.specs.Turns.{Turned}
-use Rattle.bx_owners.specs.declared.owners.Owners as owners
+use Rattle.bx_facts.specs.declared.owners.Owners as owners
 use Rattle.bx_post.specs.declared.packets.Letter.{Letter}
 use Rattle.bx_views.specs.Attempts.{Deed}
 use Rattle.bx_views.specs.Truths.{Hints, Truth}

@@ -25,7 +25,7 @@ use Rattle.bx_node_steps.specs.declared.machine.Stage.TheVariants as stages
 use Rattle.bx_node_steps.specs.declared.recording.Recording.{Recording}
 use Rattle.bx_nodes.proofs.Stepping as stepping
 use Rattle.bx_nodes.proofs.Told.{told_as}
-use Rattle.bx_owners.specs.declared.owners.Owners as owners
+use Rattle.bx_facts.specs.declared.owners.Owners as owners
 use Rattle.bx_places.specs.Places.{IsBlock}
 use Rattle.bx_post.specs.declared.packets.Letter.{Letter}
 use Rattle.bx_records.specs.Drafts.{Changed, block_in}

@@ -31,7 +31,7 @@ use Rattle.bx_nodes.specs.Sending.{SendsBody, WorksOver}
 use Rattle.bx_nodes.specs.Giving.{AreWanted, IsInNeeds}
 use Rattle.bx_nodes.specs.Turns.{AreNeededBy, HasCause, Waits}
 use Rattle.bx_nodes.specs.Turns.HasCause.{AskedBack, Needs, Over, Writes}
-use Rattle.bx_owners.specs.declared.owners.Owners as owners
+use Rattle.bx_facts.specs.declared.owners.Owners as owners
 use Rattle.bx_records.specs.Drafts.{Changed}
 use Rattle.bx_views.specs.Attempts.{IsFairNeed, Tidies}
 use Rattle.bx_views.specs.Truths.{IsTruth, Truth}

@@ -14,7 +14,7 @@ use Rattle.bx_node_tries.specs.declared.round.Waiting.{Waiting}
 use Rattle.bx_nodes.specs.Giving.{AreWanted, GivesBack, GivesUp, IsInNeeds, MayGive}
 use Rattle.bx_nodes.specs.Giving.AreWanted.{NoMore, OneMore}
 use Rattle.bx_nodes.specs.Giving.GivesBack.{Gives, Stays}
-use Rattle.bx_owners.specs.declared.owners.Owners as owners
+use Rattle.bx_facts.specs.declared.owners.Owners as owners
 
 -- ---- fewer calls wait: what might be given back still may
 

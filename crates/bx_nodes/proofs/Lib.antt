@@ -14,6 +14,7 @@ pub mod Leading
 pub mod Letters
 pub mod LettingGo
 pub mod Machines
+pub mod Moments
 pub mod Noting
 pub mod Readings
 pub mod Readying

@@ -26,7 +26,7 @@ use Rattle.bx_nodes.specs.Turns.{AreNeededBy, TurnEnds, Waits}
 use Rattle.bx_nodes.specs.Turns.TurnEnds.{Worked, Writing}
 use Rattle.bx_nodes.specs.declared.nodes.Nodes.{Nodes}
 use Rattle.bx_nodes.specs.declared.turns.Lease.{Lease}
-use Rattle.bx_owners.specs.declared.owners.Owners as owners
+use Rattle.bx_facts.specs.declared.owners.Owners as owners
 use Rattle.bx_post.specs.declared.packets.Letter.{Letter}
 use Rattle.bx_views.specs.declared.engine.Engine as engine
 use Rattle.bx_world_standing.specs.Parts.{Clocks}

@@ -26,7 +26,7 @@ use Rattle.bx_node_steps.specs.declared.machine.Fetch.{Fetch}
 use Rattle.bx_node_steps.specs.declared.machine.Fetch.TheVariants as fetches
 use Rattle.bx_node_steps.specs.declared.machine.Machine.{Machine}
 use Rattle.bx_nodes.proofs.Caches.{home_taken, none_kept, shows_one}
-use Rattle.bx_owners.specs.declared.owners.Owners as owners
+use Rattle.bx_facts.specs.declared.owners.Owners as owners
 use Rattle.bx_post.specs.declared.packets.Letter.{Letter}
 use Rattle.bx_views.specs.Attempts.{Deed}
 use Rattle.bx_views.specs.Truths.{Hints, Truth}

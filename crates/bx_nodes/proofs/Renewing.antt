@@ -25,7 +25,7 @@ use Rattle.bx_nodes.specs.Renewing.{Anew, Renews, Stays, own_row as its_row}
 use Rattle.bx_node_steps.specs.Seen.{fetch_of, seen, stage_of, view_of}
 use Rattle.bx_node_steps.specs.declared.machine.Machine.{Machine}
 use Rattle.bx_nodes.proofs.Machines.{seen_others, seen_same, seen_there, set_here, set_there}
-use Rattle.bx_owners.specs.declared.owners.Owners as owners
+use Rattle.bx_facts.specs.declared.owners.Owners as owners
 use Rattle.bx_places.specs.Places.{log_device}
 use Rattle.bx_post.specs.declared.packets.Letter.{Letter}
 use Rattle.bx_redo.specs.Steps.{closed_log}

@@ -32,7 +32,7 @@ use Rattle.bx_nodes.specs.Turns.{Turned}
 use Rattle.bx_node_steps.specs.declared.machine.Machine.{Machine}
 use Rattle.bx_nodes.proofs.Machines.{seen_same, seen_there, set_here, set_there}
 use Rattle.bx_nodes.proofs.Told.{emptied, told_as, told_with}
-use Rattle.bx_owners.specs.declared.owners.Owners as owners
+use Rattle.bx_facts.specs.declared.owners.Owners as owners
 use Rattle.bx_post.specs.declared.packets.Letter.{Letter}
 use Rattle.bx_records.specs.Drafts.{Changed, block_in}
 use Rattle.bx_records.specs.Runs.{KindAndRuns}

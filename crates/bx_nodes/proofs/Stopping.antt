@@ -22,7 +22,7 @@ use Rattle.bx_node_steps.specs.Seen.{seen, view_of}
 use Rattle.bx_nodes.specs.Stopping.{Empties, HasNothing, with_down}
 use Rattle.bx_node_steps.specs.declared.machine.Machine.{Machine}
 use Rattle.bx_nodes.proofs.Machines.{seen_others, seen_there}
-use Rattle.bx_owners.specs.declared.owners.Owners as owners
+use Rattle.bx_facts.specs.declared.owners.Owners as owners
 use Rattle.bx_post.specs.declared.packets.Letter.{Letter}
 use Rattle.bx_views.specs.Attempts.{Deed}
 use Rattle.bx_views.specs.Truths.{Hints, Truth, no_hints}

@@ -35,7 +35,7 @@ use Rattle.bx_nodes.proofs.Giving.{AreOf, gives_on, wanted_none}
 use Rattle.bx_nodes.specs.Giving.{AreWanted, GivesBack, IsInNeeds}
 use Rattle.bx_nodes.specs.Turns.{AreNeededBy, CameInTurn, HasCause, Waits, newest_of}
 use Rattle.bx_nodes.specs.Turns.HasCause.{AskedBack, Needs, Over, Writes}
-use Rattle.bx_owners.specs.declared.owners.Owners as owners
+use Rattle.bx_facts.specs.declared.owners.Owners as owners
 use Rattle.bx_places.specs.Places.{IsBlock, is_block}
 use Rattle.bx_views.specs.Attempts.{IsFairNeed}
 use Rattle.bx_views.specs.Truths.{Held, Hints}

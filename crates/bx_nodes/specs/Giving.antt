@@ -6,7 +6,7 @@ use Rattle.bx_node_steps.specs.Changing.{LetsGo}
 use Rattle.bx_node_steps.specs.Gives.{MayKeep, since, waits_since}
 use Rattle.bx_node_steps.specs.declared.machine.Machine.{Machine}
 use Rattle.bx_nodes.specs.Asks.{is_weaker}
-use Rattle.bx_owners.specs.declared.owners.Owners as owners
+use Rattle.bx_facts.specs.declared.owners.Owners as owners
 
 -- A block that is asked back may be given back: it is held, and a session asks for it that is earlier than this one, or no call waits any more that waited when that was seen first.
 pub record MayGive (hold : Option Hold) (session : ℕ) (asked : ℕ × ℕ) (machine : Machine) : Type 0 where

@@ -15,3 +15,4 @@ pub mod Turns
 pub use Rattle.bx_node_events
 pub use Rattle.bx_node_openings
 pub use Rattle.bx_node_events.specs.bx_world_stays
+pub use Rattle.bx_world_volumes

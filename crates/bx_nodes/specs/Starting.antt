@@ -1,8 +1,8 @@
 -- How a machine starts again.
 use Rattle.std.specs.Prelude.{◌≡◌, ◌≢◌, ℕ, max, Bool, true, false, Some}
 use Rattle.bx_base.specs.declared.names.Actor.{Actor}
-use Rattle.bx_facts.specs.Chains.{Chain, last}
 use Rattle.bx_facts.specs.Machines.{put_at}
+use Rattle.bx_global.specs.declared.state.GlobalState.{GlobalState}
 use Rattle.bx_rows.specs.Words.{row_in}
 use Rattle.bx_rows.specs.declared.session.SessionRow.{SessionRow}
 use Rattle.bx_world_standing.specs.Parts.{Clocks}
@@ -15,14 +15,15 @@ with_boot clocks who boot reading = record clocks { down = put_at who false cloc
 abbrev pub with_try : Clocks → ℕ → ℕ → Clocks
 with_try clocks boot reading = record clocks { most = boot; greatest = max clocks.greatest reading }
 
--- A node may start again with a boot: each machine's part is its own, sessions go by boots, and no live one of the node is of this boot.
-pub record MayStart (by_boot : Bool) (AreSeparate : Type 0) (chain : Chain) (node boot : ℕ) : Type 0 where
+-- A node may start again with a boot, by the last state: each machine's part is its own, sessions go by boots, and no live one of the node is of this boot.
+pub record MayStart (by_boot : Bool) (AreSeparate : Type 0) (s : GlobalState) (node boot : ℕ) : Type 0 where
   pub by : by_boot ≡ true
   pub separate : AreSeparate
-  pub none : (session : ℕ) (row : SessionRow) → row_in (last chain).sessions session ≡ Some row → row.dead ≡ 0 → row.node ≡ node → row.boot ≢ boot
+  pub none : (session : ℕ) (row : SessionRow) → row_in s.sessions session ≡ Some row → row.dead ≡ 0 → row.node ≡ node → row.boot ≢ boot
 
--- There is a later course, of the same chain, and what stands stands for it.
+-- There is a later course, of the same chain and logs, and what stands stands for it.
 pub record Starts (Stands_then : Course → Type 0) (c : Course) : Type 0 where
   pub later : Course
   pub chain : later.register.chain ≡ c.register.chain
+  pub logs : later.logs ≡ c.logs
   pub stands : Stands_then later

@@ -1,10 +1,11 @@
 -- What a machine makes of an input that it is handed.
-use Rattle.std.specs.Prelude.{◌≡◌, IfSome, Option, Some}
+use Rattle.std.specs.Prelude.{◌≡◌, ◌⊎◌, IfSome, Option, Some}
 use Rattle.std.specs.Option.{option_or}
-use Rattle.bx_facts.specs.Chains.{GrowsBy}
+use Rattle.bx_facts.specs.Chains.{GrowsBy, last}
 use Rattle.bx_facts.specs.Inputs.{greatest_with}
 use Rattle.bx_facts.specs.declared.input.Input.{Input}
 use Rattle.bx_global.specs.declared.change.Change.{Change}
+use Rattle.bx_global.specs.declared.state.GlobalState.{GlobalState}
 use Rattle.bx_world_standing.specs.Parts.{Clocks}
 use Rattle.bx_world_standing.specs.Standing.{Course}
 
@@ -18,10 +19,12 @@ pub record Proposes (offer : Option Change) (Holds_then : Option Change → Type
   pub is_offered : (change : Change) → proposal ≡ Some change → offer ≡ Some change
   pub holds : Holds_then proposal
 
--- There is a later course, whose chain is as it was or grew by a change that was proposed before, and whose logs are as they were; and what stands stands for it.
-pub record Hears (Stands_then : Course → Type 0) (c : Course) : Type 0 where
+-- There is a later course, whose chain is as it was or grew by a change that was proposed before, and whose logs are as they were; and what stands stands for it. The machine that
+-- heard knows this state then: where the chain grew, it is the last one.
+pub record Hears (known : GlobalState) (Stands_then : Course → Type 0) (c : Course) : Type 0 where
   pub later : Course
   pub grows : GrowsBy c.register.proposed c.register.chain later.register.chain
+  pub told : (later.register.chain ≡ c.register.chain) ⊎ (known ≡ last later.register.chain)
   pub logs : later.logs ≡ c.logs
   pub stands : Stands_then later
 

@@ -18,7 +18,7 @@ use Rattle.bx_node_tries.specs.declared.round.Said.{Said}
 use Rattle.bx_node_tries.specs.declared.round.Waiting.{Waiting}
 use Rattle.bx_nodes.specs.Asks.{KeepsUnneeded}
 use Rattle.bx_nodes.specs.Giving.{AreWanted, GivesBack, IsInNeeds}
-use Rattle.bx_owners.specs.declared.owners.Owners as owners
+use Rattle.bx_facts.specs.declared.owners.Owners as owners
 use Rattle.bx_views.specs.declared.attempt.Attempt.TheVariants.{Need}
 use Rattle.bx_views.specs.declared.engine.Engine as engine
 use Rattle.bx_views.specs.Attempts.{Deed, IsFairNeed}

@@ -16,9 +16,8 @@ ghost use Rattle.bx_world_standing.specs.Standing.{Course};
 
 use crate::nodes::Nodes;
 use bx_base::{CallNo, OutOfMemory};
-use bx_facts::{Register, Store};
+use bx_facts::{Owners, Register, Store};
 use bx_node_tries::{Begun, Round, Said, attempt_all};
-use bx_owners::Owners;
 use bx_records::Wants;
 use bx_views::Engine;
 use std::mem;

@@ -23,9 +23,8 @@ ghost use Rattle.bx_world_standing.specs.Standing.{Course};
 
 use crate::nodes::Nodes;
 use bx_base::{Actor, Mode, OutOfMemory};
-use bx_facts::{Register, Store};
+use bx_facts::{Owners, Register, Store};
 use bx_node_steps::Fetch;
-use bx_owners::Owners;
 use bx_places::BLOCK_SECTORS;
 use bx_post::Outbox;
 use bx_records::Wants;

@@ -13,9 +13,8 @@ ghost use Rattle.bx_world_standing.specs.Standing.{Course};
 
 use crate::nodes::Nodes;
 use bx_base::OutOfMemory;
-use bx_facts::{Register, Store};
+use bx_facts::{Owners, Register, Store};
 use bx_node_tries::Waiting;
-use bx_owners::Owners;
 use bx_views::Engine;
 
 impl<G: Register, O: Owners, S: Store, E: Engine> Nodes<G, O, S, E> {

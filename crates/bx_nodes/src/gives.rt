@@ -19,9 +19,8 @@ ghost use Rattle.bx_world_standing.specs.Standing.{Course};
 
 use crate::nodes::Nodes;
 use bx_base::{Actor, OutOfMemory};
-use bx_facts::{Register, Store};
+use bx_facts::{Owners, Register, Store};
 use bx_node_steps::waits_since;
-use bx_owners::Owners;
 use bx_post::Outbox;
 use bx_views::Engine;
 

@@ -9,9 +9,8 @@ ghost use Rattle.bx_nodes.specs.Stopping.{HasNothing};
 ghost use Rattle.bx_places.specs.Places.{IsVolume};
 
 use bx_base::OutOfMemory;
-use bx_facts::{Register, Store};
+use bx_facts::{Owners, Register, Store};
 use bx_node_steps::Machine;
-use bx_owners::Owners;
 use bx_views::Engine;
 use std::alloc::Global;
 

@@ -13,9 +13,8 @@ ghost use Rattle.bx_world_standing.specs.Standing.{Course};
 
 use crate::nodes::Nodes;
 use bx_base::{Actor, OutOfMemory};
-use bx_facts::{Register, Store};
+use bx_facts::{Owners, Register, Store};
 use bx_global::GlobalState;
-use bx_owners::Owners;
 use bx_rows::{SessionRow, find_row};
 use bx_views::Engine;
 

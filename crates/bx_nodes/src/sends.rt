@@ -19,10 +19,9 @@ ghost use Rattle.bx_world_standing.specs.Standing.{Course};
 
 use crate::nodes::Nodes;
 use bx_base::OutOfMemory;
-use bx_facts::{Outbox, Register, Store};
+use bx_facts::{Outbox, Owners, Register, Store};
 use bx_node_steps::{LogStep, Recording, asked_by};
 use bx_node_tries::{Begun, Said};
-use bx_owners::Owners;
 use bx_views::Engine;
 
 impl<G: Register, O: Owners, S: Store, E: Engine> Nodes<G, O, S, E> {

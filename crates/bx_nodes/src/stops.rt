@@ -1,10 +1,12 @@
 //! Machines that stop, and start again.
 
-ghost use Rattle.std.specs.Prelude.{◌≡◌, ◌≢◌, ◌⊎◌, ℕ, IfSome, List, None, slice_get, ◌++◌, ◌+◌, ◌<◌, ◌≤◌, OnOk, IsErrOf, false, true};
+ghost use Rattle.std.specs.Prelude.{◌≡◌, ◌≢◌, ◌⊎◌, ℕ, IfSome, List, None, slice_get, ◌++◌, ◌+◌, ◌<◌, ◌≤◌, OnOk, IsErr, IsErrOf, false, true};
 ghost use Rattle.bx_base.specs.declared.names.Actor.{Actor};
 ghost use Rattle.bx_base.specs.declared.names.Actor.TheVariants.{Node, Member};
+ghost use Rattle.bx_calls.specs.Calls.{LeavesOnly};
 ghost use Rattle.bx_disk.specs.Disks.{Disks};
 ghost use Rattle.bx_disk.specs.Kept.{Counted};
+ghost use Rattle.bx_facts.specs.Chains.{last};
 ghost use Rattle.bx_facts.specs.Disks.{NeedsNoMore, HasRoom, NeedsAt, wanted_by};
 ghost use Rattle.bx_facts.specs.Machines.{OnlyAt, OnlyFactsAt, IsMachine, disk_of};
 ghost use Rattle.bx_facts.specs.Writes.{store_room};
@@ -18,13 +20,13 @@ ghost use Rattle.bx_places.specs.Places.{replica_sectors};
 ghost use Rattle.bx_post.specs.declared.packets.Letter.{Letter};
 ghost use Rattle.bx_world_standing.specs.Parts.{Clocks};
 ghost use Rattle.bx_world_standing.specs.Standing.{Course};
+ghost use Rattle.bx_world_volumes.specs.Left.{MayShow};
 
 use crate::nodes::Nodes;
 use bx_base::Actor;
 use bx_disk::Rack;
-use bx_facts::{FactError, Register, Store};
+use bx_facts::{FactError, Owners, Register, Store};
 use bx_node_steps::Machine;
-use bx_owners::Owners;
 use bx_post::Outbox;
 use bx_views::Engine;
 
@@ -73,14 +75,19 @@ impl<G: Register, O: Owners, S: Store, E: Engine> Nodes<G, O, S, E> {
         requires disk { HasRoom (wanted_by (disk_of who) replica_sectors) (R.state rack.old).sizes }
         requires member { (n : ℕ) → who ≡ Member n → HasRoom (wanted_by (disk_of who) (store_room (S.made self.old.store))) (R.state rack.old).sizes }
         ensures stands { (letters : List Letter) (clocks : Clocks) (c : Course) (tree : E.Tree) → R.tells rack.old → clocks.down who ≡ true → clocks.most < boot → clocks.greatest ≤ reading + 500
-            → ((node : ℕ) → who ≡ Node node → MayStart O.by_boot (O.is_separate × S.is_separate) c.register.chain node boot)
+            → ((node : ℕ) → who ≡ Node node → MayStart O.by_boot (O.is_separate × S.is_separate) (last c.register.chain) node boot)
             → Stand G.Register O.Owners S.Store E.Engine self.old (R.state rack.old) (letters ++ out.old) clocks c tree
             → OnOk result (Starts (λ later. Stand G.Register O.Owners S.Store E.Engine self.new (R.state rack.new) (letters ++ out.new) (with_boot clocks who boot reading) later tree) c) }
         ensures failed { (letters : List Letter) (clocks : Clocks) (c : Course) (tree : E.Tree) → R.tells rack.old → clocks.down who ≡ true → clocks.most < boot → clocks.greatest ≤ reading + 500
             → Stand G.Register O.Owners S.Store E.Engine self.old (R.state rack.old) (letters ++ out.old) clocks c tree
             → IsErrOf result DiskFails → Starts (λ later. Stand G.Register O.Owners S.Store E.Engine self.new (R.state rack.new) (letters ++ out.old) (with_try clocks boot reading) later tree) c }
+        ensures any_moment { (letters : List Letter) (clocks : Clocks) (c : Course) (tree : E.Tree) → R.tells rack.old → clocks.down who ≡ true → clocks.most < boot → clocks.greatest ≤ reading + 500
+            → Stand G.Register O.Owners S.Store E.Engine self.old (R.state rack.old) (letters ++ out.old) clocks c tree
+            → LeavesOnly (R.moment rack.old) (R.moment rack.new) (R.left_since rack.old) (R.left_since rack.new) (MayShow (G.reads_as (G.made self.old.register) (R.state rack.old).sizes) (S.made self.old.store) (R.state rack.old).sizes c) }
         ensures empties { Empties who self.old.machines.items self.new.machines.items }
         ensures apart { (node : ℕ) → OfNode self.old node AreApart → OfNode self.new node AreApart }
+        ensures ready { (node : ℕ) → S.is_separate → BeReady S.Store E.Engine self.old node → OnOk result (BeReady S.Store E.Engine self.new node) }
+        ensures ready_failed { (node : ℕ) → BeReady S.Store E.Engine self.old node → IsErr result → BeReady S.Store E.Engine self.new node }
         ensures none { O.is_separate → S.is_separate → (node : ℕ) → who ≡ Node node → OnOk result ((O.own self.new.owners node ≡ None) × (S.own self.new.store node ≡ None) × (S.out_of self.new.store node ≡ None) × (S.asked self.new.store node ≡ None)) }
         ensures own { (node : ℕ) → who ≢ Node node → (O.own self.new.owners node ≡ O.own self.old.owners node) × (O.end_of self.new.owners node ≡ O.end_of self.old.owners node) × (S.own self.new.store node ≡ S.own self.old.store node) }
         ensures out { (node : ℕ) → who ≢ Node node → (S.out_of self.new.store node ≡ S.out_of self.old.store node) × (S.asked self.new.store node ≡ S.asked self.old.store node) × (S.answer self.new.store node ≡ S.answer self.old.store node) }
@@ -93,7 +100,11 @@ impl<G: Register, O: Owners, S: Store, E: Engine> Nodes<G, O, S, E> {
         ensures rack { Counted R.Rack rack.old rack.new result DiskFails }
     {
         self.empty(who);
-        self.store.restart(rack, who, boot, reading)?;
+        let stored = self.store.restart(rack, who, boot, reading);
+        if stored.is_err() {
+            self.store.crash(who);
+            return stored;
+        }
         self.owners.restart(who, boot, reading);
         let started = self.register.restart(rack, who, boot, out);
         if started.is_err() {

@@ -3,6 +3,7 @@
 ghost use Rattle.std.specs.Prelude.{◌≡◌, ◌≢◌, ◌⊎◌, ℕ, ◌++◌, ◌≤◌, false, List, IfSome, OnOk, IsErrOf, slice_get};
 ghost use Rattle.bx_base.specs.declared.names.Actor.{Actor};
 ghost use Rattle.bx_base.specs.declared.names.Actor.TheVariants.{Node};
+ghost use Rattle.bx_calls.specs.Calls.{LeavesOnly};
 ghost use Rattle.bx_disk.specs.Disks.{Disks};
 ghost use Rattle.bx_disk.specs.Counts.{NoneRose};
 ghost use Rattle.bx_disk.specs.Kept.{Counted};
@@ -20,13 +21,13 @@ ghost use Rattle.bx_nodes.specs.Taking.{Hears, Offers, Proposes, with_reading};
 ghost use Rattle.bx_post.specs.declared.packets.Letter.{Letter};
 ghost use Rattle.bx_world_standing.specs.Parts.{Clocks};
 ghost use Rattle.bx_world_standing.specs.Standing.{Course};
+ghost use Rattle.bx_world_volumes.specs.Left.{MayShow};
 
 use crate::nodes::Nodes;
 use bx_base::Actor;
 use bx_disk::Rack;
-use bx_facts::{FactError, Input, ProposeError, Register, Store};
+use bx_facts::{FactError, Input, Owners, ProposeError, Register, Store};
 use bx_global::Change;
-use bx_owners::Owners;
 use bx_post::Outbox;
 use bx_views::Engine;
 
@@ -45,10 +46,13 @@ impl<G: Register, O: Owners, S: Store, E: Engine> Nodes<G, O, S, E> {
         requires room { HasRoom (G.needs self.old.register) (R.state rack.old).sizes × HasRoom (S.needs self.old.store) (R.state rack.old).sizes }
         ensures stands { (letters : List Letter) (clocks : Clocks) (c : Course) (tree : E.Tree) → R.tells rack.old → clocks.down at ≡ false → IsSteady clocks.greatest input.now → IsComing (letters ++ out.old) input.now
             → Stand G.Register O.Owners S.Store E.Engine self.old (R.state rack.old) (letters ++ out.old) clocks c tree
-            → OnOk result (Hears (λ later. Stand G.Register O.Owners S.Store E.Engine self.new (R.state rack.new) (letters ++ out.new) (with_reading clocks input.now) later tree) c) }
+            → OnOk result (Hears (G.knows self.new.register at) (λ later. Stand G.Register O.Owners S.Store E.Engine self.new (R.state rack.new) (letters ++ out.new) (with_reading clocks input.now) later tree) c) }
         ensures stopped { (letters : List Letter) (clocks : Clocks) (c : Course) (tree : E.Tree) → R.tells rack.old → clocks.down at ≡ false → IsSteady clocks.greatest input.now → IsComing (letters ++ out.old) input.now
             → Stand G.Register O.Owners S.Store E.Engine self.old (R.state rack.old) (letters ++ out.old) clocks c tree
-            → IsErrOf result DiskFails → Hears (λ later. Stand G.Register O.Owners S.Store E.Engine self.new (R.state rack.new) (letters ++ out.old) (with_down (with_reading clocks input.now) at) later tree) c }
+            → IsErrOf result DiskFails → Hears (G.knows self.new.register at) (λ later. Stand G.Register O.Owners S.Store E.Engine self.new (R.state rack.new) (letters ++ out.old) (with_down (with_reading clocks input.now) at) later tree) c }
+        ensures any_moment { (letters : List Letter) (clocks : Clocks) (c : Course) (tree : E.Tree) → R.tells rack.old → clocks.down at ≡ false → IsSteady clocks.greatest input.now → IsComing (letters ++ out.old) input.now
+            → Stand G.Register O.Owners S.Store E.Engine self.old (R.state rack.old) (letters ++ out.old) clocks c tree
+            → LeavesOnly (R.moment rack.old) (R.moment rack.new) (R.left_since rack.old) (R.left_since rack.new) (MayShow (G.reads_as (G.made self.old.register) (R.state rack.old).sizes) (S.made self.old.store) (R.state rack.old).sizes c) }
         ensures offers { OnOk result (Offers (O.hands self.old.owners (G.knows self.new.register at) at input.now) (S.hands self.old.store (G.knows self.new.register at) at input.now) (λ one. (G.is_busy self.old.register at ⊎ G.is_busy self.new.register at) ⊎ (IsLegal (G.knows self.new.register at) one → ⊥))) }
         ensures steps { OnOk result (S.steps self.old.store (G.knows self.new.register at) at input.now self.new.store) }
         ensures ready { (node : ℕ) → BeReady S.Store E.Engine self.old node → OnOk result (BeReady S.Store E.Engine self.new node) }
@@ -87,10 +91,13 @@ impl<G: Register, O: Owners, S: Store, E: Engine> Nodes<G, O, S, E> {
         requires room { HasRoom (G.needs self.old.register) (R.state rack.old).sizes × HasRoom (S.needs self.old.store) (R.state rack.old).sizes }
         ensures stands { (letters : List Letter) (clocks : Clocks) (c : Course) (tree : E.Tree) → R.tells rack.old → clocks.down at ≡ false → IsSteady clocks.greatest input.now → IsComing (letters ++ out.old) input.now
             → Stand G.Register O.Owners S.Store E.Engine self.old (R.state rack.old) (letters ++ out.old) clocks c tree
-            → OnOk result (Hears (λ later. Stand G.Register O.Owners S.Store E.Engine self.new (R.state rack.new) (letters ++ out.new) (with_reading clocks input.now) later tree) c) }
+            → OnOk result (Hears (G.knows self.new.register at) (λ later. Stand G.Register O.Owners S.Store E.Engine self.new (R.state rack.new) (letters ++ out.new) (with_reading clocks input.now) later tree) c) }
         ensures faulted { (letters : List Letter) (clocks : Clocks) (c : Course) (tree : E.Tree) → R.tells rack.old → clocks.down at ≡ false → IsSteady clocks.greatest input.now → IsComing (letters ++ out.old) input.now
             → Stand G.Register O.Owners S.Store E.Engine self.old (R.state rack.old) (letters ++ out.old) clocks c tree
-            → IsErrOf result DiskFails → Hears (λ later. StandBut G.Register O.Owners S.Store E.Engine self.new (R.state rack.new) at (letters ++ out.old) (with_reading clocks input.now) later tree) c }
+            → IsErrOf result DiskFails → Hears (G.knows self.new.register at) (λ later. StandBut G.Register O.Owners S.Store E.Engine self.new (R.state rack.new) at (letters ++ out.old) (with_reading clocks input.now) later tree) c }
+        ensures any_moment { (letters : List Letter) (clocks : Clocks) (c : Course) (tree : E.Tree) → R.tells rack.old → clocks.down at ≡ false → IsSteady clocks.greatest input.now → IsComing (letters ++ out.old) input.now
+            → Stand G.Register O.Owners S.Store E.Engine self.old (R.state rack.old) (letters ++ out.old) clocks c tree
+            → LeavesOnly (R.moment rack.old) (R.moment rack.new) (R.left_since rack.old) (R.left_since rack.new) (MayShow (G.reads_as (G.made self.old.register) (R.state rack.old).sizes) (S.made self.old.store) (R.state rack.old).sizes c) }
         ensures offers { OnOk result (Offers (O.hands self.old.owners (G.knows self.new.register at) at input.now) (S.hands self.old.store (G.knows self.new.register at) at input.now) (λ one. (G.is_busy self.old.register at ⊎ G.is_busy self.new.register at) ⊎ (IsLegal (G.knows self.new.register at) one → ⊥))) }
         ensures steps { OnOk result (S.steps self.old.store (G.knows self.new.register at) at input.now self.new.store) }
         ensures ready { (node : ℕ) → BeReady S.Store E.Engine self.old node → OnOk result (BeReady S.Store E.Engine self.new node) }

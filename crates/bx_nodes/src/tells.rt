@@ -11,10 +11,9 @@ ghost use Rattle.bx_nodes.specs.Tells.{lacks_in};
 
 use crate::nodes::Nodes;
 use bx_base::{Actor, CallNo};
-use bx_facts::{Register, Store};
+use bx_facts::{Owners, Register, Store};
 use bx_global::GlobalState;
 use bx_node_steps::Stage;
-use bx_owners::Owners;
 use bx_views::Engine;
 
 impl<G: Register, O: Owners, S: Store, E: Engine> Nodes<G, O, S, E> {

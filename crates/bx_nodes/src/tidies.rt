@@ -19,9 +19,8 @@ ghost use Rattle.bx_world_standing.specs.Standing.{Course};
 use crate::nodes::Nodes;
 use crate::turns::Lease;
 use bx_base::OutOfMemory;
-use bx_facts::{Outbox, Register, Store};
+use bx_facts::{Outbox, Owners, Register, Store};
 use bx_node_steps::tidying;
-use bx_owners::Owners;
 use bx_views::{Attempt, Engine};
 
 impl<G: Register, O: Owners, S: Store, E: Engine> Nodes<G, O, S, E> {

@@ -18,10 +18,9 @@ ghost use Rattle.bx_world_standing.specs.Standing.{Course};
 use crate::answers::Attempted;
 use crate::nodes::Nodes;
 use bx_base::{CallNo, OutOfMemory};
-use bx_facts::{Outbox, Register, Store};
+use bx_facts::{Outbox, Owners, Register, Store};
 use bx_node_steps::Stage;
 use bx_node_tries::Said;
-use bx_owners::Owners;
 use bx_views::Engine;
 
 /// What a node works under in a turn.

@@ -12,9 +12,8 @@ use crate::asks::first_asked;
 use crate::rows::{Row, given_after};
 use crate::table::{Table, floor_of, hold_at, is_free, row_of, want_at};
 use bx_base::{Actor, Mode, OutOfMemory};
-use bx_facts::{Input, Outbox};
+use bx_facts::{Input, Outbox, Owners};
 use bx_global::{Change, GlobalState};
-use bx_owners::Owners;
 use std::alloc::Global;
 
 /// When a session ends, in milliseconds.

@@ -10,7 +10,7 @@ use Rattle.bx_global.specs.Opening.{opening_state}
 use Rattle.bx_layout.specs.Labels.{IsOpenGate}
 use Rattle.bx_node_openings.proofs.Kept.{settled_in, settled_keeps}
 use Rattle.bx_node_openings.specs.Resting.{KeepsVolume}
-use Rattle.bx_owners.specs.declared.owners.Owners as owners
+use Rattle.bx_facts.specs.declared.owners.Owners as owners
 use Rattle.bx_places.specs.Places.{gate_place, log_start}
 use Rattle.bx_rows.specs.Words.{is_taken}
 use Rattle.bx_views.specs.Attempts.{Deed}

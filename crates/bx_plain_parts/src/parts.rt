@@ -14,9 +14,8 @@ ghost use Rattle.bx_volume.specs.Images.{devices_of};
 
 use bx_base::OutOfMemory;
 use bx_disk::{Rack, RackError};
-use bx_facts::{Register, Store};
+use bx_facts::{Owners, Register, Store};
 use bx_format::format;
-use bx_owners::Owners;
 use bx_plain::{PlainOwners, PlainRegister, endless};
 use bx_plain_store::PlainStore;
 use std::alloc::Global;

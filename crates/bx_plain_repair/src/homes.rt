@@ -4,7 +4,7 @@ ghost use Rattle.std.specs.Prelude.{◌≡◌, ◌⊎◌, ◌↔◌, ℕ, ◌+�
 ghost use Rattle.bx_base.specs.Faults.{Rose};
 ghost use Rattle.bx_disk.specs.Counts.{NoneFalls, NoneRose};
 ghost use Rattle.bx_disk.specs.declared.fault.RackError.TheVariants.{Fault, OutOfMemory as NoMemory};
-ghost use Rattle.bx_layout.specs.Blocks.{HasParts, block_text};
+ghost use Rattle.bx_layout.specs.Blocks.{HasParts};
 ghost use Rattle.bx_logs.specs.Newest.{newest_at};
 ghost use Rattle.bx_plain_repair.specs.Bench.{AreLong};
 ghost use Rattle.bx_plain_repair.specs.HomesOf.{AreHomesBelow, HasNone};
@@ -12,16 +12,16 @@ ghost use Rattle.bx_plain_repair.specs.Resting.{Rests, StandsAs, closes_log};
 ghost use Rattle.bx_plain_repair.specs.Spared.{SparesOthers};
 ghost use Rattle.bx_model.specs.declared.tree.Tree.{Tree};
 ghost use Rattle.bx_places.specs.Places.{IsBlock};
-ghost use Rattle.bx_redo.specs.Homes.{home_run};
 ghost use Rattle.bx_volume.specs.Records.{Logged, newest_in};
 
 use crate::through::write_through;
-use bx_base::{List, OutOfMemory, Raw};
+use bx_base::{List, OutOfMemory};
 use bx_disk::{Rack, RackError};
 use bx_layout::Block;
 use bx_logs::Newest;
-use bx_places::{ChunkHandle, MOST_AREAS, OWN_SLOT, PAYLOAD, SECTOR, place};
+use bx_places::{ChunkHandle, MOST_AREAS, OWN_SLOT, PAYLOAD};
 use bx_records::Run;
+use bx_redo::home_of;
 use std::alloc::Global;
 
 /// One more than the greatest number of a block of one area.
@@ -90,7 +90,7 @@ fn put_home(
     if !has_parts(block) {
         return Ok(false);
     }
-    runs.push(home_of(alloc, at, block)?)?;
+    runs.push(home_of(alloc, 1, 1, at, block)?)?;
     Ok(true)
 }
 
@@ -101,28 +101,4 @@ fn has_parts(block: &Block) -> bool
     let handle = ChunkHandle::of(block.handle);
     let is_own = handle.area < MOST_AREAS && handle.slot == OWN_SLOT && handle.generation == 0;
     block.kind < KINDS && (block.kind != AREA || is_own) && block.payload.bytes().len() == PAYLOAD
-}
-
-/// The run that writes a block home.
-fn home_of(alloc: Global, at: u64, block: &Block) -> Result<Run, OutOfMemory>
-    requires block { IsBlock 1 at }
-    requires parts { HasParts block.now }
-    ensures { IfOk result (λ run. run ≡ home_run 1 at block.now) }
-{
-    let (device, sector) = place(at, 1, 1);
-    Ok(Run {
-        device,
-        place: sector,
-        bytes: text_of(alloc, block)?,
-    })
-}
-
-/// The bytes of a block.
-fn text_of(alloc: Global, block: &Block) -> Result<Raw, OutOfMemory>
-    requires { HasParts block.now }
-    ensures { IfOk result (λ bytes. bytes ≡ block_text block.now) }
-{
-    let mut bytes = [0; SECTOR + PAYLOAD];
-    block.write(&mut bytes);
-    Raw::of(alloc, &bytes)
 }

@@ -7,7 +7,8 @@ use Rattle.std.proofs.lemmas.List.Elements.{Contains-append_left, Contains-push,
 use Rattle.bx_disk.specs.Disks.{Disks}
 use Rattle.bx_history.specs.Trace.{Taking}
 use Rattle.bx_model.specs.declared.tree.Tree.{Tree}
-use Rattle.bx_node_rounds.specs.Rounds.{HaveStill, Waits}
+use Rattle.bx_node_calls.specs.Turns.{HaveStill}
+use Rattle.bx_node_calls.specs.Waits.{Waits}
 use Rattle.bx_node_steps.specs.Calls.{CallOf, call_of}
 use Rattle.bx_node_steps.specs.declared.machine.Machine.{Machine}
 use Rattle.bx_plain_service.specs.Events.{call_in, doubt_by, waits_of}

@@ -8,7 +8,9 @@ use Rattle.bx_layout.specs.bx_places.specs.Places.{disk_sectors}
 use Rattle.bx_plain_repair.specs.Bench.{AreLong}
 use Rattle.bx_model.specs.declared.tree.Tree.{Tree}
 use Rattle.bx_node_rounds.specs.Quiet.{tidies_in}
-use Rattle.bx_node_rounds.specs.Rounds.{AreReady, HasSession, HaveStill, NoneWaits, Waits, acting_in}
+use Rattle.bx_node_calls.specs.Turns.{HasSession, HaveStill, acting_in}
+use Rattle.bx_node_calls.specs.Waits.{NoneWaits, Waits}
+use Rattle.bx_node_rounds.specs.Rounds.{AreReady}
 use Rattle.bx_plain_store.specs.contracts.store.PlainStoreStore.TheImpl as plain_store
 use Rattle.bx_engine.specs.contracts.engine.BoxFsEngine.TheImpl as box_fs
 use Rattle.bx_node_steps.specs.Calls.{CallOf, call_of}

@@ -6,7 +6,8 @@ use Rattle.bx_disk.specs.Disks.{Disks}
 use Rattle.bx_format.specs.Formats.{HasSizes, IsFormatted}
 use Rattle.bx_layout.specs.Labels.{IsLabel}
 use Rattle.bx_plain_repair.specs.Bench.{AreLong, IsBench, first_label}
-use Rattle.bx_node_rounds.specs.Rounds.{HasSession, NoneWaits, session_at}
+use Rattle.bx_node_calls.specs.Turns.{HasSession, session_at}
+use Rattle.bx_node_calls.specs.Waits.{NoneWaits}
 use Rattle.bx_node_steps.specs.declared.machine.Machine.{Machine}
 use Rattle.bx_plain_store.specs.contracts.store.PlainStoreStore.TheImpl as plain_store
 use Rattle.bx_plain.specs.Fits.{own_in}
@@ -18,10 +19,6 @@ use Rattle.bx_service.specs.Rounds.{Doubt}
 
 pub sizes_long : (sizes : List ℕ) → HasSizes sizes 1 1 → AreLong sizes
 sizes_long sizes is = record { long = λ disk less. (let same = is.each disk less in omega (arith, same)) }
-
--- the first so many nodes have their sessions
-pub own_below : (nodes node : ℕ) → node < nodes → own_in nodes node ≡ Some (node + 1)
-own_below nodes node less = ap (λ (t : Bool). if t then Some (node + 1) else None) (let e : nat_lt node nodes ≡ true = grind (arith, nat_tests, less) in e)
 
 -- ---- a volume that was just made
 
@@ -48,10 +45,6 @@ none_doubted machines none node = by (doubts_at machines node) refl
 
 -- ---- its nodes have their sessions
 
-pub if_ok_map : {A F : Type 0} (P Q : A → Type 0) (r : Result A F) → ((a : A) → P a → Q a) → IfOk r P → IfOk r Q
-if_ok_map P Q (Ok a) by is = by a is
-if_ok_map P Q (Err e) by is = tt
-
 pub has_own : (machines : List Machine) (node : ℕ) (own : Option ℕ) → own ≡ Some (node + 1) → HasSession machines node own → HasSession machines node (Some (node + 1))
 has_own machines node own same has = subst (HasSession machines node) same has
 
@@ -73,10 +66,6 @@ pub shaped_by : (old new : PlainCluster) → IsOfShape old → new.count ≡ old
 shaped_by old new was counted engine state made = record { some = rw counted was.some; few = rw counted was.few; areas = rw engine was.areas; made = rw (engine, counted) (made ∙ was.made); state = rw counted (state ∙ was.state) }
 
 -- ---- results
-
-pub on_ok_is : {A F : Type 0} (P : Type 0) (r : Result A F) → P → OnOk r P
-on_ok_is P (Ok a) holds = holds
-on_ok_is P (Err e) holds = tt
 
 pub on_err_then : {A F : Type 0} (P Q : Type 0) (r : Result A F) → (P → Q) → OnErr r P → OnErr r Q
 on_err_then P Q (Ok a) gives is = tt

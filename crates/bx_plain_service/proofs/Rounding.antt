@@ -4,7 +4,10 @@ use Rattle.std.specs.Prelude.{IfSome, reverse, slice_get}
 use Rattle.std.proofs.lemmas.List.{map-append}
 use Rattle.bx_history.specs.Trace.{Taking}
 use Rattle.bx_model.specs.declared.tree.Tree.{Tree}
-use Rattle.bx_node_rounds.specs.Rounds.{AreNumbered, AreTurns, IsTurn, all_said, at_node}
+use Rattle.bx_node_calls.specs.Turns.{IsTurn}
+use Rattle.bx_node_calls.specs.Waits.{AreNumbered}
+use Rattle.bx_node_calls.proofs.Found.{and_some, same_or, some_and, which}
+use Rattle.bx_node_rounds.specs.Rounds.{AreTurns, all_said, at_node}
 use Rattle.bx_node_rounds.specs.Rounds.AreTurns.{NoTurns, OneMore}
 use Rattle.bx_node_rounds.specs.declared.rounds.Told.{Told}
 use Rattle.bx_node_steps.specs.Calls.{Acting, ActsAt, AnswersCalls, IsThat, WaitsAt, acting_of, acting_said, call_of, call_written, point_in, under_way}
@@ -14,23 +17,11 @@ use Rattle.bx_node_tries.specs.declared.round.Said.{Said}
 use Rattle.bx_node_tries.specs.declared.round.Waiting.{Waiting}
 use Rattle.bx_base.specs.declared.names.Point.{Point}
 use Rattle.bx_plain_service.specs.Events.{call_in, doubt_at, doubt_by, doubts_at, event_at, event_of, events_of, taken_at, waits_of}
+use Rattle.bx_plain_service.specs.Showing.{doubt_waits}
 use Rattle.bx_plain_service.proofs.Saying.{AreAnswers, LeadsAll, Untold, answers_of, answers_on, doubts_after, doubts_still, leads_on, node_says, not_answered, parted, says_all, untold_both, untold_by, untold_on, waited_before, waits_after, waits_still}
 use Rattle.bx_service.specs.Rounds.{Doubt, SaysAll}
 use Rattle.bx_service.specs.declared.event.Event.{Event}
 use Rattle.bx_steps.specs.Steps.{Step}
-
-same_or : (a b : ℕ) → (a ≡ b) ⊎ (a ≢ b)
-same_or a b = grind arith
-
-some_is : {A : Type 0} (P : A → Type 0) (found : Option A) (one : A) → found ≡ Some one → IsSomeAnd found P → P one
-some_is P found one there is = subst (λ f. IsSomeAnd f P) there is
-
-is_some : {A : Type 0} (P : A → Type 0) (found : Option A) (one : A) → found ≡ Some one → P one → IsSomeAnd found P
-is_some P found one there is = subst (λ f. IsSomeAnd f P) (sym there) is
-
-which : {A : Type 0} (P : A → Type 0) (found : Option A) → IsSomeAnd found P → (one : A) × (found ≡ Some one) × P one
-which P None is = absurd is
-which P (Some one) is = (one, refl, is)
 
 if_some : {A : Type 0} (P : A → Type 0) (found : Option A) (one : A) → found ≡ Some one → IfSome found P → P one
 if_some P found one there is = subst (λ f. IfSome f P) there is
@@ -44,27 +35,6 @@ is_under node machine doubt is = by (under_way machine) refl is
     by : (under : Option Acting) → under_way machine ≡ under → doubt_by node under ≡ Some doubt → (acts : Acting) × (under_way machine ≡ Some acts) × (doubt ≡ record { call = taken_at node acts.call; point = acts.point })
     by None one same = absurd cc
     by (Some acts) one same = (acts, one, let e : record { call = taken_at node acts.call; point = acts.point } ≡ doubt = cc in sym e)
-
--- that call waits
-under_waits : (machine : Machine) (acts : Acting) → under_way machine ≡ Some acts → WaitsAt machine acts.call
-under_waits machine acts is = inr (by (call_written machine.stage) (point_in machine.log.work) is)
-  where
-    by : (found : Option Waiting) (point : Option Point) → acting_of found point ≡ Some acts → IsThat found acts.call
-    by None point same = absurd cc
-    by (Some call) None same = absurd cc
-    by (Some call) (Some point) same = ap (λ (a : Acting). a.call) (let e : record { call = call_of call; point = point } ≡ acts = cc in e)
-
--- a call in doubt waits at its node
-doubt_waits : (machines : List Machine) (node : ℕ) (doubt : Doubt) → doubts_at machines node ≡ Some doubt → waits_of machines doubt.call × (doubt.call.node ≡ node)
-doubt_waits machines node doubt is = by (slice_get machines node) refl is
-  where
-    by : (found : Option Machine) → slice_get machines node ≡ found → doubt_at node found ≡ Some doubt → waits_of machines doubt.call × (doubt.call.node ≡ node)
-    by None there same = absurd cc
-    by (Some machine) there same =
-        let under = is_under node machine doubt same in (
-          subst (λ (d : Doubt). waits_of machines d.call) (sym under.2) (is_some (λ m. WaitsAt m under.0.call) (slice_get machines node) machine there (under_waits machine under.0 under.1)),
-          ap (λ (d : Doubt). d.call.node) under.2,
-        )
 
 module _ (moment latest : ℕ) (old : List Machine) (numbers : AreNumbered latest old) where
   -- What was told so far, once the first so many nodes had their turns.
@@ -83,7 +53,7 @@ module _ (moment latest : ℕ) (old : List Machine) (numbers : AreNumbered lates
     now_is = which (λ now. AnswersCalls moment machine now said) (slice_get new node) (turn.answers machine there)
 
     said_waits : (one : Said) → Contains said one → waits_of old (taken_at node (acting_said one).call) × Untold (events_of told) one.point.call
-    said_waits one has = along.waited (taken_at node (acting_said one).call) (is_some (λ m. WaitsAt m (acting_said one).call) (slice_get middle node) machine there (now_is.2.answers.waited one has))
+    said_waits one has = along.waited (taken_at node (acting_said one).call) (and_some (λ m. WaitsAt m (acting_said one).call) (slice_get middle node) machine there (now_is.2.answers.waited one has))
 
     same_old : slice_get old node ≡ Some machine
     same_old = sym (along.rest node (omega arith)) ∙ there
@@ -116,8 +86,8 @@ module _ (moment latest : ℕ) (old : List Machine) (numbers : AreNumbered lates
     waited_then call waits = ⊎_elim
         (λ same.
         let at_it = subst (λ (n : ℕ). IsSomeAnd (slice_get new n) (λ m. WaitsAt m (call_in call))) same waits in
-        let was = (now_is.2.answers.left (call_in call)).0 (some_is (λ m. WaitsAt m (call_in call)) (slice_get new node) now_is.0 now_is.1 at_it) in
-        let was_middle = subst (λ (n : ℕ). IsSomeAnd (slice_get middle n) (λ m. WaitsAt m (call_in call))) (sym same) (is_some (λ m. WaitsAt m (call_in call)) (slice_get middle node) machine there was.0) in
+        let was = (now_is.2.answers.left (call_in call)).0 (some_and (λ m. WaitsAt m (call_in call)) (slice_get new node) now_is.0 now_is.1 at_it) in
+        let was_middle = subst (λ (n : ℕ). IsSomeAnd (slice_get middle n) (λ m. WaitsAt m (call_in call))) (sym same) (and_some (λ m. WaitsAt m (call_in call)) (slice_get middle node) machine there was.0) in
         let first = along.waited call was_middle in
         (first.0, untold_on (events_of told) (map (event_at node) said) call.call first.1 (untold_by node said call.call was.1)))
         (λ other.
@@ -134,9 +104,9 @@ module _ (moment latest : ℕ) (old : List Machine) (numbers : AreNumbered lates
         let was = along.waits call waits parts.0 in
         ⊎_elim
         (λ same.
-        let at_it = some_is (λ m. WaitsAt m (call_in call)) (slice_get middle node) machine there (subst (λ (n : ℕ). IsSomeAnd (slice_get middle n) (λ m. WaitsAt m (call_in call))) same was) in
+        let at_it = some_and (λ m. WaitsAt m (call_in call)) (slice_get middle node) machine there (subst (λ (n : ℕ). IsSomeAnd (slice_get middle n) (λ m. WaitsAt m (call_in call))) same was) in
         subst (λ (n : ℕ). IsSomeAnd (slice_get new n) (λ m. WaitsAt m (call_in call))) (sym same)
-        (is_some (λ m. WaitsAt m (call_in call)) (slice_get new node) now_is.0 now_is.1 ((now_is.2.answers.left (call_in call)).1 (at_it, not_answered node said call.call parts.1))))
+        (and_some (λ m. WaitsAt m (call_in call)) (slice_get new node) now_is.0 now_is.1 ((now_is.2.answers.left (call_in call)).1 (at_it, not_answered node said call.call parts.1))))
         (λ other. subst (λ found. IsSomeAnd found (λ m. WaitsAt m (call_in call))) (sym (turn.others call.node other)) was)
         (same_or call.node node)
 

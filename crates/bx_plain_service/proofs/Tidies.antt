@@ -10,7 +10,9 @@ use Rattle.bx_facts.specs.Holds.{first_of}
 use Rattle.bx_history.specs.Trace.{Taking}
 use Rattle.bx_plain_store.specs.contracts.store.PlainStoreStore.TheImpl as plain_store
 use Rattle.bx_node_rounds.specs.Quiet.{tidies_at, tidies_in}
-use Rattle.bx_node_rounds.specs.Rounds.{AreTurns, StandsClean, session_at}
+use Rattle.bx_node_calls.specs.Turns.{session_at}
+use Rattle.bx_node_calls.proofs.Found.{same_or}
+use Rattle.bx_node_rounds.specs.Rounds.{AreTurns, StandsClean}
 use Rattle.bx_node_rounds.specs.Rounds.AreTurns.{NoTurns, OneMore}
 use Rattle.bx_node_rounds.specs.declared.rounds.Told.{Told}
 use Rattle.bx_node_steps.specs.Calls.{WaitsAt}
@@ -27,9 +29,6 @@ use Rattle.bx_plain_service.specs.Showing.{below}
 use Rattle.bx_plain_service.specs.Stages.{HoldsClean, PlainCluster}
 use Rattle.bx_plain_service.proofs.Asked.{no_second, none_asked}
 use Rattle.bx_plain_service.proofs.Turned.{waited_turns}
-
-same_or : (a b : ℕ) → (a ≡ b) ⊎ (a ≢ b)
-same_or a b = grind arith
 
 -- The nodes behind those that had their turns are as they were.
 rest_turns : (moment count : ℕ) (old new : List Machine) (told : List Told) → AreTurns moment count old new told → (n : ℕ) → count ≤ n → slice_get new n ≡ slice_get old n

@@ -7,7 +7,9 @@ use Rattle.bx_history.specs.Trace.{Taking}
 use Rattle.bx_layout.specs.Labels.{SpellsLabel}
 use Rattle.bx_plain_repair.specs.Bench.{IsBench, first_label}
 use Rattle.bx_model.specs.declared.tree.Tree.{Tree}
-use Rattle.bx_node_rounds.specs.Rounds.{AreTurns, IsTurn, all_said, session_at}
+use Rattle.bx_node_calls.specs.Turns.{IsTurn, session_at}
+use Rattle.bx_node_calls.proofs.Found.{same_or}
+use Rattle.bx_node_rounds.specs.Rounds.{AreTurns, all_said}
 use Rattle.bx_node_rounds.specs.Rounds.AreTurns.{NoTurns, OneMore}
 use Rattle.bx_node_rounds.specs.declared.rounds.Told.{Told}
 use Rattle.bx_node_steps.specs.Calls.{AnswersCalls, WaitsAt}
@@ -22,9 +24,6 @@ use Rattle.bx_service.specs.Rounds.{Doubt, SaysAll, doubts_but, unless_of}
 use Rattle.bx_service.specs.declared.event.Event.{Event}
 use Rattle.bx_service.specs.declared.event.Event.TheVariants.{Answered, Found}
 use Rattle.bx_steps.specs.Steps.{Step}
-
-same_or : (a b : ℕ) → (a ≡ b) ⊎ (a ≢ b)
-same_or a b = grind arith
 
 -- ---- who waits
 

@@ -1,7 +1,7 @@
 -- The calls of nodes as calls of a history, and their answers as what a service says.
 use Rattle.std.specs.Prelude.{ℕ, List, map, None, Option, Some, slice_get}
 use Rattle.bx_history.specs.Trace.{Taking}
-use Rattle.bx_node_rounds.specs.Rounds.{Waits}
+use Rattle.bx_node_calls.specs.Waits.{Waits}
 use Rattle.bx_node_rounds.specs.declared.rounds.Told.{Told}
 use Rattle.bx_node_steps.specs.Calls.{Acting, CallOf, under_way}
 use Rattle.bx_node_steps.specs.declared.machine.Machine.{Machine}

@@ -3,7 +3,7 @@ use Rattle.std.proofs.Common.{◌≡◌, ℕ, suc, zero, ◌+◌, ◌==◌, Bool
 use Rattle.std.specs.Prelude.{IfSome, if◌then◌else◌, option_map, slice_get}
 use Rattle.std.proofs.lemmas.Bool.Decides.{nat_tests}
 use Rattle.bx_node_machines.specs.Machines.{is_one}
-use Rattle.bx_node_rounds.specs.Rounds.{HasSession}
+use Rattle.bx_node_calls.specs.Turns.{HasSession}
 use Rattle.bx_node_steps.specs.Calls.{acting_of, call_written, point_in}
 use Rattle.bx_node_steps.specs.Seen.{seen, stage_of, view_of}
 use Rattle.bx_node_steps.specs.declared.machine.Machine.{Machine}

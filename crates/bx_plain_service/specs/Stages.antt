@@ -12,7 +12,7 @@ use Rattle.bx_plain_store.specs.declared.store.PlainStore.{PlainStore}
 use Rattle.bx_model.specs.declared.tree.Tree.{Tree}
 use Rattle.bx_node_rounds.specs.Quiet.{is_quiet, tidies_in}
 use Rattle.bx_node_rounds.specs.Rounds as rounds
-use Rattle.bx_node_rounds.specs.Rounds.{HasSession}
+use Rattle.bx_node_calls.specs.Turns.{HasSession}
 use Rattle.bx_node_rounds.specs.declared.cluster.Cluster.{Cluster}
 use Rattle.bx_node_steps.specs.Calls.{call_written}
 use Rattle.bx_node_steps.specs.declared.machine.Machine.{Machine}

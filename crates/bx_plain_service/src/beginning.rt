@@ -5,7 +5,8 @@ ghost use Rattle.bx_disk.specs.Disks.{Disks};
 ghost use Rattle.bx_plain_repair.specs.Bench.{AreLong};
 ghost use Rattle.bx_model.specs.declared.tree.Tree.{Tree};
 ghost use Rattle.bx_node_rounds.specs.Quiet.{tidies_in};
-ghost use Rattle.bx_node_rounds.specs.Rounds.{HasSession, NoneWaits};
+ghost use Rattle.bx_node_calls.specs.Turns.{HasSession};
+ghost use Rattle.bx_node_calls.specs.Waits.{NoneWaits};
 ghost use Rattle.bx_plain_service.specs.Beginning.{AreNewFor, RestsWith, shape_of};
 ghost use Rattle.bx_plain_service.specs.Stages.{IsOfShape, MayRun, Stands};
 

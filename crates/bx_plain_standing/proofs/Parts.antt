@@ -30,7 +30,8 @@ use Rattle.bx_volume.specs.Records.{Logged}
 use Rattle.bx_world_standing.specs.Parts.{Clocks}
 use Rattle.bx_world_standing.specs.Standing.{Course}
 
-own_below : (nodes node : ℕ) → node < nodes → own_in nodes node ≡ Some (node + 1)
+-- the first so many nodes have their sessions
+pub own_below : (nodes node : ℕ) → node < nodes → own_in nodes node ≡ Some (node + 1)
 own_below nodes node less = ap (λ (t : Bool). if t then Some (node + 1) else None) (let e : nat_lt node nodes ≡ true = grind (arith, nat_tests, less) in e)
 
 module _ (volume nodes areas : ℕ) (register_is : plain_register.self_type) (owners_are : plain_owners.self_type) (store_is : plain_store.self_type) (x : Disks) (letters : List Letter) (clocks : Clocks) (machines : List MachineView) (c : Course) (tree : Tree)

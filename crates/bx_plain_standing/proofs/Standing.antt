@@ -14,7 +14,7 @@ use Rattle.bx_global.specs.declared.state.GlobalState.{GlobalState}
 use Rattle.bx_model.specs.declared.tree.Tree.{Tree}
 use Rattle.bx_node_machines.specs.Machines.{MachineView}
 use Rattle.bx_node_machines.specs.Nodes.{IsOfNode, NodesStand, known_of, scene_of}
-use Rattle.bx_owners.specs.declared.owners.Owners as owners
+use Rattle.bx_facts.specs.declared.owners.Owners as owners
 use Rattle.bx_plain.specs.Begin.{plain_rows, plain_state}
 use Rattle.bx_plain_standing.proofs.Machines.{none_logged, same_doubts, some_work}
 use Rattle.bx_plain_standing.proofs.Open.{all_first, are_read, each_first}

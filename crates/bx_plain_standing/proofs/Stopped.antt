@@ -20,7 +20,7 @@ use Rattle.bx_model.specs.declared.tree.Tree.{Tree}
 use Rattle.bx_node_machines.specs.Machines.{MachineView}
 use Rattle.bx_node_machines.specs.Nodes.{NodesStand, known_of}
 use Rattle.bx_plain_openings.specs.bx_node_openings.proofs.Kept.{rests_in, settled_in}
-use Rattle.bx_owners.specs.declared.owners.Owners as owners
+use Rattle.bx_facts.specs.declared.owners.Owners as owners
 use Rattle.bx_plain.specs.Begin.{plain_rows, plain_state}
 use Rattle.bx_plain_openings.proofs.Alike.{first_members}
 use Rattle.bx_plain_openings.proofs.Left.{IsShutGate, crashed_shut, crashed_volume, slot_shut}

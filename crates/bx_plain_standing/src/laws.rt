@@ -17,8 +17,7 @@ ghost use Rattle.bx_steps.specs.Steps.{StandsWith, Step};
 ghost use Rattle.bx_world_standing.specs.Parts.{Clocks};
 ghost use Rattle.bx_world_standing.specs.Standing.{Course};
 
-use bx_facts::{Register, Store};
-use bx_owners::Owners;
+use bx_facts::{Owners, Register, Store};
 use bx_plain::{PlainOwners, PlainRegister};
 use bx_plain_store::PlainStore;
 

@@ -18,19 +18,19 @@ use Rattle.bx_recover.specs.declared.stage.Stage.TheVariants.{Begins, Gates, Set
 module _ (old : RecoveryView) (steps : List Step) (step : Step) where
   -- ---- what was done before is done
 
-  abbrev at : Stage → List Logged → RecoveryView
+  abbrev pub at : Stage → List Logged → RecoveryView
   at stage records = record old { stage = stage; records = records }
 
-  later_gates : (stage : Stage) (records : List Logged) (gates : List ℕ) (opened : ℕ) → HasGates old steps gates opened → HasGates (at stage records) (step ∷ steps) gates opened
+  pub later_gates : (stage : Stage) (records : List Logged) (gates : List ℕ) (opened : ℕ) → HasGates old steps gates opened → HasGates (at stage records) (step ∷ steps) gates opened
   later_gates stage records gates opened is = record { came = inr is.came; long = is.long; run = is.run }
 
-  later_settled : (stage : Stage) (records : List Logged) (opened : ℕ) → HasSettled old steps opened → HasSettled (at stage records) (step ∷ steps) opened
+  pub later_settled : (stage : Stage) (records : List Logged) (opened : ℕ) → HasSettled old steps opened → HasSettled (at stage records) (step ∷ steps) opened
   later_settled stage records opened is = record { gates = is.gates; has = later_gates stage records is.gates opened is.has; back = inr is.back }
 
-  later_read : (stage : Stage) (records : List Logged) (body : ℕ) (logged : Logged) → IsReadIn old steps body logged → IsReadIn (at stage records) (step ∷ steps) body logged
+  pub later_read : (stage : Stage) (records : List Logged) (body : ℕ) (logged : Logged) → IsReadIn old steps body logged → IsReadIn (at stage records) (step ∷ steps) body logged
   later_read stage records body logged is = record { bytes = is.bytes; came = inr is.came; is = is.is }
 
-  later_run : (stage : Stage) → HasRun old steps → HasRun (at stage old.records) (step ∷ steps)
+  pub later_run : (stage : Stage) → HasRun old steps → HasRun (at stage old.records) (step ∷ steps)
   later_run stage is = record {
     opened = is.opened;
     settled = later_settled stage old.records is.opened is.settled;
@@ -38,23 +38,23 @@ module _ (old : RecoveryView) (steps : List Step) (step : Step) where
     ends = ⊎_elim inl (λ short. inr (short.0, record { bytes = short.1.bytes; came = inr short.1.came; none = short.1.none })) is.ends;
   }
 
-  later_home : (stage : Stage) → AreHome old steps → told (step ∷ steps) ≡ told steps → AreHome (at stage old.records) (step ∷ steps)
+  pub later_home : (stage : Stage) → AreHome old steps → told (step ∷ steps) ≡ told steps → AreHome (at stage old.records) (step ∷ steps)
   later_home stage is same = record {
     run = later_run stage is.run;
     points = same ∙ is.points;
     home = ⊎_elim inl (λ sent. inr (sent.0, sent.1, inr sent.2)) is.home;
   }
 
-  later_first : (stage : Stage) → IsFirstClosed old steps → IsFirstClosed (at stage old.records) (step ∷ steps)
+  pub later_first : (stage : Stage) → IsFirstClosed old steps → IsFirstClosed (at stage old.records) (step ∷ steps)
   later_first stage is = ⊎_elim (λ none. inl (later_settled stage old.records 0 none)) (λ done. inr (inr done)) is
 
-  quiet : (move : Move) → step.said ≡ move → points_in move ≡ [] → told (step ∷ steps) ≡ told steps
+  pub quiet : (move : Move) → step.said ≡ move → points_in move ≡ [] → told (step ∷ steps) ≡ told steps
   quiet move said none = ap (λ (m : Move). told steps ++ points_in m) said ∙ ap (λ (l : List Point). told steps ++ l) none ∙ append-nil (told steps)
 
-  tells : (points : List Point) → told steps ≡ [] → step.said ≡ Acked points → told (step ∷ steps) ≡ points
+  pub tells : (points : List Point) → told steps ≡ [] → step.said ≡ Acked points → told (step ∷ steps) ≡ points
   tells points none said = ap (λ (m : Move). told steps ++ points_in m) said ∙ ap (λ (l : List Point). l ++ points) none
 
-  none_read : (recovery : RecoveryView) (all : List Step) → recovery.records ≡ [] → AreRead recovery all
+  pub none_read : (recovery : RecoveryView) (all : List Step) → recovery.records ≡ [] → AreRead recovery all
   none_read recovery all none = λ body logged there. absurd (let e = sym (ap (λ (l : List Logged). slice_get l body) none) ∙ there in absurd cc)
 
   -- ---- it waits
@@ -95,7 +95,7 @@ module _ (old : RecoveryView) (steps : List Step) (step : Step) where
     takes_gates bytes was done came (WritesBack opened long run is) =
         comes (Settles opened) (settles old bytes) is (done.0, quiet (settles old bytes) is.says refl ∙ done.1, (bytes, record { came = inl (came, done.2); long = long; run = run }, inl is.says))
 
-    settled : (opened : ℕ) → HasDone old steps (Settles opened) → step.done ≡ true → (stage : Stage) → HasSettled (at stage old.records) (step ∷ steps) opened
+    pub settled : (opened : ℕ) → HasDone old steps (Settles opened) → step.done ≡ true → (stage : Stage) → HasSettled (at stage old.records) (step ∷ steps) opened
     settled opened done is_done stage = record { gates = done.2.0; has = later_gates stage old.records done.2.0 opened done.2.1; back = inl (is_done, done.2.2) }
 
     goes_settled : (opened : ℕ) → HasDone old steps (Settles opened) → step.done ≡ true → Settled old opened new step.said → HasDone new (step ∷ steps) new.stage
@@ -127,7 +127,7 @@ module _ (old : RecoveryView) (steps : List Step) (step : Step) where
         )
 
     -- the run ends before a body without a record
-    ends_there : (opened : ℕ) (bytes : List ℕ) (stage : Stage) → HasDone old steps (Bodies opened) → step.arrived ≡ Some bytes → HasNoRecord old.areas bytes → HasRun (at stage old.records) (step ∷ steps)
+    pub ends_there : (opened : ℕ) (bytes : List ℕ) (stage : Stage) → HasDone old steps (Bodies opened) → step.arrived ≡ Some bytes → HasNoRecord old.areas bytes → HasRun (at stage old.records) (step ∷ steps)
     ends_there opened bytes stage done came none = record {
       opened = opened;
       settled = later_settled stage old.records opened done.1;
@@ -136,7 +136,7 @@ module _ (old : RecoveryView) (steps : List Step) (step : Step) where
     }
 
     -- a record more was read
-    more_read : (opened : ℕ) (bytes : List ℕ) (logged : Logged) (stage : Stage) → HasDone old steps (Bodies opened) → step.arrived ≡ Some bytes → IsRecordIn old.areas bytes logged
+    pub more_read : (opened : ℕ) (bytes : List ℕ) (logged : Logged) (stage : Stage) → HasDone old steps (Bodies opened) → step.arrived ≡ Some bytes → IsRecordIn old.areas bytes logged
         → AreRead (at stage (old.records ++ logged ∷ [])) (step ∷ steps)
     more_read opened bytes logged stage done came is body other there = by (split_last old.records logged body other there)
       where

@@ -1,14 +1,13 @@
 //! Bodies of records as bytes.
 
-ghost use Rattle.std.specs.Prelude.{◌≡◌, ◌≢◌, ◌↔◌, ◌+◌, ◌*◌, ◌≤◌, drop, length, map, IfOk, IfSome, IfNone, IsTrue};
-ghost use Rattle.std.specs.List.{AllByRecursion};
-ghost use Rattle.bx_logs.specs.Bodies.{AreNumbers, IsGap, StandOn};
+ghost use Rattle.std.specs.Prelude.{◌≡◌, ◌+◌, ◌*◌, ◌≤◌, length, map, IfOk, IfSome, IfNone};
+ghost use Rattle.bx_logs.specs.Bodies.{IsGap, StandOn};
 ghost use Rattle.bx_recover.specs.Bodies.{HasNoRecord, IsRecordIn, held_in};
 
-use crate::record::Record;
 use bx_base::{List, OutOfMemory};
 use bx_layout::Block;
-use bx_places::{PAYLOAD, SECTOR, is_block};
+use bx_logs::{Record, are_numbers};
+use bx_places::{PAYLOAD, SECTOR};
 use bx_records::{RecordHead, one_reading};
 use std::alloc::Global;
 
@@ -36,25 +35,6 @@ pub(crate) fn read_record(
         Some(changed) => Ok(Some(Record::new(head, changed))),
         None => Ok(None),
     }
-}
-
-/// Whether numbers are those of blocks of a volume with so many areas, each once.
-fn are_numbers(areas: u16, numbers: &[u64]) -> bool
-    ensures { IsTrue result ↔ AreNumbers areas numbers.now }
-{
-    match numbers {
-        [] => true,
-        [number, others @ ..] => {
-            is_block(*number, areas) && lack(others, *number) && are_numbers(areas, others)
-        }
-    }
-}
-
-/// Whether a number isn't among others.
-fn lack(others: &[u64], number: u64) -> bool
-    ensures { IsTrue result ↔ AllByRecursion (λ other. other ≢ number) others.now }
-{
-    others.iter().all(|other| *other != number)
 }
 
 /// The blocks with these numbers that stand one behind the other, from the second sector on; `None` exactly where they don't all stand there.

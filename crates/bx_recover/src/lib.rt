@@ -8,7 +8,6 @@ mod gates;
 mod homes;
 mod laws;
 mod moves;
-mod record;
 mod recovery;
 mod stage;
 
@@ -17,6 +16,5 @@ pub use laws::{
     what_goes_home_is_the_logs, what_was_read_is_the_log,
 };
 pub use moves::Move;
-pub use record::Record;
 pub use recovery::Recovery;
 pub use stage::Stage;

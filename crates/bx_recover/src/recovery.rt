@@ -8,9 +8,9 @@ use crate::closing::closing;
 use crate::gates::open_run;
 use crate::homes::homes_of;
 use crate::moves::Move;
-use crate::record::{Record, points_of};
 use crate::stage::Stage;
 use bx_base::{List, OutOfMemory, Points, Raw};
+use bx_logs::{Record, push_points};
 use bx_places::{SECTOR, body_place, gate_place};
 use bx_records::{Run, Runs};
 use std::alloc::Global;
@@ -148,7 +148,8 @@ impl Recovery {
             self.records.push(logged)?;
             return Ok(self.body_read());
         }
-        let mut points = points_of(self.alloc, self.records.items())?;
+        let mut points = Points::new(self.alloc);
+        push_points(&mut points, self.records.items())?;
         points.push(logged.point())?;
         self.records.push(logged)?;
         self.stage = Stage::Told;
@@ -164,7 +165,8 @@ impl Recovery {
         if self.records.len() == 0 {
             return self.close_first();
         }
-        let points = points_of(self.alloc, self.records.items())?;
+        let mut points = Points::new(self.alloc);
+        push_points(&mut points, self.records.items())?;
         self.stage = Stage::Told;
         Ok(Move::Acked(points))
     }

@@ -2,6 +2,7 @@
 //! are acknowledged. What the disks then hold is a relation between the log and them, with a law for each event.
 #![tactic(auto)]
 
+mod home;
 mod laws;
 mod log;
 mod recovery;
@@ -10,6 +11,7 @@ mod stores;
 mod text;
 mod work;
 
+pub use home::home_of;
 pub use laws::{
     a_body_is_acknowledged, a_closing_is_begun, a_gate_is_acknowledged, a_log_is_closed,
     a_record_is_begun, a_record_lives, gate_0_is_closed, homes_are_written, what_images_have,

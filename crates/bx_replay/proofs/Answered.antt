@@ -7,7 +7,7 @@ use Rattle.std.proofs.lemmas.List.{reverse-append}
 use Rattle.bx_base.specs.declared.names.Point.{Point}
 use Rattle.bx_steps.specs.Steps as engine
 use Rattle.bx_script.specs.declared.line.Line.{Line}
-use Rattle.bx_script.specs.declared.line.Line.TheVariants.{Heading, Call, Run, Crash, Restart, Tick}
+use Rattle.bx_script.specs.declared.line.Line.TheVariants.{Heading, Call, Run, Tick, Deliver, Next, Sync, Hold, Free, Drop, Crash, CrashAll, Restart, RestartAll, Blank}
 use Rattle.bx_script.specs.declared.trace_line.TraceLine.{TraceLine}
 use Rattle.bx_script.specs.declared.trace_line.TraceLine.TheVariants.{Acted, Reply}
 use Rattle.bx_script.specs.Schedule.{reading_of}
@@ -89,9 +89,18 @@ module _ (line : Line) (done : List Done) (start : List ℕ) (tree : Tree) (mach
         read_then (Heading volume nodes devices areas) is = is
         read_then (Call moment at client datagram) is = is
         read_then (Run moment limit) is = is
-        read_then (Crash noise) is = is
-        read_then (Restart moment) is = is
+        read_then (CrashAll noise) is = is
+        read_then (RestartAll moment) is = is
         read_then (Tick moment at) is = is
+        read_then (Deliver reading number) is = is
+        read_then (Next reading from to) is = is
+        read_then (Sync machine) is = is
+        read_then (Hold from to kind) is = is
+        read_then (Free from to kind) is = is
+        read_then (Drop from to kind) is = is
+        read_then (Crash machine noise) is = is
+        read_then (Restart reading machine) is = is
+        read_then (Blank machine) is = is
 
     pub stands_waiting : (now : ℕ → Option Doubt) → Follows reading waits doubts now → Stands tree machines desks now calls (at_line line lines done) start written
     stands_waiting now follows = record {
@@ -256,12 +265,9 @@ stands_but tree machines desks doubts now calls done start written stands was = 
 
 -- a line at which that may be told
 abbrev pub MayFind : Line → Type 0
-MayFind (Heading volume nodes devices areas) = ⊥
-MayFind (Call reading node client datagram) = ⊥
 MayFind (Run reading limit) = Unit {0}
-MayFind (Crash noise) = ⊥
-MayFind (Restart reading) = Unit {0}
-MayFind (Tick reading node) = ⊥
+MayFind (RestartAll reading) = Unit {0}
+MayFind line = ⊥
 
 -- what holds at such a line, whichever it is
 finding_parts : (P : (List TraceLine → Part) → Type 0) (line : Line) → MayFind line
@@ -270,9 +276,18 @@ finding_parts : (P : (List TraceLine → Part) → Type 0) (line : Line) → May
 finding_parts P (Heading volume nodes devices areas) may gives = absurd may
 finding_parts P (Call reading node client datagram) may gives = absurd may
 finding_parts P (Run reading limit) may gives = gives (Some reading) true
-finding_parts P (Crash noise) may gives = absurd may
-finding_parts P (Restart reading) may gives = gives (Some reading) false
-finding_parts P (Tick reading node) may gives = absurd may
+finding_parts P (CrashAll noise) may gives = absurd may
+finding_parts P (RestartAll reading) may gives = gives (Some reading) false
+finding_parts P (Tick reading machine) may gives = absurd may
+finding_parts P (Deliver reading number) may gives = absurd may
+finding_parts P (Next reading from to) may gives = absurd may
+finding_parts P (Sync machine) may gives = absurd may
+finding_parts P (Hold from to kind) may gives = absurd may
+finding_parts P (Free from to kind) may gives = absurd may
+finding_parts P (Drop from to kind) may gives = absurd may
+finding_parts P (Crash machine noise) may gives = absurd may
+finding_parts P (Restart reading machine) may gives = absurd may
+finding_parts P (Blank machine) may gives = absurd may
 
 pub all_reversed : {A : Type 0} (P : A → Type 0) (xs : List A) → AllByRecursion P xs → AllByRecursion P (reverse xs)
 all_reversed P [] h = tt

@@ -2,7 +2,8 @@
 use Rattle.std.proofs.Common.{◌≡◌, ◌≤◌, ◌+◌, ℕ, List, Result, Ok, Err, inl, inr, arith}
 use Rattle.std.specs.Prelude.{OnOk}
 use Rattle.bx_script.specs.declared.line.Line.{Line}
-use Rattle.bx_script.specs.declared.line.Line.TheVariants.{Call, Run, Crash, Restart, Tick}
+use Rattle.bx_script.specs.declared.line.Line.TheVariants.{Call, Run, CrashAll, RestartAll, Tick}
+use Rattle.bx_base.specs.declared.names.Actor.TheVariants.{Node}
 use Rattle.bx_disk.specs.declared.noise.Noise.{Noise}
 use Rattle.bx_stops.specs.declared.stop.Stop.{Stop}
 use Rattle.bx_stops.specs.declared.stop.Stop.TheVariants as stops
@@ -19,20 +20,20 @@ pub rises : (a b c : ℕ) → a ≤ b → b ≤ c → a ≤ c
 rises a b c first then_on = omega arith
 
 -- lines that aren't ticks
-pub call_no_tick : (line : Line) (reading at moment node client : ℕ) (datagram : List ℕ) → line ≡ Call moment node client datagram → line ≡ Tick reading at → ⊥
+pub call_no_tick : (line : Line) (reading at moment node client : ℕ) (datagram : List ℕ) → line ≡ Call moment node client datagram → line ≡ Tick reading (Node at) → ⊥
 call_no_tick line reading at moment node client datagram call tick = cc
 
-pub run_no_tick : (line : Line) (reading node moment limit : ℕ) → line ≡ Run moment limit → line ≡ Tick reading node → ⊥
+pub run_no_tick : (line : Line) (reading node moment limit : ℕ) → line ≡ Run moment limit → line ≡ Tick reading (Node node) → ⊥
 run_no_tick line reading node moment limit run tick = cc
 
-pub crash_no_tick : (line : Line) (reading node : ℕ) (noise : Noise) → line ≡ Crash noise → line ≡ Tick reading node → ⊥
+pub crash_no_tick : (line : Line) (reading node : ℕ) (noise : Noise) → line ≡ CrashAll noise → line ≡ Tick reading (Node node) → ⊥
 crash_no_tick line reading node noise crash tick = cc
 
-pub restart_no_tick : (line : Line) (reading node moment : ℕ) → line ≡ Restart moment → line ≡ Tick reading node → ⊥
+pub restart_no_tick : (line : Line) (reading node moment : ℕ) → line ≡ RestartAll moment → line ≡ Tick reading (Node node) → ⊥
 restart_no_tick line reading node moment restart tick = cc
 
 -- ticks of one line are of one node
-pub tick_node : (reading other at node : ℕ) → Tick reading at ≡ Tick other node → at ≡ node
+pub tick_node : (reading other at node : ℕ) → Tick reading (Node at) ≡ Tick other (Node node) → at ≡ node
 tick_node reading other at node same = cc
 
 module _ {A P : Type 0} where

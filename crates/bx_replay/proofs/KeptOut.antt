@@ -4,7 +4,7 @@ use Rattle.std.specs.Prelude.{Option, Some, None, IfSome, IsSome}
 use Rattle.bx_history.specs.Along.{Done}
 use Rattle.bx_script.specs.declared.line.Line.{Line}
 use Rattle.bx_lease.specs.Readings.{IsTooFarBack}
-use Rattle.bx_script.specs.declared.line.Line.TheVariants.{Heading, Call, Run, Crash, Restart, Tick}
+use Rattle.bx_script.specs.declared.line.Line.TheVariants.{Heading, Call, Run, Tick, Deliver, Next, Sync, Hold, Free, Drop, Crash, CrashAll, Restart, RestartAll, Blank}
 use Rattle.bx_script.specs.Schedule.{is_heading, node_of, reading_of}
 use Rattle.bx_stops.specs.declared.stop.Reason.{Reason}
 use Rattle.bx_stops.specs.declared.stop.Reason.TheVariants.{Grammar, NoMachine, ClockBack, Down}
@@ -76,9 +76,18 @@ pub nodes_stay : (line : Line) (nodes : ℕ) → is_heading line ≡ false → n
 nodes_stay (Heading volume count devices areas) nodes is = absurd cc
 nodes_stay (Call reading node client datagram) nodes is = refl
 nodes_stay (Run reading limit) nodes is = refl
-nodes_stay (Crash noise) nodes is = refl
-nodes_stay (Restart reading) nodes is = refl
-nodes_stay (Tick reading node) nodes is = refl
+nodes_stay (CrashAll noise) nodes is = refl
+nodes_stay (RestartAll reading) nodes is = refl
+nodes_stay (Tick reading machine) nodes is = refl
+nodes_stay (Deliver reading number) nodes is = refl
+nodes_stay (Next reading from to) nodes is = refl
+nodes_stay (Sync machine) nodes is = refl
+nodes_stay (Hold from to kind) nodes is = refl
+nodes_stay (Free from to kind) nodes is = refl
+nodes_stay (Drop from to kind) nodes is = refl
+nodes_stay (Crash machine noise) nodes is = refl
+nodes_stay (Restart reading machine) nodes is = refl
+nodes_stay (Blank machine) nodes is = refl
 
 -- ---- a line that may come isn't refused
 

@@ -19,3 +19,4 @@ pub mod Held
 pub mod Causes
 pub mod Beginning
 pub mod Courses
+pub mod NoPlace

@@ -6,7 +6,7 @@ use Rattle.std.proofs.lemmas.Bool.{eq-eqb, ne_eqb}
 use Rattle.std.proofs.lemmas.List.{append-nil, length-append, length-map, length-reverse, reverse-append}
 use Rattle.bx_disk.specs.declared.noise.Noise.{Noise}
 use Rattle.bx_script.specs.declared.line.Line.{Line}
-use Rattle.bx_script.specs.declared.line.Line.TheVariants.{Heading, Call, Run, Crash, Restart, Tick}
+use Rattle.bx_script.specs.declared.line.Line.TheVariants.{Heading, Call, Run, Tick, Deliver, Next, Sync, Hold, Free, Drop, Crash, CrashAll, Restart, RestartAll, Blank}
 use Rattle.bx_script.specs.declared.trace_line.TraceLine.{TraceLine}
 use Rattle.bx_script.specs.declared.trace_line.TraceLine.TheVariants.{Again, Took}
 use Rattle.bx_script.specs.TraceText.{InTraceRange, trace_text}
@@ -49,9 +49,18 @@ opening_of-append [] more some = absurd (omega arith)
 opening_of-append (Heading volume nodes devices areas ∷ lines) more some = refl
 opening_of-append (Call reading node client datagram ∷ lines) more some = refl
 opening_of-append (Run reading limit ∷ lines) more some = refl
-opening_of-append (Crash noise ∷ lines) more some = refl
-opening_of-append (Restart reading ∷ lines) more some = refl
-opening_of-append (Tick reading node ∷ lines) more some = refl
+opening_of-append (CrashAll noise ∷ lines) more some = refl
+opening_of-append (RestartAll reading ∷ lines) more some = refl
+opening_of-append (Tick reading machine ∷ lines) more some = refl
+opening_of-append (Deliver reading number ∷ lines) more some = refl
+opening_of-append (Next reading from to ∷ lines) more some = refl
+opening_of-append (Sync machine ∷ lines) more some = refl
+opening_of-append (Hold from to kind ∷ lines) more some = refl
+opening_of-append (Free from to kind ∷ lines) more some = refl
+opening_of-append (Drop from to kind ∷ lines) more some = refl
+opening_of-append (Crash machine noise ∷ lines) more some = refl
+opening_of-append (Restart reading machine ∷ lines) more some = refl
+opening_of-append (Blank machine ∷ lines) more some = refl
 
 -- what goes on whatever the line is
 pub length_schedule : (done : List Done) → length (schedule_of done) ≡ length done
@@ -116,11 +125,10 @@ waiting_as waits waits_then done same are call = (λ is. (are call).0 ((same cal
 -- nothing arrives at the line, and no node ends
 abbrev pub IsSilent : Line → Type 0
 IsSilent (Heading volume nodes devices areas) = Unit {0}
-IsSilent (Call reading node client datagram) = ⊥
 IsSilent (Run reading limit) = Unit {0}
-IsSilent (Crash noise) = ⊥
-IsSilent (Restart reading) = Unit {0}
-IsSilent (Tick reading node) = Unit {0}
+IsSilent (RestartAll reading) = Unit {0}
+IsSilent (Tick reading machine) = Unit {0}
+IsSilent line = ⊥
 
 -- what holds after the line, whichever it is
 silent_parts : (P : List Part → Type 0) (parts : List Part) (line : Line) → IsSilent line
@@ -129,9 +137,18 @@ silent_parts : (P : List Part → Type 0) (parts : List Part) (line : Line) → 
 silent_parts P parts (Heading volume nodes devices areas) silent gives = gives None false
 silent_parts P parts (Call reading node client datagram) silent gives = absurd silent
 silent_parts P parts (Run reading limit) silent gives = gives (Some reading) true
-silent_parts P parts (Crash noise) silent gives = absurd silent
-silent_parts P parts (Restart reading) silent gives = gives (Some reading) false
-silent_parts P parts (Tick reading node) silent gives = gives (Some reading) false
+silent_parts P parts (CrashAll noise) silent gives = absurd silent
+silent_parts P parts (RestartAll reading) silent gives = gives (Some reading) false
+silent_parts P parts (Tick reading machine) silent gives = gives (Some reading) false
+silent_parts P parts (Deliver reading number) silent gives = absurd silent
+silent_parts P parts (Next reading from to) silent gives = absurd silent
+silent_parts P parts (Sync machine) silent gives = absurd silent
+silent_parts P parts (Hold from to kind) silent gives = absurd silent
+silent_parts P parts (Free from to kind) silent gives = absurd silent
+silent_parts P parts (Drop from to kind) silent gives = absurd silent
+silent_parts P parts (Crash machine noise) silent gives = absurd silent
+silent_parts P parts (Restart reading machine) silent gives = absurd silent
+silent_parts P parts (Blank machine) silent gives = absurd silent
 
 pub silent_waits : (done : List Done) (line : Line) → IsSilent line → (node : ℕ) → waiting (parts_of (record { line = line; lines = [] } ∷ done)) node ≡ waiting (parts_of done) node
 silent_waits done line silent node = silent_parts (λ parts. waiting parts node ≡ waiting (parts_of done) node) (parts_of done) line silent (λ reading runs. refl)
@@ -167,12 +184,12 @@ module _ (tree : Tree) (machines : Machines) (desks : List AtDesk) (doubts : ℕ
 
   -- ---- all machines crash
 
-  pub stands_crashed : (desks_then : List AtDesk) (noise : Noise) → ((node : ℕ) (desk : AtDesk) → slice_get desks_then node ≡ Some desk → desk ≡ empty_desk) → IsInPlace false machines.nodes (Crash noise)
-      → Stands tree (after_line (Crash noise) machines) desks_then doubts calls (record { line = Crash noise; lines = [] } ∷ done) start written
+  pub stands_crashed : (desks_then : List AtDesk) (noise : Noise) → ((node : ℕ) (desk : AtDesk) → slice_get desks_then node ≡ Some desk → desk ≡ empty_desk) → IsInPlace false machines.nodes (CrashAll noise)
+      → Stands tree (after_line (CrashAll noise) machines) desks_then doubts calls (record { line = CrashAll noise; lines = [] } ∷ done) start written
   stands_crashed desks_then noise empty place =
       let ended = ended_part Step rules patient (opening_of (schedule_of done)) (parts_of done) stands.history tree (waiting (parts_of done)) None stands.accounts in
-      let after = extended tree tree machines (after_line (Crash noise) machines) desks desks_then doubts doubts calls calls (Crash noise) [] done start written [] stands.history room place (tt, tt, tt) refl stands ended
-      (λ node desk there. rw (empty node desk there) (desk_opened node (parts_of (record { line = Crash noise; lines = [] } ∷ done)) refl refl)) stands.counted (still_doubted (Crash noise)) tt refl in
+      let after = extended tree tree machines (after_line (CrashAll noise) machines) desks desks_then doubts doubts calls calls (CrashAll noise) [] done start written [] stands.history room place (tt, tt, tt) refl stands ended
+      (λ node desk there. rw (empty node desk there) (desk_opened node (parts_of (record { line = CrashAll noise; lines = [] } ∷ done)) refl refl)) stands.counted (still_doubted (CrashAll noise)) tt refl in
       rw append-nil at after
 
   -- ---- a datagram that isn't taken
@@ -284,5 +301,5 @@ none_waits waits waits_then done line silent are idle none call =
     (λ is. absurd (none call is), λ there. absurd (idle call ((are call).1 (subst (IsIn call) (silent_waits done line silent call.node) there))))
 
 -- no call waits where all crashed
-pub crashed_waits : (waits : traces.Taking → Type 0) (noise : Noise) (done : List Done) → ((call : traces.Taking) → waits call → ⊥) → AreWaiting waits (record { line = Crash noise; lines = [] } ∷ done)
+pub crashed_waits : (waits : traces.Taking → Type 0) (noise : Noise) (done : List Done) → ((call : traces.Taking) → waits call → ⊥) → AreWaiting waits (record { line = CrashAll noise; lines = [] } ∷ done)
 crashed_waits waits noise done none call = (λ is. absurd (none call is), λ there. absurd there)

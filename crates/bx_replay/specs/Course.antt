@@ -6,7 +6,7 @@ use Rattle.bx_disk.specs.Disks.{Disks}
 use Rattle.bx_disk.specs.declared.noise.Noise.{Noise}
 use Rattle.bx_disk.specs.declared.noise.Noise.TheVariants.{Drop}
 use Rattle.bx_script.specs.declared.line.Line.{Line}
-use Rattle.bx_script.specs.declared.line.Line.TheVariants.{Heading, Call, Run, Crash, Restart, Tick}
+use Rattle.bx_script.specs.declared.line.Line.TheVariants.{Heading, Run, CrashAll, RestartAll}
 use Rattle.bx_service.specs.Rounds.{IsRun, On}
 use Rattle.bx_replay.specs.Bench.{HoldsAny}
 use Rattle.bx_replay.specs.Headline.{after_lines}
@@ -25,21 +25,17 @@ all_crashed disks how = after_crashes disks how (length disks.sizes)
 -- that crashes with that noise. Machines that are up write in a run, and those that were down as they come back. All else leaves the disks as they were.
 abbrev pub MovesDisks : Line → Bool → Disks → Disks → Type 0
 MovesDisks (Heading volume nodes devices areas) up old new = Unit {0}
-MovesDisks (Call reading node client datagram) up old new = new ≡ old
 MovesDisks (Run reading limit) up old new = (new.sizes ≡ old.sizes) × (up ≡ false → new ≡ old)
-MovesDisks (Crash noise) up old new = (up ≡ true → new ≡ all_crashed old noise) × (up ≡ false → new ≡ old)
-MovesDisks (Restart reading) up old new = (new.sizes ≡ old.sizes) × (up ≡ true → new ≡ old)
-MovesDisks (Tick reading node) up old new = new ≡ old
+MovesDisks (CrashAll noise) up old new = (up ≡ true → new ≡ all_crashed old noise) × (up ≡ false → new ≡ old)
+MovesDisks (RestartAll reading) up old new = (new.sizes ≡ old.sizes) × (up ≡ true → new ≡ old)
+MovesDisks line up old new = new ≡ old
 
 -- What a line has the machines do. A run does rounds at its reading until nothing is left to do, but at most its limit. Machines that come back with no
 -- fault of a disk leave nothing to bring back.
 abbrev pub Works : {S : Type 0} → (rests returns : S → Bool) → (turns : ℕ → On S → On S → Type 0) → Line → Bool → On S → On S → Type 0
-Works rests returns turns (Heading volume nodes devices areas) up old new = Unit {0}
-Works rests returns turns (Call reading node client datagram) up old new = Unit {0}
 Works rests returns turns (Run reading limit) up old new = IsRun rests (turns reading) limit old new
-Works rests returns turns (Crash noise) up old new = Unit {0}
-Works rests returns turns (Restart reading) up old new = up ≡ false → (Rose old.faults new.faults → ⊥) → returns new.service ≡ false
-Works rests returns turns (Tick reading node) up old new = Unit {0}
+Works rests returns turns (RestartAll reading) up old new = up ≡ false → (Rose old.faults new.faults → ⊥) → returns new.service ≡ false
+Works rests returns turns line up old new = Unit {0}
 
 -- what a line makes of a service and its disks
 pub record Moves {S : Type 0} (rests returns : S → Bool) (turns : ℕ → On S → On S → Type 0) (line : Line) (up : Bool) (old new : On S) : Type 0 where

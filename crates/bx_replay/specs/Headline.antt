@@ -2,9 +2,9 @@
 use Rattle.std.specs.Prelude.{◌≡◌, ◌<◌, ◌≤◌, ℕ, max, Bool, true, false, List, [], ◌∷◌, ◌++◌, reverse, Option, Some, None, IfSome, IsSome}
 use Rattle.std.specs.List.{AllByRecursion}
 use Rattle.bx_script.specs.declared.line.Line.{Line}
-use Rattle.bx_script.specs.declared.line.Line.TheVariants.{Heading, Call, Run, Crash, Restart, Tick}
+use Rattle.bx_script.specs.declared.line.Line.TheVariants.{Heading, Call, Run, Tick, CrashAll, RestartAll}
 use Rattle.bx_script.specs.declared.trace_line.TraceLine.{TraceLine}
-use Rattle.bx_script.specs.Schedule.{HasPlace, node_of, reading_of}
+use Rattle.bx_script.specs.Schedule.{HasPlace, node_number, node_of, reading_of}
 use Rattle.bx_script.specs.TraceText.{InTraceRange}
 use Rattle.bx_history.specs.Trace as traces
 use Rattle.bx_history.specs.Legal.{Leads}
@@ -30,11 +30,7 @@ rules = record { is_call = is_message; IsImmediate = λ reading bytes. (reading 
 abbrev pub opening_of : List Line → Tree
 opening_of [] = opening 0
 opening_of (Heading volume nodes devices areas ∷ lines) = record (opening volume) { areas = areas }
-opening_of (Call reading node client datagram ∷ lines) = opening 0
-opening_of (Run reading limit ∷ lines) = opening 0
-opening_of (Crash noise ∷ lines) = opening 0
-opening_of (Restart reading ∷ lines) = opening 0
-opening_of (Tick reading node ∷ lines) = opening 0
+opening_of (line ∷ lines) = opening 0
 
 -- The entry as bytes: the call is what its bytes read as, and the reply's bytes are its text.
 pub record IsTyped (bytes : traces.Entry) (entry : Entry) : Type 0 where
@@ -72,15 +68,16 @@ pub record Headline (schedule : List Line) (trace closing : List TraceLine) (las
   pub only : (others : List traces.Entry) (tree : Tree) → traces.Fits rules.kept (trace ++ closing) others → Leads Step (opening_of schedule) others tree
       → (others ≡ bytes) × (tree ≡ last)
 
--- A line that this stage has, by the nodes that the heading has: the heading has as many nodes as a service may, one device and one area; machines
--- crash and come back where there is one.
+-- A line that this stage has, by the nodes that the heading has: the heading has as many nodes as a service may, one device and one area; clocks of nodes tick;
+-- machines crash and come back, all of them, where there is one node. What happens to a packet or to one machine is no line of this stage.
 abbrev pub IsBuilt : ℕ → Line → Type 0
 IsBuilt nodes (Heading volume count devices areas) = (count ≤ most_nodes) × (devices ≡ 1) × (areas ≡ 1)
 IsBuilt nodes (Call reading node client datagram) = Unit {0}
 IsBuilt nodes (Run reading limit) = Unit {0}
-IsBuilt nodes (Crash noise) = nodes ≡ 1
-IsBuilt nodes (Restart reading) = nodes ≡ 1
-IsBuilt nodes (Tick reading node) = Unit {0}
+IsBuilt nodes (Tick reading machine) = IsSome (node_number machine)
+IsBuilt nodes (CrashAll noise) = nodes ≡ 1
+IsBuilt nodes (RestartAll reading) = nodes ≡ 1
+IsBuilt nodes line = ⊥
 
 -- such a line, in its place
 abbrev pub IsInPlace : Bool → ℕ → Line → Type 0
@@ -98,20 +95,13 @@ machines_at nodes up greatest = record { nodes = nodes; up = up; greatest = grea
 -- how many nodes there are after a line
 abbrev pub nodes_after : Line → ℕ → ℕ
 nodes_after (Heading volume count devices areas) nodes = count
-nodes_after (Call reading node client datagram) nodes = nodes
-nodes_after (Run reading limit) nodes = nodes
-nodes_after (Crash noise) nodes = nodes
-nodes_after (Restart reading) nodes = nodes
-nodes_after (Tick reading node) nodes = nodes
+nodes_after line nodes = nodes
 
 -- whether the machines are up after a line, by whether they were before it
 abbrev pub up_after : Line → Bool → Bool
-up_after (Heading volume nodes devices areas) up = up
-up_after (Call reading node client datagram) up = up
-up_after (Run reading limit) up = up
-up_after (Crash noise) up = false
-up_after (Restart reading) up = true
-up_after (Tick reading node) up = up
+up_after (CrashAll noise) up = false
+up_after (RestartAll reading) up = true
+up_after line up = up
 
 -- the greatest reading with one more, where there is one
 abbrev pub greatest_with : Option ℕ → ℕ → ℕ

@@ -5,7 +5,7 @@ ghost use Rattle.bx_base.specs.Faults.{Rose};
 ghost use Rattle.bx_disk.specs.declared.noise.Noise.{Noise};
 ghost use Rattle.bx_history.specs.Along.{Done};
 ghost use Rattle.bx_model.specs.declared.tree.Tree.{Tree};
-ghost use Rattle.bx_script.specs.declared.line.Line.TheVariants.{Crash as CrashLine, Restart as RestartLine};
+ghost use Rattle.bx_script.specs.declared.line.Line.TheVariants.{CrashAll as CrashLine, RestartAll as RestartLine};
 ghost use Rattle.bx_replay.specs.Course.{MovesDisks};
 ghost use Rattle.bx_replay.specs.Headline.{IsInPlace, IsSteady, machines_at};
 ghost use Rattle.bx_replay.specs.Replay.{AreWaiting, DoesLine, GoesOn, HasNodes, HasPrintCause, Stands, StandsAfter, UnlessWrite};

@@ -6,7 +6,7 @@ ghost use Rattle.bx_script.specs.ScheduleLine.{spelling};
 ghost use Rattle.bx_replay.specs.Headline.{IsBuilt, IsInPlace};
 ghost use Rattle.bx_replay.specs.Replay.{GivesLine, HasLineCause, UnlessRead};
 
-use bx_base::OutOfMemory;
+use bx_base::{Actor, OutOfMemory};
 use bx_outside::{LineReader, Next, Source};
 use bx_script::{Line, MAX_LINES};
 use bx_service::MOST_NODES;
@@ -58,8 +58,8 @@ fn line_at(alloc: Global, text: &[u8], first: bool, nodes: u32) -> Result<Option
     }
 }
 
-// Whether this stage has the line, where there are so many nodes: a heading has as many nodes as a service may, one device and one area; machines
-// crash and come back where there is one.
+// Whether this stage has the line, where there are so many nodes: a heading has as many nodes as a service may, one device and one area; clocks of nodes tick;
+// machines crash and come back, all of them, where there is one node.
 fn is_built(line: &Line, nodes: u32) -> bool
     ensures { IsTrue result ↔ IsBuilt nodes line.now }
 {
@@ -70,7 +70,9 @@ fn is_built(line: &Line, nodes: u32) -> bool
             areas,
             ..
         } => *nodes <= MOST_NODES && *devices == 1 && *areas == 1,
-        Line::Crash { .. } | Line::Restart { .. } => nodes == 1,
-        Line::Call { .. } | Line::Run { .. } | Line::Tick { .. } => true,
+        Line::CrashAll { .. } | Line::RestartAll { .. } => nodes == 1,
+        Line::Tick { machine, .. } => matches!(machine, Actor::Node(_)),
+        Line::Call { .. } | Line::Run { .. } => true,
+        _ => false,
     }
 }

@@ -1,6 +1,7 @@
 //! What the lines of a schedule do.
 
 ghost use Rattle.std.specs.Prelude.{◌≡◌, ◌≢◌, ◌≤◌, ◌<◌, ◌+◌, ◌^◌, List, ℕ, length, IfErr, OnOk, Option, true, false};
+ghost use Rattle.bx_base.specs.declared.names.Actor.TheVariants.{Node};
 ghost use Rattle.bx_history.specs.Along.{Done};
 ghost use Rattle.bx_history.specs.Trace.{Taking};
 ghost use Rattle.bx_model.specs.declared.tree.Tree.{Tree};
@@ -13,6 +14,7 @@ ghost use Rattle.bx_service.specs.Rounds.{Doubt};
 
 use crate::calls::Incoming;
 use crate::state::Replay;
+use bx_base::Actor;
 use bx_disk::{CrashRack, Rack};
 use bx_outside::Sink;
 use bx_script::Line;
@@ -46,7 +48,7 @@ impl<M: Service> Replay<M> {
         ensures hears { Hears result (machines_at self.old.nodes (M.up self.old.service) self.old.clock) (machines_at self.new.nodes (M.up self.new.service) self.new.clock) line }
         ensures moves { (tree : Tree) (doubts : ℕ → Option Doubt) → B.tells bench.old → M.holds self.old.service (B.state bench.old) tree doubts
             → OnOk result (Moves M.rests M.returns M.turns line (M.up self.old.service) (record { service = self.old.service; disks = B.state bench.old; faults = B.faults bench.old }) (record { service = self.new.service; disks = B.state bench.new; faults = B.faults bench.new })) }
-        ensures ticks { (reading node : ℕ) → line ≡ TickLine reading node → ((call : Taking) → M.waits self.old.service call → call.node ≢ node) → OnOk result (M.tidies self.new.service node ≡ true) }
+        ensures ticks { (reading node : ℕ) → line ≡ TickLine reading (Node node) → ((call : Taking) → M.waits self.old.service call → call.node ≢ node) → OnOk result (M.tidies self.new.service node ≡ true) }
         ensures cause { IfErr result (λ stop. HasStepCause stop number (K.faults out.old) (K.faults out.new)) }
         ensures first { UnlessWrite result (K.faults out.new ≡ K.faults out.old) }
         ensures calls { self.new.calls ≤ self.old.calls + 1 }
@@ -85,7 +87,7 @@ impl<M: Service> Replay<M> {
         ensures hears { HearsUp result (M.up self.old.service) (M.up self.new.service) line }
         ensures moves { (tree : Tree) (doubts : ℕ → Option Doubt) → B.tells bench.old → M.holds self.old.service (B.state bench.old) tree doubts
             → OnOk result (Moves M.rests M.returns M.turns line (M.up self.old.service) (record { service = self.old.service; disks = B.state bench.old; faults = B.faults bench.old }) (record { service = self.new.service; disks = B.state bench.new; faults = B.faults bench.new })) }
-        ensures ticks { (reading node : ℕ) → line ≡ TickLine reading node → ((call : Taking) → M.waits self.old.service call → call.node ≢ node) → OnOk result (M.tidies self.new.service node ≡ true) }
+        ensures ticks { (reading node : ℕ) → line ≡ TickLine reading (Node node) → ((call : Taking) → M.waits self.old.service call → call.node ≢ node) → OnOk result (M.tidies self.new.service node ≡ true) }
         ensures cause { IfErr result (λ stop. HasStepCause stop number (K.faults out.old) (K.faults out.new)) }
         ensures first { UnlessWrite result (K.faults out.new ≡ K.faults out.old) }
         ensures calls { self.new.calls ≤ self.old.calls + 1 }
@@ -107,10 +109,18 @@ impl<M: Service> Replay<M> {
                 self.call(alloc, number, incoming, out)
             }
             Line::Run { reading, limit } => self.run(alloc, reading, limit, bench, out),
-            Line::Crash { noise } => self.crash(noise, bench),
-            Line::Restart { reading: _ } => self.restart(bench, out),
-            Line::Tick { reading: _, node } => self.tick(number, node),
-            Line::Heading { .. } => Ok(()),
+            Line::CrashAll { noise } => self.crash(noise, bench),
+            Line::RestartAll { reading: _ } => self.restart(bench, out),
+            Line::Tick {
+                reading: _,
+                machine,
+            } => match machine {
+                Actor::Node(node) => self.tick(number, node),
+                // Clocks of other machines don't tick in this stage.
+                _ => Ok(()),
+            },
+            // No other line has its place here.
+            _ => Ok(()),
         }
     }
 }

@@ -1,8 +1,11 @@
 pub mod Fields
-pub mod Numbers
 pub mod HexText
-pub mod Puts
 pub mod Lines
+pub mod MachineLines
+pub mod Naming
+pub mod Numbers
+pub mod Puts
 pub mod Spaced
 pub mod Spelled
+pub mod Taking
 pub mod TraceLines

@@ -1,58 +1,24 @@
 -- What is read is in range and spelled so, and what is in range and spelled so is read.
-use Rattle.std.proofs.Common.{◌≡◌, ℕ, ◌-◌, ◌^◌, ◌<◌, ◌≤◌, ◌⊎◌, inl, inr, Bool, true, false, cond, leb, eqb, ◌&&◌, List, ◌++◌, take, drop, Option, Some, None, Result, Ok, Err, refl, sym, ap, subst, ◌∙◌, arith}
+use Rattle.std.proofs.Common.{◌≡◌, ℕ, ◌-◌, ◌^◌, ◌<◌, ◌≤◌, inl, inr, true, cond, leb, eqb, ◌&&◌, List, ◌++◌, Option, Some, None, Result, Ok, Err, refl, sym, ap, subst, ◌∙◌, arith}
 use Rattle.std.specs.Prelude.{IfOk, IfSome, codes}
 use Rattle.std.specs.Fmt.{decimal}
 use Rattle.std.specs.Str.{bytes_eq}
 use Rattle.std.proofs.lemmas.Bool.{and_parts, eqb-true, leb-true, le-leb}
-use Rattle.std.proofs.lemmas.List.{take-append-drop}
 use Rattle.std.proofs.lemmas.Option.{cond_some, option_and_then_some}
-use Rattle.std.proofs.lemmas.Slice.Eq.{bytes_eq-Decides}
 use Rattle.hex.specs.Hex.{encode_lower}
 use Rattle.bx_base.specs.declared.memory.OutOfMemory.{OutOfMemory}
 use Rattle.bx_script.specs.declared.line.Line.{Line}
-use Rattle.bx_disk.specs.declared.noise.Noise.{Noise}
-use Rattle.bx_disk.specs.declared.noise.Noise.TheVariants.{Keep, Drop, Seed}
-use Rattle.bx_script.specs.declared.line.Line.TheVariants.{Heading, Call, Run, Crash, Restart, Tick}
-use Rattle.bx_script.specs.ScheduleLine.{InRange, IsHeading, IsCall, IsNoise, IsRun, IsTick, noise_text, spelling}
-use Rattle.bx_script.specs.Reading.{◌>>=◌, cut, number_of, number_at, datagram_of, heading_of, call_fields_of, call_of, crash_of, machines_line_of, node_named, noise_of, restart_of, run_of, seed_of, tick_of, line_of}
-use Rattle.bx_script.proofs.Fields.{bind_some, some, some_is, Lacks, lacks_from_test, then_space, cut_takes, cut_again}
+use Rattle.bx_script.specs.declared.line.Line.TheVariants.{Heading, Call, Run, Tick, Deliver, Next, Sync, Hold, Free, Drop, Crash, CrashAll, Restart, RestartAll, Blank}
+use Rattle.bx_script.specs.ScheduleLine.{InRange, IsHeading, IsCall, IsRun, machine_text, noise_text, spelling}
+use Rattle.bx_script.specs.Reading.{◌>>=◌, cut, number_of, number_at, datagram_of, heading_of, call_fields_of, call_of, machines_line_of, run_of, line_of}
+use Rattle.bx_script.proofs.Fields.{some_is, Lacks, lacks_from_test, then_space, cut_takes, cut_again}
 use Rattle.std.proofs.lemmas.Fmt.{decimal_digit}
-use Rattle.bx_script.proofs.Numbers.{IsNumber, number_takes, number_again, Lacks-decimal}
+use Rattle.bx_script.proofs.Numbers.{IsNumber, number_takes, number_again}
 use Rattle.bx_script.proofs.HexText.{IsDatagram, datagram_takes, datagram_again}
-
--- which way a test went
-chosen : {A : Type 0} (b : Bool) (x y z : A) → cond b x y ≡ z → ((b ≡ true) × (x ≡ z)) ⊎ ((b ≡ false) × (y ≡ z))
-chosen true x y z e = inl (refl, e)
-chosen false x y z e = inr (refl, e)
-
--- ---- a number and a space
-
-pub record IsNumberAt (most : ℕ) (text : List ℕ) (n : ℕ) (rest : List ℕ) : Type 0 where
-  pub spelled : text ≡ then_space (decimal n) rest
-  pub within : n ≤ most
-
-pub number_at_takes : (most : ℕ) (text : List ℕ) (x : ℕ × List ℕ) → most < 2 ^ 64 → number_at most text ≡ Some x → IsNumberAt most text x.0 x.1
-unfolding number_at
-number_at_takes most text x small e =
-    let a = bind_some (cut text) (λ y. number_of most y.0 >>= λ n. Some (n, y.1)) x e in
-    let b = bind_some (number_of most a.0.0) (λ n. Some (n, a.0.1)) x a.2 in
-    let field = number_takes most a.0.0 b.0 small b.1 in
-    let spelled : text ≡ then_space (decimal b.0) a.0.1 = cut_takes text a.0 a.1 ∙ ap (λ (f : List ℕ). then_space f a.0.1) field.spelled in
-    subst (λ (y : ℕ × List ℕ). IsNumberAt most text y.0 y.1) (some_is (b.0, a.0.1) x b.2) (record { spelled = spelled; within = field.within })
-
-pub number_at_again : (most n : ℕ) (rest : List ℕ) → most < 2 ^ 64 → n ≤ most → number_at most (then_space (decimal n) rest) ≡ Some (n, rest)
-unfolding number_at
-number_at_again most n rest small le =
-    rw (cut_again (decimal n) rest (Lacks-decimal 32 n (omega arith) (omega arith)), number_again most n small le) refl
-
--- two parts that were read after one another
-joined : (text rest a b : List ℕ) → text ≡ then_space a rest → rest ≡ b → text ≡ then_space a b
-joined text rest a b p q = p ∙ ap (λ (r : List ℕ). then_space a r) q
+use Rattle.bx_script.proofs.Taking.{IsNumberAt, Reads, chosen, joined, number_at_takes, number_at_again, under_word}
+use Rattle.bx_script.proofs.MachineLines.{blank_line, crash_all_line, crash_line, deliver_line, drop_line, free_line, hold_line, lane_text, machines_take, next_line, restart_all_line, restart_line, sync_line, tick_line}
 
 -- ---- `run`
-
-abbrev Reads : List ℕ → List ℕ → Line → Type 0
-Reads word text line = InRange line × (then_space word text ≡ spelling line)
 
 run_parts : (text : List ℕ) (reading : ℕ) (rest : List ℕ) (limit : ℕ) (line : Line) → IsNumberAt 4294967295999 text reading rest → IsNumber 1000000 limit rest
     → cond (leb 1 limit) (Some (Run reading limit)) None ≡ Some line → Reads (codes "run") text line
@@ -74,118 +40,6 @@ unfolding run_of
 run_again reading limit fits =
     let low : leb 1 limit ≡ true = le-leb _ _ fits.some in
     rw (number_at_again 4294967295999 reading (decimal limit) (omega arith) fits.reading_fits, number_again 1000000 limit (omega arith) fits.most, low) refl
-
--- ---- `crash`
-
--- a field that spells what a crash makes of unsure sectors
-pub record IsNoiseText (field : List ℕ) (noise : Noise) : Type 0 where
-  pub spelled : field ≡ noise_text noise
-  pub fits : IsNoise noise
-
-text_is : (a b : List ℕ) → bytes_eq a b ≡ true → a ≡ b
-text_is a b e = (bytes_eq-Decides a b).0 e
-
-seed_takes : (field : List ℕ) (noise : Noise) → seed_of field ≡ Some noise → IsNoiseText field noise
-unfolding seed_of
-seed_takes field noise e =
-    option_and_then_some _ (number_of (2 ^ 64 - 1) (drop 5 field)) noise e (λ seed e1 f1.
-    let d = cond_some (bytes_eq (take 5 field) (codes "seed:")) (Seed seed) noise f1 in
-    let number = number_takes (2 ^ 64 - 1) (drop 5 field) seed (omega arith) e1 in
-    let spelled : field ≡ codes "seed:" ++ decimal seed =
-    sym (take-append-drop 5 field) ∙ ap (λ (front : List ℕ). front ++ drop 5 field) (text_is (take 5 field) (codes "seed:") d.0) ∙ ap (λ (behind : List ℕ). codes "seed:" ++ behind) number.spelled in
-    subst (IsNoiseText field) d.1 (record { spelled = spelled; fits = omega (arith, number.within) }))
-
-seed_again : (seed : ℕ) → seed < 2 ^ 64 → seed_of (codes "seed:" ++ decimal seed) ≡ Some (Seed seed)
-unfolding seed_of
-seed_again seed fits =
-    rw (number_again (2 ^ 64 - 1) seed (omega arith) (omega (arith, fits))) refl
-
-noise_takes : (field : List ℕ) (noise : Noise) → noise_of field ≡ Some noise → IsNoiseText field noise
-unfolding noise_of
-noise_takes field noise e =
-    elim (chosen (bytes_eq field (codes "keep")) (Some Keep) _ (Some noise) e) [
-      | inl h ↦ subst (IsNoiseText field) (noise_is Keep noise h.1) (record { spelled = text_is field (codes "keep") h.0; fits = tt })
-      | inr h ↦
-          elim (chosen (bytes_eq field (codes "drop")) (Some Drop) _ (Some noise) h.1) [
-            | inl d ↦ subst (IsNoiseText field) (noise_is Drop noise d.1) (record { spelled = text_is field (codes "drop") d.0; fits = tt })
-            | inr d ↦ seed_takes field noise d.1
-          ]
-    ]
-  where
-    noise_is : (a b : Noise) → some a ≡ some b → a ≡ b
-    noise_is a b same = some_is a b same
-
-noise_again : (noise : Noise) → IsNoise noise → noise_of (noise_text noise) ≡ Some noise
-unfolding noise_of
-noise_again Keep fits = refl
-noise_again Drop fits = refl
-noise_again (Seed seed) fits = seed_again seed fits
-
-crash_takes : (text : List ℕ) (line : Line) → crash_of text ≡ Some line → Reads (codes "crash") text line
-unfolding crash_of
-crash_takes text line e =
-    option_and_then_some _ (cut text) line e (λ who e1 f1.
-    option_and_then_some _ (noise_of who.1) line f1 (λ noise e2 f2.
-    let d = cond_some (bytes_eq who.0 (codes "all")) (Crash noise) line f2 in
-    let read = noise_takes who.1 noise e2 in
-    let spelled : text ≡ then_space (codes "all") (noise_text noise) =
-    cut_takes text who e1 ∙ ap (λ (w : List ℕ). then_space w who.1) (text_is who.0 (codes "all") d.0) ∙ ap (λ (n : List ℕ). then_space (codes "all") n) read.spelled in
-    subst (λ (l : Line). Reads (codes "crash") text l) d.1 (read.fits, ap (λ (t : List ℕ). then_space (codes "crash") t) spelled)))
-
-crash_again : (noise : Noise) → IsNoise noise → crash_of (then_space (codes "all") (noise_text noise)) ≡ Some (Crash noise)
-unfolding crash_of
-crash_again noise fits = rw (cut_again (codes "all") (noise_text noise) (lacks_from_test 32 (codes "all") refl), noise_again noise fits) refl
-
--- ---- `restart`
-
-restart_takes : (text : List ℕ) (line : Line) → restart_of text ≡ Some line → Reads (codes "restart") text line
-unfolding restart_of
-restart_takes text line e =
-    option_and_then_some _ (number_at 4294967295999 text) line e (λ reading e1 f1.
-    let d = cond_some (bytes_eq reading.1 (codes "all")) (Restart reading.0) line f1 in
-    let number = number_at_takes 4294967295999 text reading (omega arith) e1 in
-    let spelled = joined text reading.1 (decimal reading.0) (codes "all") number.spelled (text_is reading.1 (codes "all") d.0) in
-    subst (λ (l : Line). Reads (codes "restart") text l) d.1 (number.within, ap (λ (t : List ℕ). then_space (codes "restart") t) spelled))
-
-restart_again : (reading : ℕ) → reading ≤ 4294967295999 → restart_of (then_space (decimal reading) (codes "all")) ≡ Some (Restart reading)
-unfolding restart_of
-restart_again reading fits = rw (number_at_again 4294967295999 reading (codes "all") (omega arith) fits) refl
-
--- ---- `tick`
-
--- a field that spells a node
-record IsNodeText (field : List ℕ) (node : ℕ) : Type 0 where
-  pub spelled : field ≡ codes "n" ++ decimal node
-  pub fits : node ≤ 3
-
-node_takes : (field : List ℕ) (node : ℕ) → node_named field ≡ Some node → IsNodeText field node
-unfolding node_named
-node_takes field node e =
-    option_and_then_some _ (number_of 3 (drop 1 field)) node e (λ one e1 f1.
-    let d = cond_some (bytes_eq (take 1 field) (codes "n")) one node f1 in
-    let number = number_takes 3 (drop 1 field) one (omega arith) e1 in
-    let spelled : field ≡ codes "n" ++ decimal one =
-    sym (take-append-drop 1 field) ∙ ap (λ (front : List ℕ). front ++ drop 1 field) (text_is (take 1 field) (codes "n") d.0) ∙ ap (λ (behind : List ℕ). codes "n" ++ behind) number.spelled in
-    subst (IsNodeText field) d.1 (record { spelled = spelled; fits = number.within }))
-
-node_again : (node : ℕ) → node ≤ 3 → node_named (codes "n" ++ decimal node) ≡ Some node
-unfolding node_named
-node_again node fits = rw (number_again 3 node (omega arith) fits) refl
-
-tick_takes : (text : List ℕ) (line : Line) → tick_of text ≡ Some line → Reads (codes "tick") text line
-unfolding tick_of
-tick_takes text line e =
-    option_and_then_some _ (number_at 4294967295999 text) line e (λ reading e1 f1.
-    option_and_then_some _ (node_named reading.1) line f1 (λ node e2 f2.
-    let number = number_at_takes 4294967295999 text reading (omega arith) e1 in
-    let who = node_takes reading.1 node e2 in
-    let spelled = joined text reading.1 (decimal reading.0) (codes "n" ++ decimal node) number.spelled who.spelled in
-    subst (λ (l : Line). Reads (codes "tick") text l) (some_is (Tick reading.0 node) line f2)
-    (record { reading_fits = number.within; node_fits = who.fits }, ap (λ (t : List ℕ). then_space (codes "tick") t) spelled)))
-
-tick_again : (reading node : ℕ) → IsTick reading node → tick_of (then_space (decimal reading) (codes "n" ++ decimal node)) ≡ Some (Tick reading node)
-unfolding tick_of
-tick_again reading node fits = rw (number_at_again 4294967295999 reading (codes "n" ++ decimal node) (omega arith) fits.reading_fits, node_again node fits.node_fits) refl
 
 -- ---- `boxwood`
 
@@ -312,40 +166,6 @@ call_again reading node client bytes fits =
 abbrev rest_of : List ℕ → List ℕ → Option Line
 rest_of word rest = cond (bytes_eq word (codes "boxwood")) (heading_of rest) (cond (bytes_eq word (codes "call")) (call_of rest) (cond (bytes_eq word (codes "run")) (run_of rest) (machines_line_of word rest)))
 
-word_is : (word other : List ℕ) → bytes_eq word other ≡ true → word ≡ other
-word_is word other e = (bytes_eq-Decides word other).0 e
-
-under_word : (word other rest : List ℕ) (line : Line) → bytes_eq word other ≡ true → Reads other rest line → Reads word rest line
-under_word word other rest line e h = subst (λ (w : List ℕ). Reads w rest line) (sym (word_is word other e)) h
-
-machines_take : (word rest : List ℕ) (line : Line) → machines_line_of word rest ≡ Some line → Reads word rest line
-unfolding machines_line_of
-machines_take word rest line e =
-    elim (chosen (bytes_eq word (codes "crash")) (crash_of rest) _ (Some line) e) [
-      | inl s ↦ under_word word (codes "crash") rest line s.0 (crash_takes rest line s.1)
-      | inr s ↦
-          elim (chosen (bytes_eq word (codes "restart")) (restart_of rest) _ (Some line) s.1) [
-            | inl t ↦ under_word word (codes "restart") rest line t.0 (restart_takes rest line t.1)
-            | inr t ↦
-                elim (chosen (bytes_eq word (codes "tick")) (tick_of rest) None (Some line) t.1) [
-                  | inl u ↦ under_word word (codes "tick") rest line u.0 (tick_takes rest line u.1)
-                  | inr u ↦ absurd (cc u.1)
-                ]
-          ]
-    ]
-
-crash_word : (rest : List ℕ) → machines_line_of (codes "crash") rest ≡ crash_of rest
-unfolding machines_line_of
-crash_word rest = refl
-
-restart_word : (rest : List ℕ) → machines_line_of (codes "restart") rest ≡ restart_of rest
-unfolding machines_line_of
-restart_word rest = refl
-
-tick_word : (rest : List ℕ) → machines_line_of (codes "tick") rest ≡ tick_of rest
-unfolding machines_line_of
-tick_word rest = refl
-
 rest_takes : (word rest : List ℕ) (line : Line) → rest_of word rest ≡ Some line → Reads word rest line
 rest_takes word rest line e =
     elim (chosen (bytes_eq word (codes "boxwood")) (heading_of rest) _ (Some line) e) [
@@ -386,12 +206,18 @@ line_again (Call reading node client bytes) fits =
     word_again (codes "call") (then_space (decimal reading) (then_space (decimal node) (then_space (decimal client) (encode_lower bytes)))) (lacks_from_test 32 (codes "call") refl) ∙ call_again reading node client bytes fits
 line_again (Run reading limit) fits =
     word_again (codes "run") (then_space (decimal reading) (decimal limit)) (lacks_from_test 32 (codes "run") refl) ∙ run_again reading limit fits
-line_again (Crash noise) fits =
-    word_again (codes "crash") (then_space (codes "all") (noise_text noise)) (lacks_from_test 32 (codes "crash") refl) ∙ crash_word (then_space (codes "all") (noise_text noise)) ∙ crash_again noise fits
-line_again (Restart reading) fits =
-    word_again (codes "restart") (then_space (decimal reading) (codes "all")) (lacks_from_test 32 (codes "restart") refl) ∙ restart_word (then_space (decimal reading) (codes "all")) ∙ restart_again reading fits
-line_again (Tick reading node) fits =
-    word_again (codes "tick") (then_space (decimal reading) (codes "n" ++ decimal node)) (lacks_from_test 32 (codes "tick") refl) ∙ tick_word (then_space (decimal reading) (codes "n" ++ decimal node)) ∙ tick_again reading node fits
+line_again (Tick reading machine) fits = word_again (codes "tick") (then_space (decimal reading) (machine_text machine)) (lacks_from_test 32 (codes "tick") refl) ∙ tick_line reading machine fits.0 fits.1
+line_again (Deliver reading number) fits = word_again (codes "deliver") (then_space (decimal reading) (decimal number)) (lacks_from_test 32 (codes "deliver") refl) ∙ deliver_line reading number fits.0 fits.1
+line_again (Next reading from to) fits = word_again (codes "next") (then_space (decimal reading) (then_space (machine_text from) (machine_text to))) (lacks_from_test 32 (codes "next") refl) ∙ next_line reading from to fits.0 fits.1 fits.2
+line_again (Sync machine) fits = word_again (codes "sync") (machine_text machine) (lacks_from_test 32 (codes "sync") refl) ∙ sync_line machine fits
+line_again (Hold from to kind) fits = word_again (codes "hold") (lane_text from to kind) (lacks_from_test 32 (codes "hold") refl) ∙ hold_line from to kind fits
+line_again (Free from to kind) fits = word_again (codes "free") (lane_text from to kind) (lacks_from_test 32 (codes "free") refl) ∙ free_line from to kind fits
+line_again (Drop from to kind) fits = word_again (codes "drop") (lane_text from to kind) (lacks_from_test 32 (codes "drop") refl) ∙ drop_line from to kind fits
+line_again (Crash machine noise) fits = word_again (codes "crash") (then_space (machine_text machine) (noise_text noise)) (lacks_from_test 32 (codes "crash") refl) ∙ crash_line machine noise fits.0 fits.1
+line_again (CrashAll noise) fits = word_again (codes "crash") (then_space (codes "all") (noise_text noise)) (lacks_from_test 32 (codes "crash") refl) ∙ crash_all_line noise fits
+line_again (Restart reading machine) fits = word_again (codes "restart") (then_space (decimal reading) (machine_text machine)) (lacks_from_test 32 (codes "restart") refl) ∙ restart_line reading machine fits.0 fits.1
+line_again (RestartAll reading) fits = word_again (codes "restart") (then_space (decimal reading) (codes "all")) (lacks_from_test 32 (codes "restart") refl) ∙ restart_all_line reading fits
+line_again (Blank machine) fits = word_again (codes "blank") (machine_text machine) (lacks_from_test 32 (codes "blank") refl) ∙ blank_line machine fits
 
 -- ---- what `read` answers
 

@@ -1,15 +1,18 @@
 -- Reading a line from left to right.
-use Rattle.std.specs.Prelude.{◌≡◌, ℕ, ◌+◌, ◌-◌, ◌^◌, Bool, ◌&&◌, not, ◌==◌, nat_lt, nat_le, if◌then◌else◌, List, length, take, drop, codes, position, slice_index, Option, Some, None, option_and_then}
+use Rattle.std.specs.Prelude.{◌≡◌, ℕ, ◌+◌, ◌-◌, ◌*◌, ◌^◌, Bool, ◌&&◌, not, ◌==◌, nat_lt, nat_le, if◌then◌else◌, List, [], ◌∷◌, length, take, drop, codes, position, slice_index, Option, Some, None, option_and_then}
 use Rattle.std.specs.List.{list_all}
 use Rattle.std.specs.Result.{result_ok}
 use Rattle.std.specs.Char.{is_ascii_digit, is_ascii_uppercase}
 use Rattle.std.specs.Str.{bytes_eq}
 use Rattle.std.specs.Str.Parse.{digits_value}
 use Rattle.hex.specs.Hex.{decode_of}
+use Rattle.bx_base.specs.declared.names.Actor.{Actor}
+use Rattle.bx_base.specs.declared.names.Actor.TheVariants.{Node, Replica, Server, Member}
 use Rattle.bx_disk.specs.declared.noise.Noise.{Noise}
 use Rattle.bx_disk.specs.declared.noise.Noise.TheVariants.{Keep, Drop, Seed}
+use Rattle.bx_script.specs.ScheduleLine.{lock_words, member_words, register_words, write_words}
 use Rattle.bx_script.specs.declared.line.Line.{Line}
-use Rattle.bx_script.specs.declared.line.Line.TheVariants.{Heading, Call, Run, Crash, Restart, Tick}
+use Rattle.bx_script.specs.declared.line.Line.TheVariants.{Heading, Call, Run, Tick, Deliver, Next, Sync, Hold, Free, Drop as DropPackets, Crash, CrashAll, Restart, RestartAll, Blank}
 
 infixl 10 ◌>>=◌
 abbrev pub ◌>>=◌ : {A B : Type 0} → Option A → (A → Option B) → Option B
@@ -92,39 +95,133 @@ noise_of field =
     else if bytes_eq field (codes "drop") then Some Drop
     else seed_of field
 
--- `all NOISE`
+-- the member of the device that digits name
+unfoldable pub member_at : ℕ → List ℕ → Option Actor
+member_at side digits = do
+  device ← number_of 3 digits
+  Some (Member (2 * device + side))
+
+-- the machine that a letter and digits name
+unfoldable pub machine_named : List ℕ → Option Actor
+machine_named [] = None
+machine_named (letter ∷ digits) =
+    if letter == 110 then (number_of 3 digits >>= λ n. Some (Node n))
+    else if letter == 112 then (number_of 2 digits >>= λ n. Some (Replica n))
+    else if letter == 108 then (number_of 1 digits >>= λ n. Some (Server n))
+    else if letter == 97 then member_at 0 digits
+    else if letter == 98 then member_at 1 digits
+    else None
+
+-- the number of the first of these words that a field is, where they are numbered from here on; or else another
+abbrev pub numbered_or : ℕ → List (List ℕ) → List ℕ → Option ℕ → Option ℕ
+numbered_or n [] field other = other
+numbered_or n (word ∷ words) field other = if bytes_eq field word then Some n else numbered_or (n + 1) words field other
+
+-- the number of the kind that a field names
+unfoldable pub member_kind : List ℕ → Option ℕ
+member_kind field = numbered_or 19 member_words field None
+
+unfoldable pub write_kind : List ℕ → Option ℕ
+write_kind field = numbered_or 14 write_words field (member_kind field)
+
+unfoldable pub lock_kind : List ℕ → Option ℕ
+lock_kind field = numbered_or 8 lock_words field (write_kind field)
+
+unfoldable pub kind_named : List ℕ → Option ℕ
+kind_named field = numbered_or 1 register_words field (lock_kind field)
+
+-- `READING MACHINE`
+unfoldable pub tick_of : List ℕ → Option Line
+tick_of text = do
+  reading ← number_at 4294967295999 text
+  machine ← machine_named reading.1
+  Some (Tick reading.0 machine)
+
+-- `MACHINE`
+unfoldable pub sync_of : List ℕ → Option Line
+sync_of text = do
+  machine ← machine_named text
+  Some (Sync machine)
+
+-- `MACHINE`
+unfoldable pub blank_of : List ℕ → Option Line
+blank_of text = do
+  machine ← machine_named text
+  Some (Blank machine)
+
+-- `all NOISE` or `MACHINE NOISE`
 unfoldable pub crash_of : List ℕ → Option Line
 crash_of text = do
   who ← cut text
   noise ← noise_of who.1
-  if bytes_eq who.0 (codes "all") then Some (Crash noise) else None
+  if bytes_eq who.0 (codes "all") then Some (CrashAll noise) else (machine_named who.0 >>= λ machine. Some (Crash machine noise))
 
--- `READING all`
+-- `READING all` or `READING MACHINE`
 unfoldable pub restart_of : List ℕ → Option Line
 restart_of text = do
   reading ← number_at 4294967295999 text
-  if bytes_eq reading.1 (codes "all") then Some (Restart reading.0) else None
+  if bytes_eq reading.1 (codes "all") then Some (RestartAll reading.0) else (machine_named reading.1 >>= λ machine. Some (Restart reading.0 machine))
 
--- `nNODE`, where the field begins so
-unfoldable pub node_named : List ℕ → Option ℕ
-node_named field = do
-  node ← number_of 3 (drop 1 field)
-  if bytes_eq (take 1 field) (codes "n") then Some node else None
-
--- `READING nNODE`
-unfoldable pub tick_of : List ℕ → Option Line
-tick_of text = do
+-- `READING NUMBER`
+unfoldable pub deliver_of : List ℕ → Option Line
+deliver_of text = do
   reading ← number_at 4294967295999 text
-  node ← node_named reading.1
-  Some (Tick reading.0 node)
+  number ← number_of (2 ^ 64 - 1) reading.1
+  Some (Deliver reading.0 number)
 
--- a line of a word and a rest that says what machines do
+-- `READING FROM TO`
+unfoldable pub next_of : List ℕ → Option Line
+next_of text = do
+  reading ← number_at 4294967295999 text
+  between ← cut reading.1
+  from ← machine_named between.0
+  to ← machine_named between.1
+  Some (Next reading.0 from to)
+
+-- `FROM TO KIND`
+unfoldable pub lane_of : List ℕ → Option (Actor × Actor × ℕ)
+lane_of text = do
+  sender ← cut text
+  receiver ← cut sender.1
+  from ← machine_named sender.0
+  to ← machine_named receiver.0
+  kind ← kind_named receiver.1
+  Some (from, to, kind)
+
+unfoldable pub hold_of : List ℕ → Option Line
+hold_of text = do
+  lane ← lane_of text
+  Some (Hold lane.0 lane.1 lane.2)
+
+unfoldable pub free_of : List ℕ → Option Line
+free_of text = do
+  lane ← lane_of text
+  Some (Free lane.0 lane.1 lane.2)
+
+unfoldable pub drop_of : List ℕ → Option Line
+drop_of text = do
+  lane ← lane_of text
+  Some (DropPackets lane.0 lane.1 lane.2)
+
+-- a line of a word and a rest that says what happens to packets
+unfoldable pub packets_line_of : List ℕ → List ℕ → Option Line
+packets_line_of word rest =
+    if bytes_eq word (codes "deliver") then deliver_of rest
+    else if bytes_eq word (codes "next") then next_of rest
+    else if bytes_eq word (codes "hold") then hold_of rest
+    else if bytes_eq word (codes "free") then free_of rest
+    else if bytes_eq word (codes "drop") then drop_of rest
+    else None
+
+-- or to machines
 unfoldable pub machines_line_of : List ℕ → List ℕ → Option Line
 machines_line_of word rest =
-    if bytes_eq word (codes "crash") then crash_of rest
+    if bytes_eq word (codes "tick") then tick_of rest
+    else if bytes_eq word (codes "sync") then sync_of rest
+    else if bytes_eq word (codes "crash") then crash_of rest
     else if bytes_eq word (codes "restart") then restart_of rest
-    else if bytes_eq word (codes "tick") then tick_of rest
-    else None
+    else if bytes_eq word (codes "blank") then blank_of rest
+    else packets_line_of word rest
 
 -- a line
 unfoldable pub line_of : List ℕ → Option Line

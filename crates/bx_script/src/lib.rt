@@ -1,7 +1,9 @@
 //! The lines of a schedule and of a trace, each a value with one spelling.
 #![tactic(auto)]
 
+mod field;
 mod line;
+mod names;
 mod reading;
 mod text;
 mod trace_line;

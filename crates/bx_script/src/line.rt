@@ -7,7 +7,7 @@ ghost use Rattle.bx_script.specs.Schedule.{is_heading, node_of, reading_of};
 ghost use Rattle.bx_script.specs.declared.line.Line.{Line};
 
 use crate::reading::read_line;
-use bx_base::{OutOfMemory, Raw};
+use bx_base::{Actor, OutOfMemory, Raw};
 use bx_disk::Noise;
 use std::alloc::Global;
 
@@ -25,9 +25,6 @@ pub(crate) const MAX_DEVICES: u32 = 4;
 
 /// The most areas of a heading.
 pub(crate) const MAX_AREAS: u32 = 64;
-
-/// The greatest number of a node.
-pub(crate) const LAST_NODE: u32 = MAX_NODES - 1;
 
 /// The greatest reading of a clock, in milliseconds.
 pub const MAX_READING: u64 = 4294967295999;
@@ -70,22 +67,89 @@ pub enum Line {
         /// At most so many events, 1 to 1000000.
         limit: u32,
     },
-    /// `crash all NOISE`: every machine that is up crashes, and its disk with it.
+    /// `tick READING MACHINE`: the clock of a machine ticks.
+    Tick {
+        /// The machine's clock, in milliseconds.
+        reading: u64,
+        /// The machine.
+        machine: Actor,
+    },
+    /// `deliver READING NUMBER`: a packet arrives, again or for the first time.
+    Deliver {
+        /// The receiver's clock, in milliseconds.
+        reading: u64,
+        /// The packet's number, from 1 on.
+        number: u64,
+    },
+    /// `next READING FROM TO`: the least pending packet between two machines arrives.
+    Next {
+        /// The receiver's clock, in milliseconds.
+        reading: u64,
+        /// The sender.
+        from: Actor,
+        /// The receiver.
+        to: Actor,
+    },
+    /// `sync MACHINE`: the disk of a machine finishes a sync.
+    Sync {
+        /// The machine.
+        machine: Actor,
+    },
+    /// `hold FROM TO KIND`: from now on `run` passes over such packets.
+    Hold {
+        /// The sender.
+        from: Actor,
+        /// The receiver.
+        to: Actor,
+        /// The kind number, 1 to 24.
+        kind: u8,
+    },
+    /// `free FROM TO KIND`: from now on `run` passes over them no more.
+    Free {
+        /// The sender.
+        from: Actor,
+        /// The receiver.
+        to: Actor,
+        /// The kind number, 1 to 24.
+        kind: u8,
+    },
+    /// `drop FROM TO KIND`: those that are pending stop being pending.
+    Drop {
+        /// The sender.
+        from: Actor,
+        /// The receiver.
+        to: Actor,
+        /// The kind number, 1 to 24.
+        kind: u8,
+    },
+    /// `crash MACHINE NOISE`: a machine crashes, and its disk with it.
     Crash {
-        /// What the disks' unsure sectors hold afterwards: `keep`, `drop` or `seed:N`.
+        /// The machine.
+        machine: Actor,
+        /// What the disk's unsure sectors hold afterwards: `keep`, `drop` or `seed:N`.
         noise: Noise,
     },
-    /// `restart READING all`: every machine that is down starts again.
+    /// `crash all NOISE`: every machine that is up crashes, and its disk with it.
+    CrashAll {
+        /// What the disks' unsure sectors hold afterwards.
+        noise: Noise,
+    },
+    /// `restart READING MACHINE`: a machine that is down starts again.
     Restart {
+        /// Its clock, in milliseconds.
+        reading: u64,
+        /// The machine.
+        machine: Actor,
+    },
+    /// `restart READING all`: every machine that is down starts again.
+    RestartAll {
         /// The clock, in milliseconds.
         reading: u64,
     },
-    /// `tick READING nNODE`: the clock of a node ticks.
-    Tick {
-        /// The node's clock, in milliseconds.
-        reading: u64,
-        /// The node, 0 to 3.
-        node: u32,
+    /// `blank MACHINE`: the disk of a machine is replaced by a blank one.
+    Blank {
+        /// The machine.
+        machine: Actor,
     },
 }
 
@@ -114,21 +178,33 @@ impl Line {
         match self {
             Line::Call { reading, .. }
             | Line::Run { reading, .. }
-            | Line::Restart { reading }
-            | Line::Tick { reading, .. } => Some(*reading),
-            Line::Heading { .. } | Line::Crash { .. } => None,
+            | Line::Tick { reading, .. }
+            | Line::Deliver { reading, .. }
+            | Line::Next { reading, .. }
+            | Line::Restart { reading, .. }
+            | Line::RestartAll { reading } => Some(*reading),
+            Line::Heading { .. }
+            | Line::Sync { .. }
+            | Line::Hold { .. }
+            | Line::Free { .. }
+            | Line::Drop { .. }
+            | Line::Crash { .. }
+            | Line::CrashAll { .. }
+            | Line::Blank { .. } => None,
         }
     }
 
-    /// The node that has to hear the line; `None` exactly where none is named.
+    /// The node that has to hear the line, as a datagram arrives there or its clock ticks; `None` exactly where no node has to.
     pub fn node(&self) -> Option<u32>
         ensures { result ≡ node_of self.now }
     {
         match self {
-            Line::Call { node, .. } | Line::Tick { node, .. } => Some(*node),
-            Line::Heading { .. } | Line::Run { .. } | Line::Crash { .. } | Line::Restart { .. } => {
-                None
-            }
+            Line::Call { node, .. }
+            | Line::Tick {
+                machine: Actor::Node(node),
+                ..
+            } => Some(*node),
+            _ => None,
         }
     }
 }

@@ -1,19 +1,16 @@
 //! Reading a line of a schedule from left to right.
 
-ghost use Rattle.std.specs.Prelude.{◌≡◌, ◌<◌, ◌≤◌, ◌==◌, ◌-◌, ◌^◌, if◌then◌else◌, nat_lt, not, IsTrue, length, position, IfOk, IfSome};
+ghost use Rattle.std.specs.Prelude.{◌≡◌, not, IfOk};
 ghost use Rattle.std.specs.List.{list_all};
-ghost use Rattle.std.specs.Char.{is_ascii_digit, is_ascii_uppercase};
-ghost use Rattle.std.specs.Str.Parse.{digits_value};
-ghost use Rattle.bx_script.specs.Reading.{Gives, cut, call_fields_of, crash_of, number_at, datagram_of, heading_of, call_of, machines_line_of, node_named, noise_of, restart_of, run_of, seed_of, tick_of, is_numeral, line_of, number_of};
+ghost use Rattle.std.specs.Char.{is_ascii_uppercase};
+ghost use Rattle.bx_script.specs.Reading.{Gives, blank_of, call_fields_of, call_of, crash_of, datagram_of, deliver_of, drop_of, free_of, heading_of, hold_of, lane_of, line_of, machines_line_of, next_of, packets_line_of, restart_of, run_of, sync_of, tick_of};
 
-use crate::line::{
-    LAST_NODE, Line, MAX_AREAS, MAX_DATAGRAM, MAX_DEVICES, MAX_NODES, MAX_READING, MAX_RUN,
-};
-use bx_base::{OutOfMemory, Raw};
-use bx_disk::Noise;
+use crate::field::{cut, number, number_at, word, word_at};
+use crate::line::{Line, MAX_AREAS, MAX_DATAGRAM, MAX_DEVICES, MAX_NODES, MAX_READING, MAX_RUN};
+use crate::names::{kind, machine, noise};
+use bx_base::{Actor, OutOfMemory, Raw};
 use hex::FromHexError;
 use std::alloc::Global;
-use std::str;
 
 /// The line that a text spells.
 #[tactic(auto, unfolding(crate::specs::Reading::line_of))]
@@ -99,84 +96,158 @@ fn run(text: &[u8]) -> Option<Line>
     })
 }
 
-// The line of a word and a rest that says what machines do.
+// The line of a word and a rest that says what happens to machines.
 #[tactic(auto, unfolding(crate::specs::Reading::machines_line_of))]
 fn machines_line(word: &[u8], rest: &[u8]) -> Option<Line>
     ensures { result ≡ machines_line_of word.now rest.now }
 {
-    if word == b"crash".as_slice() {
+    if word == b"tick".as_slice() {
+        tick(rest)
+    } else if word == b"sync".as_slice() {
+        sync(rest)
+    } else if word == b"crash".as_slice() {
         crash(rest)
     } else if word == b"restart".as_slice() {
         restart(rest)
-    } else if word == b"tick".as_slice() {
-        tick(rest)
+    } else if word == b"blank".as_slice() {
+        blank(rest)
+    } else {
+        packets_line(word, rest)
+    }
+}
+
+// The line of a word and a rest that says what happens to packets.
+#[tactic(auto, unfolding(crate::specs::Reading::packets_line_of))]
+fn packets_line(word: &[u8], rest: &[u8]) -> Option<Line>
+    ensures { result ≡ packets_line_of word.now rest.now }
+{
+    if word == b"deliver".as_slice() {
+        deliver(rest)
+    } else if word == b"next".as_slice() {
+        next(rest)
+    } else if word == b"hold".as_slice() {
+        hold(rest)
+    } else if word == b"free".as_slice() {
+        free(rest)
+    } else if word == b"drop".as_slice() {
+        drop_line(rest)
     } else {
         None
     }
 }
 
-// `all NOISE`
+// `READING MACHINE`
+#[tactic(auto, unfolding(crate::specs::Reading::tick_of))]
+fn tick(text: &[u8]) -> Option<Line>
+    ensures { result ≡ tick_of text.now }
+{
+    let (reading, who) = number_at(text, MAX_READING)?;
+    let machine = machine(who)?;
+    Some(Line::Tick { reading, machine })
+}
+
+// `MACHINE`
+#[tactic(auto, unfolding(crate::specs::Reading::sync_of))]
+fn sync(text: &[u8]) -> Option<Line>
+    ensures { result ≡ sync_of text.now }
+{
+    let machine = machine(text)?;
+    Some(Line::Sync { machine })
+}
+
+// `MACHINE NOISE` or `all NOISE`
 #[tactic(auto, unfolding(crate::specs::Reading::crash_of))]
 fn crash(text: &[u8]) -> Option<Line>
     ensures { result ≡ crash_of text.now }
 {
     let (who, field) = cut(text)?;
     let noise = noise(field)?;
-    if who != b"all".as_slice() {
-        return None;
+    if who == b"all".as_slice() {
+        return Some(Line::CrashAll { noise });
     }
-    Some(Line::Crash { noise })
+    let machine = machine(who)?;
+    Some(Line::Crash { machine, noise })
 }
 
-// `keep`, `drop` or `seed:N`
-#[tactic(auto, unfolding(crate::specs::Reading::noise_of))]
-fn noise(field: &[u8]) -> Option<Noise>
-    ensures { result ≡ noise_of field.now }
-{
-    match field {
-        b"keep" => Some(Noise::Keep),
-        b"drop" => Some(Noise::Drop),
-        _ => seed(field),
-    }
-}
-
-// `seed:N`
-#[tactic(auto, unfolding(crate::specs::Reading::seed_of))]
-fn seed(field: &[u8]) -> Option<Noise>
-    ensures { result ≡ seed_of field.now }
-{
-    let digits = field.strip_prefix(b"seed:")?;
-    Some(Noise::Seed(number(digits, u64::MAX)?))
-}
-
-// `READING all`
+// `READING MACHINE` or `READING all`
 #[tactic(auto, unfolding(crate::specs::Reading::restart_of))]
 fn restart(text: &[u8]) -> Option<Line>
     ensures { result ≡ restart_of text.now }
 {
     let (reading, who) = number_at(text, MAX_READING)?;
-    if who != b"all".as_slice() {
-        return None;
+    if who == b"all".as_slice() {
+        return Some(Line::RestartAll { reading });
     }
-    Some(Line::Restart { reading })
+    let machine = machine(who)?;
+    Some(Line::Restart { reading, machine })
 }
 
-// `READING nNODE`
-#[tactic(auto, unfolding(crate::specs::Reading::tick_of))]
-fn tick(text: &[u8]) -> Option<Line>
-    ensures { result ≡ tick_of text.now }
+// `MACHINE`
+#[tactic(auto, unfolding(crate::specs::Reading::blank_of))]
+fn blank(text: &[u8]) -> Option<Line>
+    ensures { result ≡ blank_of text.now }
 {
-    let (reading, who) = number_at(text, MAX_READING)?;
-    let node = node(who)?;
-    Some(Line::Tick { reading, node })
+    let machine = machine(text)?;
+    Some(Line::Blank { machine })
 }
 
-// `nNODE`
-#[tactic(auto, unfolding(crate::specs::Reading::node_named))]
-fn node(field: &[u8]) -> Option<u32>
-    ensures { result ≡ node_named field.now }
+// `READING NUMBER`
+#[tactic(auto, unfolding(crate::specs::Reading::deliver_of))]
+fn deliver(text: &[u8]) -> Option<Line>
+    ensures { result ≡ deliver_of text.now }
 {
-    word(field.strip_prefix(b"n")?, LAST_NODE)
+    let (reading, digits) = number_at(text, MAX_READING)?;
+    let number = number(digits, u64::MAX)?;
+    Some(Line::Deliver { reading, number })
+}
+
+// `READING FROM TO`
+#[tactic(auto, unfolding(crate::specs::Reading::next_of))]
+fn next(text: &[u8]) -> Option<Line>
+    ensures { result ≡ next_of text.now }
+{
+    let (reading, rest) = number_at(text, MAX_READING)?;
+    let (from, to) = cut(rest)?;
+    let from = machine(from)?;
+    let to = machine(to)?;
+    Some(Line::Next { reading, from, to })
+}
+
+// `FROM TO KIND`
+#[tactic(auto, unfolding(crate::specs::Reading::lane_of))]
+fn lane(text: &[u8]) -> Option<(Actor, Actor, u8)>
+    ensures { result ≡ lane_of text.now }
+{
+    let (from, rest) = cut(text)?;
+    let (to, word) = cut(rest)?;
+    let from = machine(from)?;
+    let to = machine(to)?;
+    let kind = kind(word)?;
+    Some((from, to, kind))
+}
+
+#[tactic(auto, unfolding(crate::specs::Reading::hold_of))]
+fn hold(text: &[u8]) -> Option<Line>
+    ensures { result ≡ hold_of text.now }
+{
+    let (from, to, kind) = lane(text)?;
+    Some(Line::Hold { from, to, kind })
+}
+
+#[tactic(auto, unfolding(crate::specs::Reading::free_of))]
+fn free(text: &[u8]) -> Option<Line>
+    ensures { result ≡ free_of text.now }
+{
+    let (from, to, kind) = lane(text)?;
+    Some(Line::Free { from, to, kind })
+}
+
+#[tactic(auto, unfolding(crate::specs::Reading::drop_of))]
+fn drop_line(text: &[u8]) -> Option<Line>
+    ensures { result ≡ drop_of text.now }
+{
+    let (from, to, kind) = lane(text)?;
+    Some(Line::Drop { from, to, kind })
 }
 
 // The bytes that hex digits in lower case spell, at most `MAX_DATAGRAM`.
@@ -199,86 +270,4 @@ fn lacks_upper_case(text: &[u8]) -> bool
     ensures { result ≡ list_all (λ c. not (is_ascii_uppercase c)) text.now }
 {
     text.iter().all(|c| !c.is_ascii_uppercase())
-}
-
-// A number of 32 bits up to the most and a space, and the bytes after them.
-fn word_at(text: &[u8], most: u32) -> Option<(u32, &[u8])>
-    ensures { Gives (λ x. (x.0, x.1.now)) result (number_at most text.now) }
-{
-    let (number, rest) = number_at(text, u64::from(most))?;
-    Some((number as u32, rest))
-}
-
-// A number up to the most and a space, and the bytes after them.
-#[tactic(auto, unfolding(crate::specs::Reading::number_at))]
-fn number_at(text: &[u8], most: u64) -> Option<(u64, &[u8])>
-    ensures value { Gives (λ x. (x.0, x.1.now)) result (number_at most text.now) }
-    ensures within { IfSome result (λ x. x.0 ≤ most) }
-{
-    let (field, rest) = cut(text)?;
-    Some((number(field, most)?, rest))
-}
-
-// The number of 32 bits, up to the most, that a field spells.
-fn word(field: &[u8], most: u32) -> Option<u32>
-    ensures { result ≡ number_of most field.now }
-{
-    Some(number(field, u64::from(most))? as u32)
-}
-
-// The number that a field spells, up to the most.
-#[tactic(auto, unfolding(crate::specs::Reading::number_of))]
-fn number(field: &[u8], most: u64) -> Option<u64>
-    ensures value { result ≡ number_of most field.now }
-    ensures within { IfSome result (λ n. n ≤ most) }
-{
-    if !is_numeral(field) {
-        return None;
-    }
-    let number = digits(field)?;
-    if number <= most { Some(number) } else { None }
-}
-
-// The number that digits spell, where it has 64 bits.
-fn digits(field: &[u8]) -> Option<u64>
-    requires { IsTrue (is_numeral field.now) }
-    ensures { result ≡ (if nat_lt (digits_value 10 field.now) (2 ^ 64) then Some (digits_value 10 field.now) else None) }
-{
-    let Ok(text) = str::from_utf8(field) else {
-        return None;
-    };
-    text.parse().ok()
-}
-
-// Whether a field is a number without leading zeros.
-#[tactic(auto, unfolding(crate::specs::Reading::is_numeral))]
-fn is_numeral(field: &[u8]) -> bool
-    ensures { result ≡ is_numeral field.now }
-{
-    let leading_zero = field.len() > 1 && field[0] == b'0';
-    !field.is_empty() && !leading_zero && are_digits(field)
-}
-
-// Whether each byte is a decimal digit.
-fn are_digits(field: &[u8]) -> bool
-    ensures { result ≡ list_all is_ascii_digit field.now }
-{
-    field.iter().all(u8::is_ascii_digit)
-}
-
-// The bytes before the first space, and those after it.
-#[tactic(auto, unfolding(crate::specs::Reading::cut))]
-fn cut(text: &[u8]) -> Option<(&[u8], &[u8])>
-    ensures { Gives (λ x. (x.0.now, x.1.now)) result (cut text.now) }
-{
-    let at = space_at(text)?;
-    Some((&text[..at], &text[at + 1..]))
-}
-
-// Where the first space is.
-fn space_at(text: &[u8]) -> Option<usize>
-    ensures value { result ≡ position (λ c. c == 32) text.now }
-    ensures within { IfSome result (λ at. at < length text.now) }
-{
-    text.iter().position(|c| *c == b' ')
 }

@@ -1,6 +1,6 @@
 //! Lines of schedules and of traces.
 
-use bx_base::{OutOfMemory, Point, Raw, ReadError, u32_at, u64_at};
+use bx_base::{Actor, OutOfMemory, Point, Raw, ReadError, u32_at, u64_at};
 use bx_disk::Noise;
 use bx_script::{Line, TraceLine};
 use bx_tests_lines::Line as Answer;
@@ -46,16 +46,87 @@ fn tell_line(answer: &mut Answer, line: &Line) {
             answer.text("run");
             answer.numbers(&[*reading, u64::from(*limit)]);
         }
-        Line::Crash { noise } => tell_noise(answer, *noise),
-        Line::Restart { reading } => {
+        Line::CrashAll { noise } => tell_noise(answer, *noise),
+        Line::RestartAll { reading } => {
             answer.text("restart");
             answer.number(*reading);
         }
-        Line::Tick { reading, node } => {
-            answer.text("tick");
-            answer.numbers(&[*reading, u64::from(*node)]);
-        }
+        _ => tell_event(answer, line),
     }
+}
+
+/// Tells what happens to one machine, or to packets.
+fn tell_event(answer: &mut Answer, line: &Line) {
+    match line {
+        Line::Tick { reading, machine } => {
+            answer.text("tick");
+            answer.number(*reading);
+            tell_machine(answer, *machine);
+        }
+        Line::Deliver { reading, number } => {
+            answer.text("deliver");
+            answer.numbers(&[*reading, *number]);
+        }
+        Line::Next { reading, from, to } => {
+            answer.text("next");
+            answer.number(*reading);
+            tell_machine(answer, *from);
+            tell_machine(answer, *to);
+        }
+        Line::Hold { from, to, kind } => tell_lane(answer, "hold", *from, *to, *kind),
+        Line::Free { from, to, kind } => tell_lane(answer, "free", *from, *to, *kind),
+        Line::Drop { from, to, kind } => tell_lane(answer, "drop", *from, *to, *kind),
+        _ => tell_stop(answer, line),
+    }
+}
+
+/// Tells what happens to a machine that stops, starts, or whose disk finishes a sync or is replaced.
+fn tell_stop(answer: &mut Answer, line: &Line) {
+    match line {
+        Line::Sync { machine } => {
+            answer.text("sync");
+            tell_machine(answer, *machine);
+        }
+        Line::Crash { machine, noise } => {
+            tell_noise(answer, *noise);
+            tell_machine(answer, *machine);
+        }
+        Line::Restart { reading, machine } => {
+            answer.text("restart");
+            answer.number(*reading);
+            tell_machine(answer, *machine);
+        }
+        Line::Blank { machine } => {
+            answer.text("blank");
+            tell_machine(answer, *machine);
+        }
+        _ => answer.text("another"),
+    }
+}
+
+/// Tells the packets of one kind from a machine to another.
+fn tell_lane(answer: &mut Answer, word: &str, from: Actor, to: Actor, kind: u8) {
+    answer.text(word);
+    tell_machine(answer, from);
+    tell_machine(answer, to);
+    answer.number(u64::from(kind));
+}
+
+/// Tells a machine.
+fn tell_machine(answer: &mut Answer, machine: Actor) {
+    match machine {
+        Actor::Node(number) => tell_named(answer, "node", number),
+        Actor::Replica(number) => tell_named(answer, "replica", number),
+        Actor::Server(number) => tell_named(answer, "server", number),
+        Actor::Member(number) => tell_named(answer, "member", number),
+    }
+}
+
+/// Tells a space, a word and a number.
+fn tell_named(answer: &mut Answer, word: &str, number: u32) {
+    answer.text(" ");
+    answer.text(word);
+    answer.number(u64::from(number));
 }
 
 /// Tells a crash.

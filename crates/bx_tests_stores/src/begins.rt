@@ -1,9 +1,8 @@
 //! A cluster on one machine, as it begins.
 
 use bx_disk::Rack;
-use bx_facts::Store;
+use bx_facts::{Owners, Store};
 use bx_memory_rack::MemRack;
-use bx_owners::Owners;
 use bx_plain_parts::{PlainParts, Shape};
 use std::test::Fail;
 

@@ -3,8 +3,7 @@
 ghost use Rattle.std.specs.Prelude.{◌≡◌, IsSome, None};
 
 use bx_base::{Mode, OutOfMemory};
-use bx_facts::Outbox;
-use bx_owners::Owners;
+use bx_facts::{Outbox, Owners};
 use bx_plain::PlainOwners;
 use std::alloc::Global;
 use std::test::Fail;

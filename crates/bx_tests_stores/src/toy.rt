@@ -11,9 +11,8 @@ ghost use Rattle.bx_tests_stores.specs.Together.{Follows, Heard, MayStep, Offers
 
 use bx_base::Actor;
 use bx_disk::Rack;
-use bx_facts::{FactError, Input, Outbox, ProposeError, Register, Store};
+use bx_facts::{FactError, Input, Outbox, Owners, ProposeError, Register, Store};
 use bx_global::Change;
-use bx_owners::Owners;
 
 /// Proposes a change that is asked for, unless it isn't legal any more or another of the machine is out.
 fn propose<G: Register>(

@@ -8,15 +8,17 @@ use Rattle.bx_desk.proofs.Going.{desk_opened}
 use Rattle.bx_history.specs.Account.{AwaitsNewest}
 use Rattle.bx_history.specs.Parts.{waiting}
 use Rattle.bx_history.specs.Trace.{Entry}
-use Rattle.bx_node_rounds.specs.Rounds.{NoneWaits, acting_in}
+use Rattle.bx_node_calls.specs.Turns.{acting_in}
+use Rattle.bx_node_calls.specs.Waits.{NoneWaits}
 use Rattle.bx_node_steps.specs.Calls.{Acting, IsThat, WaitsAt, acting_of, call_written, point_in}
 use Rattle.bx_node_steps.specs.declared.machine.Machine.{Machine}
 use Rattle.bx_node_tries.specs.declared.round.Waiting.{Waiting}
-use Rattle.bx_world.specs.Led.{AreDesks, AreLeft, rules}
+use Rattle.bx_cluster.specs.Runs.{rules}
+use Rattle.bx_world.specs.Led.{AreDesks, AreLeft}
 use Rattle.bx_world.specs.Outcomes.{empty_desks}
 
-pub accounts_none : {Tree : Type 0} (Step : Tree → Entry → Tree → Type 0) (first : Tree) → AwaitsNewest Step rules first [] [] first (waiting [])
-accounts_none Step first = record {
+pub accounts_none : {Tree : Type 0} (Step : Tree → Entry → Tree → Type 0) (AtOnce : List ℕ → Type 0) (first : Tree) → AwaitsNewest Step (rules AtOnce) first [] [] first (waiting [])
+accounts_none Step AtOnce first = record {
   fits = refl;
   leads = refl;
   placed = tt;
@@ -57,7 +59,7 @@ acts_of None point acts is = absurd cc
 acts_of (Some call) None acts is = absurd cc
 acts_of (Some call) (Some point) acts is = cc
 
-acts_waits : (found : Option Machine) (acts : Acting) → acting_in found ≡ Some acts → IsSomeAnd found (λ m. WaitsAt m acts.call)
+pub acts_waits : (found : Option Machine) (acts : Acting) → acting_in found ≡ Some acts → IsSomeAnd found (λ m. WaitsAt m acts.call)
 acts_waits None acts is = absurd cc
 acts_waits (Some machine) acts is = inr (acts_of (call_written machine.stage) (point_in machine.log.work) acts is)
 

@@ -8,9 +8,9 @@ use Rattle.bx_desk.specs.Desks.{AtDesk}
 use Rattle.bx_disk.specs.Disks.{Disks}
 use Rattle.bx_facts.specs.declared.register.Register as register
 use Rattle.bx_facts.specs.declared.store.Store as store
-use Rattle.bx_node_rounds.specs.Rounds.{Rounded}
+use Rattle.bx_node_calls.specs.Turns.{Rounded}
 use Rattle.bx_node_tries.specs.declared.round.Said.{Said}
-use Rattle.bx_owners.specs.declared.owners.Owners as owners
+use Rattle.bx_facts.specs.declared.owners.Owners as owners
 use Rattle.bx_post.specs.declared.packets.Letter.{Letter}
 use Rattle.bx_post.specs.Posts.{fresh}
 use Rattle.bx_views.specs.declared.engine.Engine as engine
@@ -40,15 +40,16 @@ module _ {G O S E T : Type 0} (g : register.Ghosts G) (o : owners.Ghosts O) (st 
 
   -- a node had its turn
   module _ (reading node : ℕ) (x : Disks) (said : List Said) (box out : List Letter) (outcome : Outcome) (ends : EndsSaid (Node node) said out old.post new.post old.desks.items new.desks.items outcome) (empty : box ≡ []) where
-    pub turns_then : Answered (Some reading) (Node node) old.machines.nodes.machines.items heard.nodes.machines.items said → heard.latest ≡ old.machines.latest
+    pub turns_then : Answered (Some reading) (Node node) old.machines.nodes.machines.items heard.nodes.machines.items said → heard.latest ≡ old.machines.latest → heard.nodes.engine ≡ old.machines.nodes.engine
         → ((tree : T) → machines.Standing g o st e old.machines (letters_in old.post ++ box) x tree → Rounded e old.machines.nodes.engine (machines.Standing g o st e heard (letters_in old.post ++ out) x) tree said)
         → Turns g o st e reading node old new x outcome
-    turns_then answers latest leads = record {
+    turns_then answers latest engine leads = record {
       said = said;
       outcome_is = ends.outcome_is;
       answers = subst (λ (m : Machines G O S E T). Answered (Some reading) (Node node) old.machines.nodes.machines.items m.nodes.machines.items said) (sym same) answers;
       desks = ends.desks;
       latest = ap (λ (m : Machines G O S E T). m.latest) same ∙ latest;
+      engine = ap (λ (m : Machines G O S E T). m.nodes.engine) same ∙ engine;
       leads = λ tree. leads_then x said box out ends.post empty tree (leads tree);
     }
 

@@ -14,12 +14,12 @@ use Rattle.bx_facts.specs.declared.input.FactError.{FactError}
 use Rattle.bx_facts.specs.declared.input.FactError.TheVariants.{Disk, OutOfMemory}
 use Rattle.bx_facts.specs.declared.register.Register as register
 use Rattle.bx_facts.specs.declared.store.Store as store
-use Rattle.bx_node_rounds.specs.Rounds.{Rounded}
+use Rattle.bx_node_calls.specs.Turns.{Rounded}
 use Rattle.bx_node_steps.specs.declared.machine.Machine.{Machine}
 use Rattle.bx_node_tries.specs.declared.round.Said.{Said}
 use Rattle.bx_nodes.proofs.Machines.{if_ok_so}
 use Rattle.bx_nodes.specs.Stopping.{Empties}
-use Rattle.bx_owners.specs.declared.owners.Owners as owners
+use Rattle.bx_facts.specs.declared.owners.Owners as owners
 use Rattle.bx_post.specs.declared.packets.Letter.{Letter}
 use Rattle.bx_post.specs.Posts.{Posted, fresh}
 use Rattle.bx_views.specs.declared.engine.Engine as engine
@@ -115,15 +115,17 @@ module _ {G O S E T : Type 0} (g : register.Ghosts G) (o : owners.Ghosts O) (st 
     }
 
     pub says_then : (reading : Option ℕ) (Tells : Type 0) (x y : Disks) (box : List Letter) → IsBy (length old.desks.items) at said → letters_in middle ≡ letters_in old.post → box ≡ []
-        → Answered reading at old.machines.nodes.machines.items heard.nodes.machines.items said
+        → Answered reading at old.machines.nodes.machines.items heard.nodes.machines.items said → heard.latest ≡ old.machines.latest → heard.nodes.engine ≡ old.machines.nodes.engine
         → (Tells → (tree : T) → machines.Standing g o st e old.machines (letters_in old.post ++ box) x tree → Rounded e old.machines.nodes.engine (machines.Standing g o st e heard (letters_in old.post ++ out) y) tree said)
         → Says g o st e reading at old new Tells x y outcome
-    says_then reading Tells x y box by letters empty answers leads = record {
+    says_then reading Tells x y box by letters empty answers latest engine leads = record {
       said = said;
       by = by;
       outcome_is = ends.outcome_is;
       answers = subst (λ (m : Machines G O S E T). Answered reading at old.machines.nodes.machines.items m.nodes.machines.items said) (sym same) answers;
       desks = ends.desks;
+      latest = ap (λ (m : Machines G O S E T). m.latest) same ∙ latest;
+      engine = ap (λ (m : Machines G O S E T). m.nodes.engine) same ∙ engine;
       leads = λ tells tree standing.
           let rounded = leads tells tree (subst (λ (l : List Letter). machines.Standing g o st e old.machines l x tree) (sym (ap (λ (l : List Letter). letters_in old.post ++ l) empty ∙ append-nil (letters_in old.post))) standing) in
           record {
@@ -155,12 +157,14 @@ module _ {G O S E T : Type 0} (g : register.Ghosts G) (o : owners.Ghosts O) (st 
       counted = subst (λ (m : Machines G O S E T). m.latest ≤ new.events) (sym same) less;
     }
 
-    pub stops_then : (Tells : Type 0) (x y : Disks) (box : List Letter) → letters_in middle ≡ letters_in old.post → box ≡ [] → Empties at old.machines.nodes.machines.items heard.nodes.machines.items
+    pub stops_then : (Tells : Type 0) (x y : Disks) (box : List Letter) → letters_in middle ≡ letters_in old.post → box ≡ [] → Empties at old.machines.nodes.machines.items heard.nodes.machines.items → heard.latest ≡ old.machines.latest → heard.nodes.engine ≡ old.machines.nodes.engine
         → (Tells → (tree : T) → machines.Standing g o st e old.machines (letters_in old.post ++ box) x tree → machines.Standing g o st e heard (letters_in old.post ++ box) y tree) → Stops g o st e at old new Tells x y outcome
-    stops_then Tells x y box letters empty empties stands = record {
+    stops_then Tells x y box letters empty empties latest engine stands = record {
       outcome_is = ends.outcome_is;
       empties = subst (λ (m : Machines G O S E T). Empties at old.machines.nodes.machines.items m.nodes.machines.items) (sym same) empties;
       desks = ends.desks;
+      latest = ap (λ (m : Machines G O S E T). m.latest) same ∙ latest;
+      engine = ap (λ (m : Machines G O S E T). m.nodes.engine) same ∙ engine;
       stands = λ tells tree standing.
           let none : letters_in old.post ++ box ≡ letters_in old.post = ap (λ (l : List Letter). letters_in old.post ++ l) empty ∙ append-nil (letters_in old.post) in
           subst (λ (m : Machines G O S E T). machines.Standing g o st e m (letters_in new.post) y tree) (sym same)

@@ -1,60 +1,30 @@
--- How the parts of a run go on where a machine stops.
+-- How the parts of a run go on where a machine stops, or starts again.
 use Rattle.std.proofs.Common.{◌≡◌, ◌≢◌, ◌∙◌, ℕ, zero, suc, Bool, true, false, List, [], ◌∷◌, Option, None, Some, IfSome, IsSomeAnd, inr, refl, sym, ap, subst, arith}
 use Rattle.std.specs.Prelude.{◌↔◌, if◌then◌else◌, slice_get, slice_set}
-use Rattle.std.specs.List.{AllByRecursion}
 use Rattle.std.proofs.lemmas.Bool.Decides.{nat_tests}
 use Rattle.bx_base.specs.declared.names.Actor.{Actor}
 use Rattle.bx_base.specs.declared.names.Actor.TheVariants.{Member, Node, Replica, Server}
-use Rattle.bx_cluster.specs.Steps.{ends_one}
+use Rattle.bx_history.specs.Along.{ends_one, none_ends}
 use Rattle.bx_desk.specs.Desks.{AtDesk, empty_desk}
 use Rattle.bx_desk.specs.Nodes.{IsDeskOf}
 use Rattle.bx_desk.proofs.Going.{desk_opened, desk_stays}
-use Rattle.bx_history.specs.Account.{AreNewestFirst, AwaitsNewest, IsPending, IsSplit, answers_at}
-use Rattle.bx_history.specs.Parts.{Part, trace_of, trace_since, unanswered, waiting}
+use Rattle.bx_history.specs.Parts.{Part, trace_since, unanswered, waiting}
 use Rattle.bx_history.specs.Placed.{HasReadingSince}
-use Rattle.bx_history.specs.Trace.{Entry, IsIn, kept_answers}
-use Rattle.bx_node_rounds.specs.Rounds.{Waits, acting_at, acting_in}
+use Rattle.bx_history.specs.Trace.{IsIn, kept_answers}
+use Rattle.bx_node_calls.specs.Turns.{acting_at, acting_in}
+use Rattle.bx_node_calls.specs.Waits.{Waits}
 use Rattle.bx_node_steps.specs.Calls.{Acting, CallOf, WaitsAt, under_way}
 use Rattle.bx_node_steps.specs.declared.machine.Machine.{Machine}
 use Rattle.bx_nodes.specs.Stopping.{Empties, HasNothing}
 use Rattle.bx_nodes.proofs.Calling.{none_wait}
 use Rattle.bx_nodes.proofs.Emptied.{emptied}
-use Rattle.bx_world.specs.Led.{AreDesks, AreLeft, rules, taking_as}
+use Rattle.bx_world.specs.Led.{AreDesks, AreLeft, taking_as}
 use Rattle.bx_world.specs.Outcomes as outcomes
 use Rattle.bx_world.specs.Outcomes.{desks_without}
-
--- ---- some nodes end
 
 -- a part in which these nodes end, and nothing else happens
 abbrev pub ending : Option ℕ → (ℕ → Bool) → Part
 ending reading ends = record { what = record { arrives = None; reading = reading; ends = ends; runs = false }; lines = [] }
-
-module _ {Tree : Type 0} (Step : Tree → Entry → Tree → Type 0) (first : Tree) (parts : List Part) (history : List Entry) (last : Tree) (reading : Option ℕ) (ends : ℕ → Bool) (so_far : AwaitsNewest Step rules first parts history last (waiting parts)) where
-  pending_then : (node : ℕ) (b : Bool) → AllByRecursion (IsPending (trace_of parts) node) (unanswered (if b then [] else trace_since parts node) node)
-  pending_then node true = tt
-  pending_then node false = so_far.pending node
-
-  order_then : (node : ℕ) (b : Bool) → AreNewestFirst (unanswered (if b then [] else trace_since parts node) node)
-  order_then node true = tt
-  order_then node false = so_far.in_order node
-
-  split_then : (node : ℕ) (b : Bool) → IsSplit (answers_at (trace_of parts) node) (answers_at (if b then [] else trace_since parts node) node)
-  split_then node true = record { before = answers_at (trace_of parts) node; whole = refl }
-  split_then node false = so_far.split node
-
-  pub accounts_ended : AwaitsNewest Step rules first (ending reading ends ∷ parts) history last (waiting (ending reading ends ∷ parts))
-  accounts_ended = record {
-    fits = so_far.fits;
-    leads = so_far.leads;
-    placed = (
-      record { takes = refl; repeats = refl; immediate = tt; prompt = λ is. absurd cc; moments = tt },
-      so_far.placed,
-    );
-    waiting_are = λ node. refl;
-    pending = λ node. pending_then node (ends node);
-    in_order = λ node. order_then node (ends node);
-    split = λ node. split_then node (ends node);
-  }
 
 -- ---- which nodes those are
 
@@ -88,12 +58,12 @@ module _ (parts : List Part) (reading : Option ℕ) (ends : ℕ → Bool) (node 
   pub desk_on : (desk : AtDesk) → ends node ≡ false → IsDeskOf node parts desk → IsDeskOf node (ending reading ends ∷ parts) desk
   desk_on desk is was = desk_stays node parts (ending reading ends ∷ parts) desk was (waits_stay is) (ap (λ (b : Bool). kept_answers 256 (if b then [] else trace_since parts node) node) is)
 
-set_here : (items : List AtDesk) (i : ℕ) (after before : AtDesk) → slice_get items i ≡ Some before → slice_get (slice_set items i after) i ≡ Some after
+pub set_here : (items : List AtDesk) (i : ℕ) (after before : AtDesk) → slice_get items i ≡ Some before → slice_get (slice_set items i after) i ≡ Some after
 set_here [] i after before is = absurd cc
 set_here (one ∷ items) zero after before is = refl
 set_here (one ∷ items) (suc i) after before is = set_here items i after before is
 
-set_there : (items : List AtDesk) (i other : ℕ) (after : AtDesk) → other ≢ i → slice_get (slice_set items i after) other ≡ slice_get items other
+pub set_there : (items : List AtDesk) (i other : ℕ) (after : AtDesk) → other ≢ i → slice_get (slice_set items i after) other ≡ slice_get items other
 set_there [] i other after ne = refl
 set_there (one ∷ items) zero zero after ne = absurd (ne refl)
 set_there (one ∷ items) zero (suc other) after ne = refl
@@ -119,15 +89,15 @@ others_same (Replica n) desks node ne = refl
 others_same (Server n) desks node ne = refl
 others_same (Member n) desks node ne = refl
 
-pub desks_ended : (who : Actor) (desks : List AtDesk) (parts : List Part) (reading : Option ℕ) → AreDesks desks parts → AreDesks (desks_without who desks) (ending reading (ends_one who) ∷ parts)
-desks_ended who desks parts reading are node desk there = by (ends_one who node) refl
+pub desks_ended : (who : Actor) (desks : List AtDesk) (parts : List Part) (reading : Option ℕ) (ends : ℕ → Bool) → ((node : ℕ) → ends node ≡ ends_one who node) → AreDesks desks parts → AreDesks (desks_without who desks) (ending reading ends ∷ parts)
+desks_ended who desks parts reading ends same are node desk there = by (ends_one who node) refl
   where
-    by : (b : Bool) → ends_one who node ≡ b → IsDeskOf node (ending reading (ends_one who) ∷ parts) desk
+    by : (b : Bool) → ends_one who node ≡ b → IsDeskOf node (ending reading ends ∷ parts) desk
     by true is =
         let it = ends_is who node is in
         let empty = desk_empty desks node (slice_get desks node) refl desk (subst (λ (w : Actor). slice_get (desks_without w desks) node ≡ Some desk) it there) in
-        subst (λ (d : AtDesk). IsDeskOf node (ending reading (ends_one who) ∷ parts) d) (sym empty) (desk_ended parts reading (ends_one who) node is)
-    by false is = desk_on parts reading (ends_one who) node desk is (are node desk (sym (others_same who desks node (ends_not who node is)) ∙ there))
+        subst (λ (d : AtDesk). IsDeskOf node (ending reading ends ∷ parts) d) (sym empty) (desk_ended parts reading ends node (same node ∙ is))
+    by false is = desk_on parts reading ends node desk (same node ∙ is) (are node desk (sym (others_same who desks node (ends_not who node is)) ∙ there))
 
 -- ---- what waits, and what is written
 
@@ -157,25 +127,51 @@ module _ (who : Actor) (old new : List Machine) (empties : Empties who old new) 
       (emptied who old new empties node (λ m. Unit {0}) (λ m. under_way m ≡ Some acts → ⊥) (λ ne machine was. absurd (ne it)) (λ same before after was has. idle_acts before.cache.devices before.cache.areas after acts has) (it_is (slice_get old node)))
       (acts_in (slice_get new node) acts is) (λ one none a. none a)
 
-pub left_ended : (who : Actor) (old new : List Machine) (parts : List Part) (reading : Option ℕ) → Empties who old new → AreLeft old parts → AreLeft new (ending reading (ends_one who) ∷ parts)
-left_ended who old new parts reading empties left = record { waits = waits; acting = acting }
+pub left_ended : (who : Actor) (old new : List Machine) (parts : List Part) (reading : Option ℕ) (ends : ℕ → Bool) → ((node : ℕ) → ends node ≡ ends_one who node) → Empties who old new → AreLeft old parts → AreLeft new (ending reading ends ∷ parts)
+left_ended who old new parts reading ends ends_so empties left = record { waits = waits; acting = acting }
   where
     same : (node : ℕ) → ends_one who node ≡ false → slice_get new node ≡ slice_get old node
     same node is = empties.others node (ends_not who node is)
 
-    waits : (node : ℕ) (call : CallOf) → Waits new node call ↔ IsIn (taking_as node call) (waiting (ending reading (ends_one who) ∷ parts) node)
+    waits : (node : ℕ) (call : CallOf) → Waits new node call ↔ IsIn (taking_as node call) (waiting (ending reading ends ∷ parts) node)
     waits node call = by (ends_one who node) refl
       where
-        by : (b : Bool) → ends_one who node ≡ b → Waits new node call ↔ IsIn (taking_as node call) (waiting (ending reading (ends_one who) ∷ parts) node)
-        by true is = (λ w. absurd (none_waits who old new empties node (ends_is who node is) call w), λ there. absurd (subst (IsIn (taking_as node call)) (waits_ended parts reading (ends_one who) node is) there))
+        by : (b : Bool) → ends_one who node ≡ b → Waits new node call ↔ IsIn (taking_as node call) (waiting (ending reading ends ∷ parts) node)
+        by true is = (λ w. absurd (none_waits who old new empties node (ends_is who node is) call w), λ there. absurd (subst (IsIn (taking_as node call)) (waits_ended parts reading ends node (ends_so node ∙ is)) there))
         by false is = (
-          λ w. subst (IsIn (taking_as node call)) (sym (waits_stay parts reading (ends_one who) node is)) ((left.waits node call).0 (subst (λ f. IsSomeAnd f (λ m. WaitsAt m call)) (same node is) w)),
-          λ there. subst (λ f. IsSomeAnd f (λ m. WaitsAt m call)) (sym (same node is)) ((left.waits node call).1 (subst (IsIn (taking_as node call)) (waits_stay parts reading (ends_one who) node is) there)),
+          λ w. subst (IsIn (taking_as node call)) (sym (waits_stay parts reading ends node (ends_so node ∙ is))) ((left.waits node call).0 (subst (λ f. IsSomeAnd f (λ m. WaitsAt m call)) (same node is) w)),
+          λ there. subst (λ f. IsSomeAnd f (λ m. WaitsAt m call)) (sym (same node is)) ((left.waits node call).1 (subst (IsIn (taking_as node call)) (waits_stay parts reading ends node (ends_so node ∙ is)) there)),
         )
 
-    acting : (node : ℕ) (acts : Acting) → acting_at new node ≡ Some acts → (acts.point.call ≡ acts.call.number) × HasReadingSince acts.call.number acts.point.moment (ending reading (ends_one who) ∷ parts)
+    acting : (node : ℕ) (acts : Acting) → acting_at new node ≡ Some acts → (acts.point.call ≡ acts.call.number) × HasReadingSince acts.call.number acts.point.moment (ending reading ends ∷ parts)
     acting node acts is = by (ends_one who node) refl
       where
-        by : (b : Bool) → ends_one who node ≡ b → (acts.point.call ≡ acts.call.number) × HasReadingSince acts.call.number acts.point.moment (ending reading (ends_one who) ∷ parts)
+        by : (b : Bool) → ends_one who node ≡ b → (acts.point.call ≡ acts.call.number) × HasReadingSince acts.call.number acts.point.moment (ending reading ends ∷ parts)
         by true ended = absurd (none_acts who old new empties node (ends_is who node ended) acts is)
+        by false on = let was = left.acting node acts (sym (ap acting_in (same node on)) ∙ is) in (was.0, inr (refl, was.1))
+
+-- ---- a machine starts again
+
+-- no call waited at it, and none does; all else is as it was
+pub left_started : (who : Actor) (old new : List Machine) (parts : List Part) (reading : Option ℕ) → ((node : ℕ) (call : CallOf) → who ≡ Node node → Waits old node call → ⊥) → Empties who old new → AreLeft old parts → AreLeft new (ending reading none_ends ∷ parts)
+left_started who old new parts reading quiet empties left = record { waits = waits; acting = acting }
+  where
+    same : (node : ℕ) → ends_one who node ≡ false → slice_get new node ≡ slice_get old node
+    same node is = empties.others node (ends_not who node is)
+
+    waits : (node : ℕ) (call : CallOf) → Waits new node call ↔ IsIn (taking_as node call) (waiting (ending reading none_ends ∷ parts) node)
+    waits node call = by (ends_one who node) refl
+      where
+        by : (b : Bool) → ends_one who node ≡ b → Waits new node call ↔ IsIn (taking_as node call) (waiting (ending reading none_ends ∷ parts) node)
+        by true is = (λ w. absurd (none_waits who old new empties node (ends_is who node is) call w), λ there. absurd (quiet node call (ends_is who node is) ((left.waits node call).1 there)))
+        by false is = (
+          λ w. (left.waits node call).0 (subst (λ f. IsSomeAnd f (λ m. WaitsAt m call)) (same node is) w),
+          λ there. subst (λ f. IsSomeAnd f (λ m. WaitsAt m call)) (sym (same node is)) ((left.waits node call).1 there),
+        )
+
+    acting : (node : ℕ) (acts : Acting) → acting_at new node ≡ Some acts → (acts.point.call ≡ acts.call.number) × HasReadingSince acts.call.number acts.point.moment (ending reading none_ends ∷ parts)
+    acting node acts is = by (ends_one who node) refl
+      where
+        by : (b : Bool) → ends_one who node ≡ b → (acts.point.call ≡ acts.call.number) × HasReadingSince acts.call.number acts.point.moment (ending reading none_ends ∷ parts)
+        by true started = absurd (none_acts who old new empties node (ends_is who node started) acts is)
         by false on = let was = left.acting node acts (sym (ap acting_in (same node on)) ∙ is) in (was.0, inr (refl, was.1))

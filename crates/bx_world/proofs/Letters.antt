@@ -9,7 +9,7 @@ use Rattle.bx_node_steps.specs.Seen.{seen}
 use Rattle.bx_nodes.specs.bx_node_events.proofs.Decided.{lettered}
 use Rattle.bx_nodes.specs.bx_node_events.proofs.Faulted.{lost}
 use Rattle.bx_nodes.specs.bx_node_events.proofs.Registered.{HandedLaws}
-use Rattle.bx_owners.specs.declared.owners.Owners as owners
+use Rattle.bx_facts.specs.declared.owners.Owners as owners
 use Rattle.bx_post.specs.declared.packets.Letter.{Letter}
 use Rattle.bx_post.specs.declared.packets.Packet.{Packet}
 use Rattle.bx_post.specs.Posts.{Posted, fresh, is_waiting, letter_of, numbered, packet_from, settled_from}
@@ -65,4 +65,5 @@ stands_fewer g o st e laws machines letters fewer x tree among standing = let no
   are_clocks = standing.are_clocks;
   stands = lost g o st (e.stands nodes.engine) (e.step nodes.engine) laws nodes.register nodes.owners nodes.store x letters fewer standing.clocks (seen nodes.machines.items) standing.course tree standing.stands among;
   told = standing.told;
+  known = standing.known;
 }

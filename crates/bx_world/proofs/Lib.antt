@@ -3,4 +3,10 @@ pub mod CallsThen
 pub mod Ending
 pub mod Leading
 pub mod Letters
+pub mod Restarting
+pub mod Shown
 pub mod Telling
+pub mod Saying
+pub mod Leads
+pub mod LedOn
+pub mod LedCalls

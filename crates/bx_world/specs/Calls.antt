@@ -1,22 +1,22 @@
 -- What comes of a datagram that arrives at a node.
-use Rattle.std.specs.Prelude.{◌≡◌, ◌⊎◌, ℕ, ◌+◌, nat_le, true, false, List, length, option_map, slice_get, slice_set, Option, None, Some}
+use Rattle.std.specs.Prelude.{◌≡◌, ◌⊎◌, ℕ, ◌+◌, max, nat_le, true, false, List, length, slice_get, slice_set, None, Some}
 use Rattle.std.specs.List.{list_any}
 use Rattle.bx_base.specs.declared.names.Actor.TheVariants.{Node}
 use Rattle.bx_cluster.specs.declared.outcome.Outcome.{Outcome}
-use Rattle.bx_cluster.specs.declared.outcome.ReplyOut.{ReplyOut}
 use Rattle.bx_desk.specs.Desks.{AtDesk, is_from, with_call}
 use Rattle.bx_desk.specs.declared.desk.Asked.{Asked}
 use Rattle.bx_disk.specs.Disks.{Disks}
 use Rattle.bx_facts.specs.declared.register.Register as register
 use Rattle.bx_facts.specs.declared.store.Store as store
-use Rattle.bx_node_rounds.specs.Rounds.{Rounded}
+use Rattle.bx_node_calls.specs.Turns.{Rounded}
+use Rattle.bx_node_steps.specs.Calls.{IsAnswered}
 use Rattle.bx_node_tries.specs.declared.round.Said.{Said}
 use Rattle.bx_node_tries.specs.declared.round.Waiting.{Waiting}
-use Rattle.bx_owners.specs.declared.owners.Owners as owners
+use Rattle.bx_facts.specs.declared.owners.Owners as owners
 use Rattle.bx_replies.specs.Answers.{IsApart, reply_of}
 use Rattle.bx_rpc.specs.Message.{is_message}
 use Rattle.bx_views.specs.declared.engine.Engine as engine
-use Rattle.bx_world.specs.Outcomes.{desks_said, outcome_said}
+use Rattle.bx_world.specs.Outcomes.{desks_said, nothing, outcome_said}
 use Rattle.bx_world.specs.World.{Standing}
 use Rattle.bx_world.specs.declared.calls.Heard.{Heard}
 use Rattle.bx_world.specs.declared.calls.Heard.TheVariants.{New, Again, Passed}
@@ -50,13 +50,8 @@ Hears desk client bytes (New message) = (message ≡ bytes) × IsNewTo desk clie
 Hears desk client bytes (Again reply) = IsKeptAt desk client bytes reply
 Hears desk client bytes Passed = IsPassed desk client bytes
 
--- the kept answer that is sent again, or none, where it isn't taken
-abbrev pub IsLeft : AtDesk → ℕ → List ℕ → Option (List ℕ) → Type 0
-IsLeft desk client bytes None = IsPassed desk client bytes
-IsLeft desk client bytes (Some reply) = IsKeptAt desk client bytes reply
-
-abbrev pub again_to : ℕ → ℕ → List ℕ → ReplyOut
-again_to node client reply = record { call = 0; node = node; client = client; bytes = reply }
+abbrev pub sent_again : ℕ → ℕ → List ℕ → Outcome
+sent_again node client reply = record nothing { again = Some (record { call = 0; node = node; client = client; bytes = reply }) }
 
 -- a call that waits, on a desk
 abbrev pub asked_of : Waiting → Asked
@@ -72,9 +67,10 @@ module _ {G O S E T : Type 0} (g : register.Ghosts G) (o : owners.Ghosts O) (st 
     pub answers : Answered (Some reading) (Node node) old.machines.nodes.machines.items new.machines.nodes.machines.items said
     pub desks : new.desks.items ≡ desks_said (Node node) said old.desks.items
     pub latest : new.machines.latest ≡ old.machines.latest
+    pub engine : new.machines.nodes.engine ≡ old.machines.nodes.engine
     pub leads : (tree : T) → Standing g o st e old x tree → Rounded e old.machines.nodes.engine (Standing g o st e new x) tree said
 
-  -- A call was taken, with the next number: it waits on the desk, and the node had its turn then.
+  -- A call was taken, with the next number: it waits on the desk, and the node had its turn then, in which it is answered if it touches no block.
   pub record Takes (reading node client : ℕ) (bytes : List ℕ) (old new : World G O S E T) (x : Disks) (outcome : Outcome) : Type 0 where
     pub call : Waiting
     pub number : call.number ≡ old.machines.latest + 1
@@ -85,21 +81,31 @@ module _ {G O S E T : Type 0} (g : register.Ghosts G) (o : owners.Ghosts O) (st 
     pub said : List Said
     pub outcome_is : outcome ≡ record (outcome_said (Node node) said) { took = Some call.number }
     pub answers : Called reading node call old.machines.nodes.machines.items new.machines.nodes.machines.items said
+    pub at_once : e.at_once old.machines.nodes.engine call.message → IsAnswered said call.number
     pub desks : new.desks.items ≡ desks_said (Node node) said (slice_set old.desks.items node (with_call desk (asked_of call)))
     pub latest : new.machines.latest ≡ call.number
+    pub engine : new.machines.nodes.engine ≡ old.machines.nodes.engine
     pub leads : (tree : T) → Standing g o st e old x tree → Rounded e old.machines.nodes.engine (Standing g o st e new x) tree said
 
-  -- It isn't taken: a kept answer may be sent again; and the node had its turn.
-  pub record Leaves (reading node client : ℕ) (bytes : List ℕ) (old new : World G O S E T) (x : Disks) (outcome : Outcome) : Type 0 where
+  -- It isn't taken, and nothing is sent again: the node had its turn.
+  pub record Passes (reading node client : ℕ) (bytes : List ℕ) (old new : World G O S E T) (x : Disks) (outcome : Outcome) : Type 0 where
     pub desk : AtDesk
     pub there : slice_get old.desks.items node ≡ Some desk
-    pub again : Option (List ℕ)
-    pub is_left : IsLeft desk client bytes again
-    pub turned : Outcome
-    pub turns : Turns reading node old new x turned
-    pub outcome_is : outcome ≡ record turned { again = option_map (again_to node client) again }
+    pub passed : IsPassed desk client bytes
+    pub turns : Turns reading node old new x outcome
 
-  -- A call is taken exactly where it is new to the desk of its node.
+  -- A kept answer is sent again, and nothing else happens.
+  pub record Repeats (reading node client : ℕ) (bytes : List ℕ) (old new : World G O S E T) (x : Disks) (outcome : Outcome) : Type 0 where
+    pub desk : AtDesk
+    pub there : slice_get old.desks.items node ≡ Some desk
+    pub reply : List ℕ
+    pub kept : IsKeptAt desk client bytes reply
+    pub outcome_is : outcome ≡ sent_again node client reply
+    pub same : new ≡ record old { machines = record old.machines { clock = max old.machines.clock reading }; events = old.events + 1 }
+    pub stands : (tree : T) → Standing g o st e old x tree → Standing g o st e new x tree
+
+  -- A call is taken exactly where it is new to the desk of its node; and where it was answered, and the answer is kept, that is sent again.
   abbrev pub Arrives : ℕ → ℕ → ℕ → List ℕ → World G O S E T → World G O S E T → Disks → Outcome → Type 0
   Arrives reading node client bytes old new x outcome =
-      ((desk : AtDesk) × (slice_get old.desks.items node ≡ Some desk) × IsNewTo desk client bytes × Takes reading node client bytes old new x outcome) ⊎ Leaves reading node client bytes old new x outcome
+      ((desk : AtDesk) × (slice_get old.desks.items node ≡ Some desk) × IsNewTo desk client bytes × Takes reading node client bytes old new x outcome)
+      ⊎ (Passes reading node client bytes old new x outcome ⊎ Repeats reading node client bytes old new x outcome)

@@ -5,10 +5,10 @@ use Rattle.bx_cluster.specs.declared.outcome.Outcome.{Outcome}
 use Rattle.bx_disk.specs.Disks.{Disks}
 use Rattle.bx_facts.specs.declared.register.Register as register
 use Rattle.bx_facts.specs.declared.store.Store as store
-use Rattle.bx_node_rounds.specs.Rounds.{Rounded}
+use Rattle.bx_node_calls.specs.Turns.{Rounded}
 use Rattle.bx_node_tries.specs.declared.round.Said.{Said}
 use Rattle.bx_nodes.specs.Stopping.{Empties}
-use Rattle.bx_owners.specs.declared.owners.Owners as owners
+use Rattle.bx_facts.specs.declared.owners.Owners as owners
 use Rattle.bx_views.specs.declared.engine.Engine as engine
 use Rattle.bx_world.specs.Outcomes.{IsBy, desks_said, desks_without, outcome_said, stopped_at}
 use Rattle.bx_world.specs.World.{Standing}
@@ -23,6 +23,8 @@ module _ {G O S E T : Type 0} (g : register.Ghosts G) (o : owners.Ghosts O) (st 
     pub outcome_is : outcome ≡ outcome_said at said
     pub answers : Answered reading at old.machines.nodes.machines.items new.machines.nodes.machines.items said
     pub desks : new.desks.items ≡ desks_said at said old.desks.items
+    pub latest : new.machines.latest ≡ old.machines.latest
+    pub engine : new.machines.nodes.engine ≡ old.machines.nodes.engine
     pub leads : Tells → (tree : T) → Standing g o st e old x tree → Rounded e old.machines.nodes.engine (Standing g o st e new y) tree said
 
   -- A disk failed, and the machine stopped: a node has nothing then, and its desk is cleared; the tree that stood stands.
@@ -30,6 +32,8 @@ module _ {G O S E T : Type 0} (g : register.Ghosts G) (o : owners.Ghosts O) (st 
     pub outcome_is : outcome ≡ stopped_at at
     pub empties : Empties at old.machines.nodes.machines.items new.machines.nodes.machines.items
     pub desks : new.desks.items ≡ desks_without at old.desks.items
+    pub latest : new.machines.latest ≡ old.machines.latest
+    pub engine : new.machines.nodes.engine ≡ old.machines.nodes.engine
     pub stands : Tells → (tree : T) → Standing g o st e old x tree → Standing g o st e new y tree
 
   abbrev pub Went : Option ℕ → Actor → World G O S E T → World G O S E T → Type 0 → Disks → Disks → Outcome → Type 0

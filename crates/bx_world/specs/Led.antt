@@ -1,5 +1,6 @@
 -- How a world stands behind the parts of a run: they spell one history, which leads to the tree that it holds.
-use Rattle.std.specs.Prelude.{◌≡◌, ◌↔◌, ℕ, true, false, List, slice_get, Some}
+use Rattle.std.specs.Prelude.{◌≡◌, ◌↔◌, ℕ, List, slice_get, Some}
+use Rattle.bx_cluster.specs.Runs.{StepOf, rules}
 use Rattle.bx_desk.specs.Desks.{AtDesk}
 use Rattle.bx_desk.specs.Nodes.{IsDeskOf}
 use Rattle.bx_disk.specs.Disks.{Disks}
@@ -7,30 +8,17 @@ use Rattle.bx_facts.specs.declared.register.Register as register
 use Rattle.bx_facts.specs.declared.store.Store as store
 use Rattle.bx_history.specs.Account.{AwaitsNewest}
 use Rattle.bx_history.specs.Parts.{Part, trace_of, waiting}
-use Rattle.bx_history.specs.Placed.{HasReadingSince, Rules}
+use Rattle.bx_history.specs.Placed.{HasReadingSince}
 use Rattle.bx_history.specs.Trace as traces
 use Rattle.bx_history.specs.Trace.{IsIn}
-use Rattle.bx_node_rounds.specs.Rounds.{Waits, acting_at}
+use Rattle.bx_node_calls.specs.Turns.{acting_at}
+use Rattle.bx_node_calls.specs.Waits.{Waits}
 use Rattle.bx_node_steps.specs.Calls.{Acting, CallOf}
 use Rattle.bx_node_steps.specs.declared.machine.Machine.{Machine}
-use Rattle.bx_owners.specs.declared.owners.Owners as owners
-use Rattle.bx_rpc.specs.Message.{is_message}
-use Rattle.bx_views.specs.Attempts.{Deed}
+use Rattle.bx_facts.specs.declared.owners.Owners as owners
 use Rattle.bx_views.specs.declared.engine.Engine as engine
 use Rattle.bx_world.specs.World.{Standing}
 use Rattle.bx_world.specs.declared.world.World.{World}
-
--- A datagram that is a call is taken where fewer than 64 wait at its node, and it repeats none that waits and none of the last 256 that the node answered; for a repeat
--- of such a call the answer is sent again. Nothing is promised of when a call is answered.
-abbrev pub rules : Rules
-rules = record { is_call = is_message; IsImmediate = λ reading bytes. ⊥; is_prompt = λ happened. false; is_wary = true; kept = 256 }
-
--- what an entry of a history does to a tree
-abbrev pub deed_of : traces.Entry → Deed
-deed_of entry = record { client = entry.client; call = entry.bytes; moment = entry.moment; spare = entry.spare; made = entry.made; reply = entry.reply }
-
-abbrev pub StepOf : {T : Type 0} → (T → Deed → T → Type 0) → T → traces.Entry → T → Type 0
-StepOf Step tree entry next = Step tree (deed_of entry) next
 
 -- a call that waits at a node, as one that was taken there
 abbrev pub taking_as : ℕ → CallOf → traces.Taking
@@ -51,7 +39,7 @@ module _ {G O S E T : Type 0} (g : register.Ghosts G) (o : owners.Ghosts O) (st 
   pub record Led (world : World G O S E T) (x : Disks) (first : T) (parts : List Part) : Type 0 where
     pub tree : T
     pub history : List traces.Entry
-    pub accounts : AwaitsNewest (StepOf (e.step world.machines.nodes.engine)) rules first parts history tree (waiting parts)
+    pub accounts : AwaitsNewest (StepOf (e.step world.machines.nodes.engine)) (rules (e.at_once world.machines.nodes.engine)) first parts history tree (waiting parts)
     pub stands : Standing g o st e world x tree
     pub counted : world.machines.latest ≡ traces.taken_count (trace_of parts)
     pub desks : AreDesks world.desks.items parts

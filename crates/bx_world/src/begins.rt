@@ -2,7 +2,7 @@
 
 ghost use Rattle.std.specs.Prelude.{◌≡◌, ℕ, [], IfOk, List};
 ghost use Rattle.bx_disk.specs.Disks.{Disks};
-ghost use Rattle.bx_node_rounds.specs.Rounds.{NoneWaits};
+ghost use Rattle.bx_node_calls.specs.Waits.{NoneWaits};
 ghost use Rattle.bx_world.specs.Led.{Led};
 ghost use Rattle.bx_world.specs.Outcomes.{empty_desks};
 ghost use Rattle.bx_world.specs.World.{IsReady};
@@ -11,8 +11,7 @@ ghost use Rattle.bx_world_machines.specs.Standing as standing;
 use crate::world::World;
 use bx_base::OutOfMemory;
 use bx_desk::Desk;
-use bx_facts::{Post, Register, Store};
-use bx_owners::Owners;
+use bx_facts::{Owners, Post, Register, Store};
 use bx_views::Engine;
 use bx_world_machines::Machines;
 use std::alloc::Global;

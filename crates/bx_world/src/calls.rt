@@ -1,24 +1,26 @@
 //! Datagrams that arrive at a node.
 
 ghost use Rattle.std.proofs.Common.{Bor};
-ghost use Rattle.std.specs.Prelude.{◌≡◌, ◌+◌, ◌<◌, ◌≤◌, ℕ, true, List, length, slice_get, slice_set, IfErr, IfOk, IfSome, OnOk};
+ghost use Rattle.std.specs.Prelude.{◌≡◌, ◌+◌, ◌<◌, ◌≤◌, ◌∷◌, ℕ, max, true, List, length, slice_get, slice_set, IfErr, IfOk, IfSome, OnOk};
 ghost use Rattle.bx_base.specs.declared.names.Actor.TheVariants.{Node};
-ghost use Rattle.bx_cluster.specs.Steps.{Shown};
+ghost use Rattle.bx_cluster.specs.Steps.{Shown, part_at};
 ghost use Rattle.bx_desk.specs.Desks.{with_call};
 ghost use Rattle.bx_disk.specs.Disks.{Disks};
-ghost use Rattle.bx_world.specs.Calls.{Arrives, Hears, Takes, Turns, asked_of};
-ghost use Rattle.bx_world.specs.World.{IsReady, seen};
+ghost use Rattle.bx_history.specs.Parts.{Part};
+ghost use Rattle.bx_world.specs.Calls.{Arrives, Hears, Takes, Turns, asked_of, sent_again};
+ghost use Rattle.bx_world.specs.Led.{Led};
+ghost use Rattle.bx_world.specs.World.{IsReady, Standing, seen};
 ghost use Rattle.bx_world_events.specs.declared.event.Event.TheVariants.{Call};
 ghost use Rattle.bx_world_events.specs.declared.event.EventError.TheVariants.{OutOfMemory as NoMemory};
 ghost use Rattle.bx_world_machines.specs.Machines.{is_up};
 
+use crate::tells::nothing;
 use crate::world::World;
 use bx_base::{Actor, OutOfMemory, Raw};
 use bx_cluster::{EventError, Outcome, ReplyOut};
 use bx_desk::Desk;
-use bx_facts::{Outbox, Register, Store};
+use bx_facts::{Outbox, Owners, Register, Store};
 use bx_node_tries::{Message, Waiting};
-use bx_owners::Owners;
 use bx_views::Engine;
 use std::alloc::Global;
 
@@ -66,8 +68,8 @@ fn wait_at(
 }
 
 impl<G: Register, O: Owners, S: Store, E: Engine> World<G, O, S, E> {
-    /// A datagram from a client arrives at a node that is up. One that is a call and new to the node is taken; for a repeat of one that was answered the answer is sent again.
-    /// In each case the node has its turn then.
+    /// A datagram from a client arrives at a node that is up. One that is a call and new to the node is taken, and for a repeat of one that was answered the answer is sent
+    /// again. The node has its turn then, but where it sends an answer again: what it answered in a turn could push that one out of those that it keeps.
     pub fn call(
         &mut self,
         alloc: Global,
@@ -83,24 +85,14 @@ impl<G: Register, O: Owners, S: Store, E: Engine> World<G, O, S, E> {
         requires few { self.old.events < 4611686018427387904 }
         ensures shows { IfOk result (λ outcome. Shown (Call reading node client bytes.entry) outcome.stopped (seen S.Store self.old) (seen S.Store self.new)) }
         ensures arrives { (x : Disks) → IfOk result (Arrives G.Register O.Owners S.Store E.Engine reading node client bytes.now self.old self.new x) }
+        ensures led { (x : Disks) (first : E.Tree) (parts : List Part) → Led G.Register O.Owners S.Store E.Engine self.old x first parts → IfOk result (λ outcome. Led G.Register O.Owners S.Store E.Engine self.new x first (part_at (Call reading node client bytes.entry) outcome ∷ parts)) }
         ensures ready { (sizes : List ℕ) → IsReady G.Register O.Owners S.Store E.Engine self.old sizes → OnOk result (IsReady G.Register O.Owners S.Store E.Engine self.new sizes) }
         ensures error { IfErr result (λ error. error ≡ NoMemory) }
         ensures events { OnOk result (self.new.events ≡ self.old.events + 1) }
     {
         match hear(alloc, &self.desks[node as usize], client, bytes)? {
             Heard::New(message) => self.take(alloc, reading, node, client, message),
-            Heard::Again(reply) => {
-                let outcome = self.turn(alloc, reading, node)?;
-                Ok(Outcome {
-                    again: Some(ReplyOut {
-                        call: 0,
-                        node,
-                        client,
-                        bytes: reply,
-                    }),
-                    ..outcome
-                })
-            }
+            Heard::Again(reply) => Ok(self.send_again(alloc, reading, node, client, reply)),
             Heard::Passed => self.turn(alloc, reading, node),
         }
     }
@@ -142,6 +134,36 @@ impl<G: Register, O: Owners, S: Store, E: Engine> World<G, O, S, E> {
             took: Some(number),
             ..outcome
         })
+    }
+
+    /// A node sends a kept answer again, and does nothing else.
+    fn send_again(
+        &mut self,
+        alloc: Global,
+        reading: u64,
+        node: u32,
+        client: u32,
+        reply: Raw,
+    ) -> Outcome
+        requires steady { self.old.machines.clock ≤ reading + 500 }
+        requires few { self.old.events < 4611686018427387904 }
+        ensures shows { (bytes : Bor (List ℕ)) → Shown (Call reading node client bytes) result.stopped (seen S.Store self.old) (seen S.Store self.new) }
+        ensures outcome { result ≡ sent_again node client reply }
+        ensures same { self.new ≡ record self.old { machines = record self.old.machines { clock = max self.old.machines.clock reading }; events = self.old.events + 1 } }
+        ensures stands { (x : Disks) (tree : E.Tree) → Standing G.Register O.Owners S.Store E.Engine self.old x tree → Standing G.Register O.Owners S.Store E.Engine self.new x tree }
+        ensures ready { (sizes : List ℕ) → IsReady G.Register O.Owners S.Store E.Engine self.old sizes → IsReady G.Register O.Owners S.Store E.Engine self.new sizes }
+    {
+        self.events += 1;
+        self.machines.note(reading);
+        Outcome {
+            again: Some(ReplyOut {
+                call: 0,
+                node,
+                client,
+                bytes: reply,
+            }),
+            ..nothing(alloc)
+        }
     }
 
     /// A node at which nothing was taken has its turn.

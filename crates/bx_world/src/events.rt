@@ -1,11 +1,17 @@
 //! What a machine of the world hears.
 
-ghost use Rattle.std.specs.Prelude.{◌≡◌, ◌+◌, ◌≤◌, ℕ, true, List, length, None, Some, IfErr, IfOk, IsErr, IsErrOf, IsSome, IsSomeAnd, OnOk};
+ghost use Rattle.std.specs.Prelude.{◌≡◌, ◌+◌, ◌≤◌, ◌∷◌, ℕ, true, List, length, None, Some, IfErr, IfOk, IsErr, IsErrOf, IsSome, IsSomeAnd, OnOk};
 ghost use Rattle.bx_base.specs.Faults.{Rose};
-ghost use Rattle.bx_cluster.specs.Steps.{Shown};
+ghost use Rattle.bx_calls.specs.Calls.{LeavesOnly};
+ghost use Rattle.bx_cluster.specs.Steps.{Shown, part_at};
 ghost use Rattle.bx_disk.specs.Counts.{NoneFalls};
+ghost use Rattle.bx_history.specs.Parts.{Part};
+ghost use Rattle.bx_facts.specs.Chains.{last};
 ghost use Rattle.bx_facts.specs.declared.input.FactError.TheVariants.{Disk as DiskFails, OutOfMemory as MemoryFails};
 ghost use Rattle.bx_post.specs.Posts.{packet_from};
+ghost use Rattle.bx_world.specs.Led.{Led};
+ghost use Rattle.bx_world.specs.Doubts.{AreOfTaken};
+ghost use Rattle.bx_world.specs.Shown as shown;
 ghost use Rattle.bx_world.specs.Outcomes.{EndsSaid, EndsStopped, IsBy};
 ghost use Rattle.bx_world.specs.World.{IsReady, seen};
 ghost use Rattle.bx_world.specs.Going.{Went};
@@ -18,9 +24,8 @@ use crate::world::World;
 use bx_base::Actor;
 use bx_cluster::{EventError, Outcome};
 use bx_disk::Rack;
-use bx_facts::{FactError, Input, Outbox, Register, Store};
+use bx_facts::{FactError, Input, Outbox, Owners, Register, Store};
 use bx_node_tries::Said;
-use bx_owners::Owners;
 use bx_views::Engine;
 use std::alloc::Global;
 
@@ -39,6 +44,9 @@ impl<G: Register, O: Owners, S: Store, E: Engine> World<G, O, S, E> {
         requires time { reading ≤ 4294967295999 }
         ensures shows { IfOk result (λ outcome. Shown (Tick reading at) outcome.stopped (seen S.Store self.old) (seen S.Store self.new)) }
         ensures went { IfOk result (Went G.Register O.Owners S.Store E.Engine (Some reading) at self.old self.new (R.tells rack.old) (R.state rack.old) (R.state rack.new)) }
+        ensures led { (first : E.Tree) (parts : List Part) → R.tells rack.old → Led G.Register O.Owners S.Store E.Engine self.old (R.state rack.old) first parts → IfOk result (λ outcome. Led G.Register O.Owners S.Store E.Engine self.new (R.state rack.new) first (part_at (Tick reading at) outcome ∷ parts)) }
+        ensures any_moment { (first : E.Tree) (parts : List Part) → R.tells rack.old → (led : Led G.Register O.Owners S.Store E.Engine self.old (R.state rack.old) first parts) → AreOfTaken parts (last led.stands.course.register.chain).sessions led.stands.course.slots led.stands.course.doubts
+            → LeavesOnly (R.moment rack.old) (R.moment rack.new) (R.left_since rack.old) (R.left_since rack.new) (λ image. shown.Shown G.Register O.Owners S.Store E.Engine self.old (R.state rack.old).sizes image first parts) }
         ensures ready { (sizes : List ℕ) → IsReady G.Register O.Owners S.Store E.Engine self.old sizes → OnOk result (IsReady G.Register O.Owners S.Store E.Engine self.new sizes) }
         ensures stopped { IfOk result (λ outcome. IsSome outcome.stopped → Rose (R.faults rack.old) (R.faults rack.new)) }
         ensures error { IfErr result (λ error. error ≡ NoMemory) }
@@ -65,6 +73,9 @@ impl<G: Register, O: Owners, S: Store, E: Engine> World<G, O, S, E> {
         requires ready { IsReady G.Register O.Owners S.Store E.Engine self.old (R.state rack.old).sizes }
         ensures shows { IfOk result (λ outcome. Shown (Sync at) outcome.stopped (seen S.Store self.old) (seen S.Store self.new)) }
         ensures went { IfOk result (Went G.Register O.Owners S.Store E.Engine None at self.old self.new (R.tells rack.old) (R.state rack.old) (R.state rack.new)) }
+        ensures led { (first : E.Tree) (parts : List Part) → R.tells rack.old → Led G.Register O.Owners S.Store E.Engine self.old (R.state rack.old) first parts → IfOk result (λ outcome. Led G.Register O.Owners S.Store E.Engine self.new (R.state rack.new) first (part_at (Sync at) outcome ∷ parts)) }
+        ensures any_moment { (first : E.Tree) (parts : List Part) → R.tells rack.old → (led : Led G.Register O.Owners S.Store E.Engine self.old (R.state rack.old) first parts) → AreOfTaken parts (last led.stands.course.register.chain).sessions led.stands.course.slots led.stands.course.doubts
+            → LeavesOnly (R.moment rack.old) (R.moment rack.new) (R.left_since rack.old) (R.left_since rack.new) (λ image. shown.Shown G.Register O.Owners S.Store E.Engine self.old (R.state rack.old).sizes image first parts) }
         ensures ready { (sizes : List ℕ) → IsReady G.Register O.Owners S.Store E.Engine self.old sizes → OnOk result (IsReady G.Register O.Owners S.Store E.Engine self.new sizes) }
         ensures stopped { IfOk result (λ outcome. IsSome outcome.stopped → Rose (R.faults rack.old) (R.faults rack.new)) }
         ensures error { IfErr result (λ error. error ≡ NoMemory) }
@@ -92,6 +103,9 @@ impl<G: Register, O: Owners, S: Store, E: Engine> World<G, O, S, E> {
         requires time { reading ≤ 4294967295999 }
         ensures shows { IfOk result (λ outcome. Shown (Deliver reading number) outcome.stopped (seen S.Store self.old) (seen S.Store self.new)) }
         ensures went { IsSomeAnd (packet_from 1 number self.old.post) (λ packet. IfOk result (Went G.Register O.Owners S.Store E.Engine (Some reading) packet.to self.old self.new (R.tells rack.old) (R.state rack.old) (R.state rack.new))) }
+        ensures led { (first : E.Tree) (parts : List Part) → R.tells rack.old → Led G.Register O.Owners S.Store E.Engine self.old (R.state rack.old) first parts → IfOk result (λ outcome. Led G.Register O.Owners S.Store E.Engine self.new (R.state rack.new) first (part_at (Deliver reading number) outcome ∷ parts)) }
+        ensures any_moment { (first : E.Tree) (parts : List Part) → R.tells rack.old → (led : Led G.Register O.Owners S.Store E.Engine self.old (R.state rack.old) first parts) → AreOfTaken parts (last led.stands.course.register.chain).sessions led.stands.course.slots led.stands.course.doubts
+            → LeavesOnly (R.moment rack.old) (R.moment rack.new) (R.left_since rack.old) (R.left_since rack.new) (λ image. shown.Shown G.Register O.Owners S.Store E.Engine self.old (R.state rack.old).sizes image first parts) }
         ensures ready { (sizes : List ℕ) → IsReady G.Register O.Owners S.Store E.Engine self.old sizes → OnOk result (IsReady G.Register O.Owners S.Store E.Engine self.new sizes) }
         ensures stopped { IfOk result (λ outcome. IsSome outcome.stopped → Rose (R.faults rack.old) (R.faults rack.new)) }
         ensures error { IfErr result (λ error. error ≡ NoMemory) }

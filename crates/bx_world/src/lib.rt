@@ -6,6 +6,7 @@ mod calls;
 mod events;
 mod packets;
 mod shows;
+mod starts;
 mod stops;
 mod tells;
 mod world;

@@ -8,8 +8,7 @@ ghost use Rattle.bx_world.specs.Led.{Led};
 ghost use Rattle.bx_world.specs.World.{IsReady, Standing, seen};
 
 use crate::world::World;
-use bx_facts::{Register, Store};
-use bx_owners::Owners;
+use bx_facts::{Owners, Register, Store};
 use bx_post::Passes;
 use bx_views::Engine;
 

@@ -2,9 +2,8 @@
 
 use crate::world::World;
 use bx_base::Actor;
-use bx_facts::{Packet, Register, Store};
+use bx_facts::{Owners, Packet, Register, Store};
 use bx_global::GlobalState;
-use bx_owners::Owners;
 use bx_views::Engine;
 use bx_world_events::{ClockRule, Shows};
 

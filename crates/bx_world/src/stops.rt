@@ -13,8 +13,7 @@ ghost use Rattle.bx_world_events.specs.declared.event.Event.TheVariants.{Crash};
 use crate::tells::clear_at;
 use crate::world::World;
 use bx_base::Actor;
-use bx_facts::{Register, Store};
-use bx_owners::Owners;
+use bx_facts::{Owners, Register, Store};
 use bx_views::Engine;
 
 impl<G: Register, O: Owners, S: Store, E: Engine> World<G, O, S, E> {

@@ -9,8 +9,8 @@ use bx_desk::Desk;
 use bx_node_tries::Said;
 use std::alloc::Global;
 
-/// An event of which nothing comes.
-fn nothing(alloc: Global) -> Outcome
+/// An event of which nothing comes. It takes no memory.
+pub(crate) fn nothing(alloc: Global) -> Outcome
     ensures { result ≡ nothing }
 {
     Outcome {

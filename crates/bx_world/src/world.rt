@@ -1,8 +1,7 @@
 //! The world.
 
 use bx_desk::Desk;
-use bx_facts::{Post, Register, Store};
-use bx_owners::Owners;
+use bx_facts::{Owners, Post, Register, Store};
 use bx_views::Engine;
 use bx_world_machines::Machines;
 

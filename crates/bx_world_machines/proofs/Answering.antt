@@ -1,15 +1,17 @@
 -- What comes of the calls that wait, from one step of a node to the next.
-use Rattle.std.proofs.Common.{◌≡◌, ◌≢◌, ◌⊎◌, ⊎_elim, inl, inr, ◌∙◌, ℕ, ◌<◌, Bool, List, [], length, Contains, Option, Some, None, IfSome, IsSomeAnd, refl, sym, ap, subst, arith}
+use Rattle.std.proofs.Common.{◌≡◌, ◌⊎◌, ⊎_elim, inl, inr, ◌∙◌, ℕ, ◌<◌, Bool, List, [], length, Contains, Option, Some, None, IfSome, IsSomeAnd, refl, sym, ap, subst, arith}
 use Rattle.std.specs.Prelude.{◌↔◌, slice_get}
 use Rattle.bx_base.specs.declared.names.Actor.{Actor}
 use Rattle.bx_base.specs.declared.names.Actor.TheVariants.{Member, Node, Replica, Server}
 use Rattle.bx_facts.proofs.Lists.{nothing}
 use Rattle.bx_global.specs.declared.state.GlobalState.{GlobalState}
-use Rattle.bx_node_rounds.specs.Rounds.{AreNumbered, AreTold, IsTurn, Waits, acting_at, acting_in}
-use Rattle.bx_node_rounds.proofs.Coming.{Changed, changed_at, if_there, numbered_on}
-use Rattle.bx_node_rounds.proofs.Nodes.{both_there}
-use Rattle.bx_node_rounds.proofs.Ticking.{still_ticked, waits_ticked}
-use Rattle.bx_node_rounds.proofs.Turning.{there_then}
+use Rattle.bx_node_calls.specs.Turns.{IsTurn, acting_at, acting_in}
+use Rattle.bx_node_calls.specs.Waits.{AreNumbered, AreTold, Waits}
+use Rattle.bx_node_calls.proofs.Coming.{Changed, changed_at, numbered_on}
+use Rattle.bx_nodes.proofs.Machines.{of_there, two_there}
+use Rattle.bx_node_calls.proofs.Found.{and_some, same_or, some_and}
+use Rattle.bx_node_calls.proofs.Ticking.{still_ticked, waits_ticked}
+use Rattle.bx_node_calls.proofs.Turning.{there_then}
 use Rattle.bx_node_steps.specs.Calls.{Acting, ActsAt, Answers, AnswersCalls, AreApart, CallOf, IsAnswered, KeepsCalls, WaitsAt, acting_said, under_way}
 use Rattle.bx_node_steps.specs.Tidying.{Ticks}
 use Rattle.bx_node_steps.specs.declared.machine.Machine.{Machine}
@@ -22,15 +24,6 @@ use Rattle.bx_nodes.specs.declared.nodes.Nodes.{Nodes}
 use Rattle.bx_world_standing.specs.bx_volume.specs.Overlay.{Logs}
 use Rattle.bx_world_standing.specs.bx_volume.specs.Records.{Logged}
 use Rattle.bx_world_machines.specs.Answering.{Answered, AtNode}
-
-same_or : (a b : ℕ) → (a ≡ b) ⊎ (a ≢ b)
-same_or a b = grind arith
-
-some_and : {A : Type 0} (P : A → Type 0) (found : Option A) (one : A) → found ≡ Some one → IsSomeAnd found P → P one
-some_and P found one there is = subst (λ f. IsSomeAnd f P) there is
-
-and_some : {A : Type 0} (P : A → Type 0) (found : Option A) (one : A) → found ≡ Some one → P one → IsSomeAnd found P
-and_some P found one there is = subst (λ f. IsSomeAnd f P) (sym there) is
 
 -- The same calls wait at each node, and none writes a record that it didn't write.
 pub record Wakes (old new : List Machine) : Type 0 where
@@ -71,8 +64,8 @@ module _ {G O S E T : Type 0} (node : ℕ) (old new : Nodes G O S E T) (there : 
   -- it meets its session
   pub wakes_renewed : (own : Option ℕ) (known : GlobalState) (reads : Bool) → OfBoth old new node (λ old new. AreApart old → KeepsCalls old new) → OfBoth old new node (Renews own known reads) → OfNode old node AreApart → Wakes old.machines.items new.machines.items
   wakes_renewed own known reads calls renews apart = wakes_one node old.machines.items new.machines.items pair.before pair.after pair.was pair.is others
-      (λ call. (pair.says (if_there AreApart (slice_get old.machines.items node) pair.before pair.was apart)).same call)
-      (by (both_there (Renews own known reads) old new node pair.before pair.after pair.was pair.is renews))
+      (λ call. (pair.says (of_there AreApart (slice_get old.machines.items node) pair.before pair.was apart)).same call)
+      (by (two_there (Renews own known reads) (slice_get old.machines.items node) (slice_get new.machines.items node) pair.before pair.after pair.was pair.is renews))
     where
       pair : Changed node old new (λ old new. AreApart old → KeepsCalls old new)
       pair = changed_at node old new (λ old new. AreApart old → KeepsCalls old new) there count calls

@@ -1,14 +1,15 @@
 -- Which machines are up in the beginning.
-use Rattle.std.proofs.Common.{◌≡◌, ◌≢◌, ◌⊎◌, ⊎_elim, inl, inr, ◌∙◌, ℕ, zero, suc, ◌*◌, ◌<◌, Bool, true, false, List, [], ◌∷◌, ◌++◌, refl, sym, ap, subst, arith}
+use Rattle.std.proofs.Common.{◌≡◌, ◌⊎◌, ⊎_elim, inl, inr, ◌∙◌, ℕ, zero, suc, ◌*◌, ◌<◌, Bool, true, false, List, [], ◌∷◌, ◌++◌, refl, sym, ap, subst, arith}
 use Rattle.std.specs.Prelude.{◌||◌}
 use Rattle.bx_base.specs.declared.names.Actor.{Actor}
 use Rattle.bx_base.specs.declared.names.Actor.TheVariants.{Member, Node, Replica, Server}
 use Rattle.bx_facts.proofs.Machines.{is_itself, is_one}
+use Rattle.bx_node_calls.proofs.Found.{same_or}
 use Rattle.bx_post.specs.Machines.{is_same}
 use Rattle.bx_world_machines.specs.Machines.{first_up, is_up, named}
 use Rattle.bx_world_machines.specs.Standing.{HasMachine}
 
-up_append : (a b : List Actor) (who : Actor) → is_up (a ++ b) who ≡ (is_up a who || is_up b who)
+pub up_append : (a b : List Actor) (who : Actor) → is_up (a ++ b) who ≡ (is_up a who || is_up b who)
 up_append [] b who = refl
 up_append (one ∷ a) b who = ap (λ t. is_same who one || t) (up_append a b who) ∙ or_assoc (is_same who one) (is_up a who) (is_up b who)
   where
@@ -27,17 +28,14 @@ or_cases : (a b : Bool) → (a || b) ≡ true → (a ≡ true) ⊎ (b ≡ true)
 or_cases true b is = inl refl
 or_cases false b is = inr is
 
-left_up : (a b : List Actor) (who : Actor) → is_up a who ≡ true → is_up (a ++ b) who ≡ true
+pub left_up : (a b : List Actor) (who : Actor) → is_up a who ≡ true → is_up (a ++ b) who ≡ true
 left_up a b who is = up_append a b who ∙ or_left (is_up a who) (is_up b who) is
 
-right_up : (a b : List Actor) (who : Actor) → is_up b who ≡ true → is_up (a ++ b) who ≡ true
+pub right_up : (a b : List Actor) (who : Actor) → is_up b who ≡ true → is_up (a ++ b) who ≡ true
 right_up a b who is = up_append a b who ∙ or_right (is_up a who) (is_up b who) is
 
-either_up : (a b : List Actor) (who : Actor) → is_up (a ++ b) who ≡ true → (is_up a who ≡ true) ⊎ (is_up b who ≡ true)
+pub either_up : (a b : List Actor) (who : Actor) → is_up (a ++ b) who ≡ true → (is_up a who ≡ true) ⊎ (is_up b who ≡ true)
 either_up a b who is = or_cases (is_up a who) (is_up b who) (sym (up_append a b who) ∙ is)
-
-same_or : (a b : ℕ) → (a ≡ b) ⊎ (a ≢ b)
-same_or a b = grind arith
 
 has_named : (name : ℕ → Actor) (n m : ℕ) → m < n → is_up (named name n) (name m) ≡ true
 has_named name zero m less = absurd (omega (arith, less))

@@ -1,7 +1,12 @@
+pub mod AnsweredAtOnce
 pub mod Answering
 pub mod Beginning
 pub mod Clocks
+pub mod Disks
+pub mod Known
 pub mod Nodes
 pub mod Reading
+pub mod Rooms
 pub mod Standing
+pub mod Starting
 pub mod WhoIsUp

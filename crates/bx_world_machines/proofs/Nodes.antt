@@ -1,15 +1,17 @@
 -- What is left of all nodes where one of them does something.
-use Rattle.std.proofs.Common.{◌≡◌, ◌≢◌, ◌⊎◌, ⊎_elim, ◌∙◌, ℕ, ◌<◌, List, length, Option, Some, IfSome, sym, ap, subst, arith}
+use Rattle.std.proofs.Common.{◌≡◌, ⊎_elim, ◌∙◌, ℕ, ◌<◌, List, length, Option, Some, IfSome, sym, ap, subst}
 use Rattle.std.specs.Prelude.{slice_get}
 use Rattle.bx_base.specs.declared.names.Actor.{Actor}
 use Rattle.bx_facts.specs.declared.register.Register as register
 use Rattle.bx_facts.specs.declared.store.Store as store
 use Rattle.bx_facts.specs.Writes.{Made}
-use Rattle.bx_node_rounds.specs.Rounds.{IsTurn}
-use Rattle.bx_node_rounds.proofs.Coming.{Changed, apart_then, changed_at, if_there, there_if}
-use Rattle.bx_node_rounds.proofs.Nodes.{ready_still}
-use Rattle.bx_node_rounds.proofs.Ticking.{apart_ticked}
-use Rattle.bx_node_rounds.proofs.Turning.{there_then}
+use Rattle.bx_node_calls.specs.Turns.{IsTurn}
+use Rattle.bx_node_calls.proofs.Coming.{Changed, apart_then, changed_at}
+use Rattle.bx_nodes.proofs.Machines.{of_there, there_is, was_there}
+use Rattle.bx_node_calls.proofs.Found.{same_or}
+use Rattle.bx_node_calls.proofs.Ready.{ready_still}
+use Rattle.bx_node_calls.proofs.Ticking.{apart_ticked}
+use Rattle.bx_node_calls.proofs.Turning.{there_then}
 use Rattle.bx_node_steps.specs.Calls.{AreApart, KeepsCalls}
 use Rattle.bx_node_steps.specs.Tidying.{Ticks}
 use Rattle.bx_node_steps.specs.declared.machine.Machine.{Machine}
@@ -18,13 +20,9 @@ use Rattle.bx_nodes.specs.Standing.{BeReady, OfBoth, OfNode}
 use Rattle.bx_nodes.specs.Stopping.{Empties}
 use Rattle.bx_nodes.specs.Turns.{OnlyMachine, OnlyStore}
 use Rattle.bx_nodes.specs.declared.nodes.Nodes.{Nodes}
-use Rattle.bx_nodes.proofs.Machines.{there_is}
-use Rattle.bx_owners.specs.declared.owners.Owners as owners
+use Rattle.bx_facts.specs.declared.owners.Owners as owners
 use Rattle.bx_views.specs.declared.engine.Engine as engine
 use Rattle.bx_world_machines.specs.Standing.{AreNodes}
-
-same_or : (a b : ℕ) → (a ≡ b) ⊎ (a ≢ b)
-same_or a b = grind arith
 
 module _ {G O S E T : Type 0} (g : register.Ghosts G) (o : owners.Ghosts O) (st : store.Ghosts S) (e : engine.Ghosts E T) (old new : Nodes G O S E T) (were : AreNodes g o st e old) (node : ℕ) (there : node < length old.machines.items)
     (count : length new.machines.items ≡ length old.machines.items) (others : OnlyMachine node old.machines.items new.machines.items) (mine : BeReady st e new node) where
@@ -44,7 +42,7 @@ module _ {G O S E T : Type 0} (g : register.Ghosts G) (o : owners.Ghosts O) (st 
   -- it meets its session
   pub nodes_renewed : (new.register ≡ old.register) × (new.owners ≡ old.owners) × (new.store ≡ old.store) × (new.engine ≡ old.engine) → OfBoth old new node (λ old new. AreApart old → KeepsCalls old new) → AreNodes g o st e new
   nodes_renewed parts calls = nodes_with parts
-      (apart_then node old.machines.items new.machines.items pair.before pair.after pair.was pair.is others (pair.says (if_there AreApart (slice_get old.machines.items node) pair.before pair.was (were.apart node))).apart were.apart)
+      (apart_then node old.machines.items new.machines.items pair.before pair.after pair.was pair.is others (pair.says (of_there AreApart (slice_get old.machines.items node) pair.before pair.was (were.apart node))).apart were.apart)
     where
       pair : Changed node old new (λ old new. AreApart old → KeepsCalls old new)
       pair = changed_at node old new (λ old new. AreApart old → KeepsCalls old new) there count calls
@@ -74,7 +72,7 @@ module _ {G O S E T : Type 0} (g : register.Ghosts G) (o : owners.Ghosts O) (st 
       its = there_is old.machines.items node there
 
       here : OfNode new node AreApart
-      here = let now = there_then moment node 0 old.machines.items new.machines.items said its.0 its.1 turn in there_if AreApart (slice_get new.machines.items node) now.0 now.1 now.2.apart
+      here = let now = there_then moment node 0 old.machines.items new.machines.items said its.0 its.1 turn in was_there AreApart (slice_get new.machines.items node) now.0 now.1 now.2.apart
 
 -- A machine stops.
 pub nodes_emptied : {G O S E T : Type 0} (g : register.Ghosts G) (o : owners.Ghosts O) (st : store.Ghosts S) (e : engine.Ghosts E T) (old new : Nodes G O S E T) → AreNodes g o st e old → (who : Actor) → Empties who old.machines.items new.machines.items

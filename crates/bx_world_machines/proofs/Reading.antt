@@ -12,7 +12,7 @@ use Rattle.bx_nodes.specs.declared.nodes.Nodes.{Nodes}
 use Rattle.bx_nodes.specs.bx_node_events.proofs.Faulted.{read_later}
 use Rattle.bx_nodes.specs.bx_node_events.proofs.Registered.{HandedLaws}
 use Rattle.bx_nodes.specs.bx_node_events.proofs.Stopping.{but_for, but_none}
-use Rattle.bx_owners.specs.declared.owners.Owners as owners
+use Rattle.bx_facts.specs.declared.owners.Owners as owners
 use Rattle.bx_post.specs.declared.packets.Letter.{Letter}
 use Rattle.bx_views.specs.declared.engine.Engine as engine
 use Rattle.bx_world_standing.specs.Parts.{Clocks}

@@ -1,5 +1,5 @@
 -- How the machines stand once one of them heard something.
-use Rattle.std.proofs.Common.{◌≡◌, ◌∙◌, ℕ, ◌<◌, true, List, length, Option, Some, None, IfSome, IsSomeAnd, inl, refl, sym, ap, subst, arith}
+use Rattle.std.proofs.Common.{◌≡◌, ⊎_elim, ◌∙◌, ℕ, ◌<◌, true, false, List, length, Option, Some, None, IfSome, IsSomeAnd, inl, refl, sym, ap, subst, arith}
 use Rattle.std.specs.Prelude.{max, not, slice_get}
 use Rattle.bx_base.specs.declared.names.Actor.{Actor}
 use Rattle.bx_base.specs.declared.names.Actor.TheVariants.{Node}
@@ -9,11 +9,15 @@ use Rattle.bx_facts.specs.declared.input.Input.{Input}
 use Rattle.bx_facts.specs.declared.input.Input.TheVariants.{Packet, Synced, Tick}
 use Rattle.bx_facts.specs.declared.register.Register as register
 use Rattle.bx_facts.specs.declared.store.Store as store
+use Rattle.bx_facts.specs.Chains.{Chain, IsPlace, last}
 use Rattle.bx_facts.specs.Inputs.{greatest_with}
 use Rattle.bx_facts.specs.Machines.{put_at}
-use Rattle.bx_node_rounds.specs.Rounds.{AreNumbered, AreTold, Rounded, Waits}
-use Rattle.bx_node_rounds.proofs.Coming.{Changed, apart_then, changed_at, each_called, if_there, newest, numbered_on, numbered_with, still_called, told_on, told_with}
-use Rattle.bx_node_rounds.proofs.Nodes.{both_there}
+use Rattle.bx_facts.specs.Pasts.{RegisterPast}
+use Rattle.bx_global.specs.declared.state.GlobalState.{GlobalState}
+use Rattle.bx_node_calls.specs.Turns.{Rounded}
+use Rattle.bx_node_calls.specs.Waits.{AreNumbered, AreTold, Waits}
+use Rattle.bx_node_calls.proofs.Coming.{Changed, apart_then, changed_at, each_called, newest, numbered_on, numbered_with, still_called, told_on, told_with}
+use Rattle.bx_nodes.proofs.Machines.{of_there, two_there}
 use Rattle.bx_node_steps.specs.Calls.{AreApart, CallOf, WaitsAt}
 use Rattle.bx_node_steps.specs.declared.machine.Machine.{Machine}
 use Rattle.bx_node_tries.specs.declared.round.Said.{Said}
@@ -26,16 +30,17 @@ use Rattle.bx_nodes.specs.Turns.{IsOldOrTold, OnlyMachine, Turned}
 use Rattle.bx_nodes.specs.declared.nodes.Nodes.{Nodes}
 use Rattle.bx_nodes.proofs.Calling.{none_wait}
 use Rattle.bx_nodes.proofs.Emptied.{emptied}
-use Rattle.bx_owners.specs.declared.owners.Owners as owners
+use Rattle.bx_facts.specs.declared.owners.Owners as owners
 use Rattle.bx_post.specs.declared.packets.Letter.{Letter}
 use Rattle.bx_views.specs.declared.engine.Engine as engine
 use Rattle.bx_world_machines.specs.Answering.{Answered, Comes, reading_in}
-use Rattle.bx_world_machines.specs.Machines.{is_up, up_without}
+use Rattle.bx_world_machines.specs.Machines.{greater, is_up, up_without}
 use Rattle.bx_world_machines.specs.Standing.{AreClocks, AreNodes, AreReady, IsReady, Standing}
 use Rattle.bx_world_machines.specs.declared.machines.Machines.{Machines}
 use Rattle.bx_world_machines.proofs.Answering.{numbers_then, told_answered}
+use Rattle.bx_world_machines.proofs.Known.{known_heard}
 use Rattle.bx_world_machines.proofs.Nodes.{nodes_with}
-use Rattle.bx_world_machines.proofs.WhoIsUp.{down_without, was_up}
+use Rattle.bx_world_machines.proofs.WhoIsUp.{down_then, down_without, was_up}
 use Rattle.bx_world_standing.specs.Parts.{Clocks}
 use Rattle.bx_world_standing.specs.bx_volume.specs.Overlay.{Logs}
 
@@ -66,6 +71,17 @@ waited_before who old new empties node call waits =
     waits
     (λ one leads w. leads w)
 
+-- none waits at the one that stopped
+pub none_left : (who : Actor) (old new : List Machine) → Empties who old new → (node : ℕ) (call : CallOf) → who ≡ Node node → Waits new node call → ⊥
+none_left who old new empties node call it waits =
+    both_and (λ m. WaitsAt m call → ⊥) (λ m. WaitsAt m call) ⊥ (slice_get new node)
+    (emptied who old new empties node (λ m. slice_get old node ≡ Some m) (λ m. WaitsAt m call → ⊥)
+    (λ ne machine was w. ne it)
+    (λ same before after was has w. none_wait before.cache.devices before.cache.areas after has call w)
+    (it_is (slice_get old node)))
+    waits
+    (λ one none w. none w)
+
 -- ---- what stands then
 
 module _ {G O S E T : Type 0} (g : register.Ghosts G) (o : owners.Ghosts O) (st : store.Ghosts S) (e : engine.Ghosts E T) (old new : Machines G O S E T) (input : Input) (boots : new.boots ≡ old.boots) (count : new.count ≡ old.count) (devices : new.devices ≡ old.devices)
@@ -80,8 +96,9 @@ module _ {G O S E T : Type 0} (g : register.Ghosts G) (o : owners.Ghosts O) (st 
 
     -- it went on, and answered calls
     pub stands_heard : AreReady g o st e old → (at : Actor) (letters letters_then : List Letter) (x y : Disks) (tree : T) (said : List Said) → Answered (reading_in input) at old.nodes.machines.items new.nodes.machines.items said → (standing : Standing g o st e old letters x tree)
-        → Hears (λ later. Turned (e.step old.nodes.engine) (Stand g o st e new.nodes y letters_then (with_reading standing.clocks input)) later tree said) standing.course → Rounded e old.nodes.engine (Standing g o st e new letters_then y) tree said
-    stands_heard ready at letters letters_then x y tree said answers standing heard = record {
+        → (known : GlobalState) → (heard : Hears known (λ later. Turned (e.step old.nodes.engine) (Stand g o st e new.nodes y letters_then (with_reading standing.clocks input)) later tree said) standing.course) → new.state ≡ last heard.stands.later.register.chain
+        → Rounded e old.nodes.engine (Standing g o st e new letters_then y) tree said
+    stands_heard ready at letters letters_then x y tree said answers standing known heard state = record {
       next = heard.stands.next;
       leads = heard.stands.leads;
       stands = record {
@@ -92,8 +109,17 @@ module _ {G O S E T : Type 0} (g : register.Ghosts G) (o : owners.Ghosts O) (st 
         told = subst (λ (n : ℕ). AreTold n new.nodes.machines.items heard.stands.later.logs) (sym latest)
             (told_answered (reading_in input) at old.latest old.nodes.machines.items new.nodes.machines.items said answers ready.numbered standing.course.logs heard.stands.later.logs standing.told
             (λ slot one has. subst (λ (logs : Logs). IsOldOrTold logs said slot one) heard.logs (heard.stands.logged slot one has)));
+        known = state;
       };
     }
+
+    -- .. where the state that it knows then is kept if that is greater
+    pub stands_learnt : AreReady g o st e old → (at : Actor) (letters letters_then : List Letter) (x y : Disks) (tree : T) (said : List Said) → Answered (reading_in input) at old.nodes.machines.items new.nodes.machines.items said → (standing : Standing g o st e old letters x tree)
+        → ((past : RegisterPast) → g.keeps new.nodes.register y past → IsPlace past.chain (g.knows new.nodes.register at)) → new.state ≡ greater old.state (g.knows new.nodes.register at)
+        → Hears (g.knows new.nodes.register at) (λ later. Turned (e.step old.nodes.engine) (Stand g o st e new.nodes y letters_then (with_reading standing.clocks input)) later tree said) standing.course → Rounded e old.nodes.engine (Standing g o st e new letters_then y) tree said
+    stands_learnt ready at letters letters_then x y tree said answers standing places is heard = stands_heard ready at letters letters_then x y tree said answers standing (g.knows new.nodes.register at) heard
+        (is ∙ known_heard old.state (g.knows new.nodes.register at) (λ later. Turned (e.step old.nodes.engine) (Stand g o st e new.nodes y letters_then (with_reading standing.clocks input)) later tree said) standing.course heard heard.stands.later.register.chain
+        heard.stands.chain standing.known (places heard.stands.later.register heard.stands.stands.at.parts.register_keeps))
 
   module _ (at : Actor) (up : new.up.items ≡ up_without at old.up.items) (empties : Empties at old.nodes.machines.items new.nodes.machines.items) where
     clocks_stopped : (clocks : Clocks) → AreClocks g o st e old clocks → AreClocks g o st e new (with_down (with_reading clocks input) at)
@@ -108,8 +134,8 @@ module _ {G O S E T : Type 0} (g : register.Ghosts G) (o : owners.Ghosts O) (st 
 
     -- it stopped
     pub stands_stopped : (letters : List Letter) (x y : Disks) (tree : T) → (standing : Standing g o st e old letters x tree)
-        → Hears (λ later. Stand g o st e new.nodes y letters (with_down (with_reading standing.clocks input) at) later tree) standing.course → Standing g o st e new letters y tree
-    stands_stopped letters x y tree standing heard = record {
+        → (known : GlobalState) → (heard : Hears known (λ later. Stand g o st e new.nodes y letters (with_down (with_reading standing.clocks input) at) later tree) standing.course) → new.state ≡ last heard.later.register.chain → Standing g o st e new letters y tree
+    stands_stopped letters x y tree standing known heard state = record {
       clocks = with_down (with_reading standing.clocks input) at;
       course = heard.later;
       are_clocks = clocks_stopped standing.clocks standing.are_clocks;
@@ -117,7 +143,15 @@ module _ {G O S E T : Type 0} (g : register.Ghosts G) (o : owners.Ghosts O) (st 
       told = subst (λ (n : ℕ). AreTold n new.nodes.machines.items heard.later.logs) (sym latest)
           (told_on old.latest old.nodes.machines.items new.nodes.machines.items (waited_before at old.nodes.machines.items new.nodes.machines.items empties) heard.later.logs
           (subst (λ (logs : Logs). AreTold old.latest old.nodes.machines.items logs) (sym heard.logs) standing.told));
+      known = state;
     }
+
+    pub stopped_learnt : (letters : List Letter) (x y : Disks) (tree : T) → (standing : Standing g o st e old letters x tree)
+        → ((past : RegisterPast) → g.keeps new.nodes.register y past → IsPlace past.chain (g.knows new.nodes.register at)) → new.state ≡ greater old.state (g.knows new.nodes.register at)
+        → Hears (g.knows new.nodes.register at) (λ later. Stand g o st e new.nodes y letters (with_down (with_reading standing.clocks input) at) later tree) standing.course → Standing g o st e new letters y tree
+    stopped_learnt letters x y tree standing places is heard = stands_stopped letters x y tree standing (g.knows new.nodes.register at) heard
+        (is ∙ known_heard old.state (g.knows new.nodes.register at) (λ later. Stand g o st e new.nodes y letters (with_down (with_reading standing.clocks input) at) later tree) standing.course heard heard.later.register.chain refl standing.known
+        (places heard.later.register heard.stands.at.parts.register_keeps))
 
     pub ready_stopped : AreReady g o st e old → (sizes : List ℕ) → IsReady g o st e old sizes → AreNodes g o st e new.nodes → st.made new.nodes.store ≡ st.made old.nodes.store → IsReady g o st e new sizes
     ready_stopped ready sizes is nodes made = record {
@@ -127,6 +161,9 @@ module _ {G O S E T : Type 0} (g : register.Ghosts G) (o : owners.Ghosts O) (st 
         members = ap (λ m. m.devices) made ∙ ready.members ∙ sym devices;
         few = rw devices ready.few;
         there = λ who is_up_then. rw (count, devices) (ready.there who (was_up at who old.up.items (subst (λ l. is_up l who ≡ true) up is_up_then)));
+        quiet = λ node call is_down waits. ⊎_elim (λ it. none_left at old.nodes.machines.items new.nodes.machines.items empties node call it waits)
+            (λ was_down. ready.quiet node call was_down (waited_before at old.nodes.machines.items new.nodes.machines.items empties node call waits))
+            (down_then at (Node node) old.up.items (subst (λ l. is_up l (Node node) ≡ false) up is_down));
         numbered = subst (λ (n : ℕ). AreNumbered n new.nodes.machines.items) (sym latest)
             (numbered_on old.latest old.nodes.machines.items new.nodes.machines.items (waited_before at old.nodes.machines.items new.nodes.machines.items empties) ready.numbered);
       };
@@ -157,14 +194,14 @@ module _ {G O S E T : Type 0} (g : register.Ghosts G) (o : owners.Ghosts O) (st 
       pair = changed_at node old.nodes middle (WaitsBehind call) there count behind
 
       added : AddsCall call pair.before pair.after
-      added = both_there (λ old new. IsNewest call old → AreApart old → AddsCall call old new) old.nodes middle node pair.before pair.after pair.was pair.is adds
+      added = two_there (λ old new. IsNewest call old → AreApart old → AddsCall call old new) (slice_get old.nodes.machines.items node) (slice_get middle.machines.items node) pair.before pair.after pair.was pair.is adds
           (newest node old.nodes.machines.items middle.machines.items pair.before pair.after pair.was pair.is others old.latest call ready.numbered later)
-          (if_there AreApart (slice_get old.nodes.machines.items node) pair.before pair.was (ready.nodes.apart node))
+          (of_there AreApart (slice_get old.nodes.machines.items node) pair.before pair.was (ready.nodes.apart node))
 
   module _ (boots : new.boots ≡ old.boots) (same_count : new.count ≡ old.count) (devices : new.devices ≡ old.devices) (up : new.up.items ≡ old.up.items) (latest : new.latest ≡ call.number) (clock : new.clock ≡ max old.clock reading) where
-    pub stands_called : (letters letters_then : List Letter) (x : Disks) (tree : T) (said : List Said) → Answered (Some reading) (Node node) middle.machines.items new.nodes.machines.items said → (standing : Standing g o st e old letters x tree)
+    pub stands_called : (letters letters_then : List Letter) (x : Disks) (tree : T) (said : List Said) → Answered (Some reading) (Node node) middle.machines.items new.nodes.machines.items said → new.state ≡ old.state → (standing : Standing g o st e old letters x tree)
         → Turned (e.step old.nodes.engine) (Stand g o st e new.nodes x letters_then (with_reading standing.clocks (Tick reading))) standing.course tree said → Rounded e old.nodes.engine (Standing g o st e new letters_then x) tree said
-    stands_called letters letters_then x tree said answers standing turned = record {
+    stands_called letters letters_then x tree said answers state standing turned = record {
       next = turned.next;
       leads = turned.leads;
       stands = record {
@@ -179,18 +216,23 @@ module _ {G O S E T : Type 0} (g : register.Ghosts G) (o : owners.Ghosts O) (st 
         told = subst (λ (n : ℕ). AreTold n new.nodes.machines.items turned.later.logs) (sym latest)
             (told_answered (Some reading) (Node node) call.number middle.machines.items new.nodes.machines.items said answers numbers_with standing.course.logs turned.later.logs
             (told_with old.latest node old.nodes.machines.items middle.machines.items call later (λ at other. (comes_to.waits at other).0) standing.course.logs standing.told) turned.logged);
+        known = state ∙ standing.known ∙ ap (λ (chain : Chain). last chain) (sym turned.chain);
       };
     }
 
-    pub ready_called : (sizes : List ℕ) (said : List Said) → Answered (Some reading) (Node node) middle.machines.items new.nodes.machines.items said → IsReady g o st e old sizes → AreNodes g o st e new.nodes → st.made new.nodes.store ≡ st.made old.nodes.store
+    pub ready_called : is_up old.up.items (Node node) ≡ true → (sizes : List ℕ) (said : List Said) → Answered (Some reading) (Node node) middle.machines.items new.nodes.machines.items said → IsReady g o st e old sizes → AreNodes g o st e new.nodes → st.made new.nodes.store ≡ st.made old.nodes.store
         → length new.nodes.machines.items ≡ length old.nodes.machines.items → IsReady g o st e new sizes
-    ready_called sizes said answers is nodes made counts = record {
+    ready_called here sizes said answers is nodes made counts = record {
       are_ready = record {
         nodes = nodes;
         counted = counts ∙ ready.counted ∙ sym same_count;
         members = ap (λ m. m.devices) made ∙ ready.members ∙ sym devices;
         few = rw devices ready.few;
         there = λ who is_up_then. rw (same_count, devices) (ready.there who (subst (λ l. is_up l who ≡ true) up is_up_then));
+        quiet = λ n other is_down waits. ⊎_elim
+            (λ was. ready.quiet n other (subst (λ l. is_up l (Node n) ≡ false) up is_down) was)
+            (λ now. let wrong : true ≡ false = sym here ∙ ap (λ (k : ℕ). is_up old.up.items (Node k)) (sym now.0) ∙ subst (λ l. is_up l (Node n) ≡ false) up is_down in absurd cc)
+            ((comes_to.waits n other).0 (((answers.left n other).0 waits).0));
         numbered = subst (λ (n : ℕ). AreNumbered n new.nodes.machines.items) (sym latest) (numbers_then (Some reading) (Node node) call.number middle.machines.items new.nodes.machines.items said answers numbers_with);
       };
       replicas = is.replicas;
@@ -209,13 +251,14 @@ module _ {G O S E T : Type 0} (g : register.Ghosts G) (o : owners.Ghosts O) (st 
       members = ap (λ m. m.devices) made ∙ ready.members ∙ sym devices;
       few = rw devices ready.few;
       there = λ who is_up_then. rw (count, devices) (ready.there who (subst (λ l. is_up l who ≡ true) up is_up_then));
+      quiet = λ n other is_down waits. ready.quiet n other (subst (λ l. is_up l (Node n) ≡ false) up is_down) ((answers.left n other).0 waits).0;
       numbered = subst (λ (n : ℕ). AreNumbered n new.nodes.machines.items) (sym latest) (numbers_then (Some reading) (Node node) old.latest old.nodes.machines.items new.nodes.machines.items said answers ready.numbered);
     };
     replicas = is.replicas;
     members = rw (devices, made) is.members;
   }
 
-  pub stands_turned : (letters letters_then : List Letter) (x : Disks) (tree : T) → (standing : Standing g o st e old letters x tree) → Turned (e.step old.nodes.engine) (Stand g o st e new.nodes x letters_then (with_reading standing.clocks (Tick reading))) standing.course tree said
+  pub stands_turned : (letters letters_then : List Letter) (x : Disks) (tree : T) → new.state ≡ old.state → (standing : Standing g o st e old letters x tree) → Turned (e.step old.nodes.engine) (Stand g o st e new.nodes x letters_then (with_reading standing.clocks (Tick reading))) standing.course tree said
       → Rounded e old.nodes.engine (Standing g o st e new letters_then x) tree said
-  stands_turned letters letters_then x tree standing turned = stands_heard g o st e old new (Tick reading) boots count devices latest clock up ready (Node node) letters letters_then x x tree said answers standing
-      (record { later = standing.course; grows = inl refl; logs = refl; stands = turned })
+  stands_turned letters letters_then x tree state standing turned = stands_heard g o st e old new (Tick reading) boots count devices latest clock up ready (Node node) letters letters_then x x tree said answers standing old.state
+      (record { later = standing.course; grows = inl refl; told = inl refl; logs = refl; stands = turned }) (state ∙ standing.known ∙ ap (λ (chain : Chain). last chain) (sym turned.chain))

@@ -1,5 +1,5 @@
 -- Which machines are up once one is left out, or one more is.
-use Rattle.std.proofs.Common.{◌≡◌, ◌∙◌, Bool, true, false, List, [], ◌∷◌, refl, sym, ap, subst}
+use Rattle.std.proofs.Common.{◌≡◌, ◌⊎◌, inl, inr, ◌∙◌, Bool, true, false, List, [], ◌∷◌, refl, sym, ap, subst}
 use Rattle.std.specs.Prelude.{◌||◌, not, if◌then◌else◌}
 use Rattle.bx_base.specs.declared.names.Actor.{Actor}
 use Rattle.bx_facts.specs.Machines.{put_at}
@@ -55,3 +55,11 @@ was_up at who up is = by (is_same at who) refl
     by : (b : Bool) → is_same at who ≡ b → is_up up who ≡ true
     by true same = absurd (let wrong : true ≡ false = sym is ∙ subst (λ a. is_up (up_without at up) a ≡ false) (is_one at who same) (gone at up) in cc)
     by false differ = sym (stays_up at who differ up) ∙ is
+
+-- whoever is down then is the one that is left out, or was
+pub down_then : (at who : Actor) (up : List Actor) → is_up (up_without at up) who ≡ false → (at ≡ who) ⊎ (is_up up who ≡ false)
+down_then at who up is = by (is_same at who) refl
+  where
+    by : (b : Bool) → is_same at who ≡ b → (at ≡ who) ⊎ (is_up up who ≡ false)
+    by true same = inl (is_one at who same)
+    by false differ = inr (sym (stays_up at who differ up) ∙ is)

@@ -1,12 +1,14 @@
 -- What comes of the calls that wait where a machine hears something.
-use Rattle.std.specs.Prelude.{◌≡◌, ◌⊎◌, ◌↔◌, ℕ, List, Contains, Option, Some, None}
+use Rattle.std.specs.Prelude.{◌≡◌, ◌⊎◌, ◌↔◌, ℕ, List, ◌∷◌, Contains, Option, Some, None}
 use Rattle.bx_base.specs.declared.names.Actor.{Actor}
 use Rattle.bx_base.specs.declared.names.Actor.TheVariants.{Node, Replica, Server, Member}
 use Rattle.bx_facts.specs.declared.input.Input.{Input}
 use Rattle.bx_facts.specs.declared.input.Input.TheVariants.{Packet, Tick, Synced}
-use Rattle.bx_node_rounds.specs.Rounds.{Waits, acting_at}
+use Rattle.bx_node_calls.specs.Turns.{acting_at}
+use Rattle.bx_node_calls.specs.Waits.{Waits}
 use Rattle.bx_node_steps.specs.Calls.{Acting, AreToOthers, CallOf, IsAnswered, acting_said, call_of}
 use Rattle.bx_node_steps.specs.declared.machine.Machine.{Machine}
+use Rattle.bx_node_tries.specs.Tries.{IsAnswerTo}
 use Rattle.bx_node_tries.specs.declared.round.Said.{Said}
 use Rattle.bx_node_tries.specs.declared.round.Waiting.{Waiting}
 
@@ -38,7 +40,12 @@ pub record Comes (node : ℕ) (call : Waiting) (old new : List Machine) : Type 0
   pub acting : (at : ℕ) → acting_at new at ≡ acting_at old at
 
 -- And then the node answers calls.
-pub record Called (reading node : ℕ) (call : Waiting) (old new : List Machine) (said : List Said) : Type 0 where
+pub record WaitsFirst (reading node : ℕ) (call : Waiting) (old new : List Machine) (said : List Said) : Type 0 where
   pub middle : List Machine
   pub comes : Comes node call old middle
   pub answers : Answered (Some reading) (Node node) middle new said
+
+-- A call comes to a node, which has its turn then. It touches no block, and is answered before all others; or it waits, and then the node answers calls.
+pub data Called (reading node : ℕ) (call : Waiting) (old new : List Machine) (said : List Said) : Type 0 where
+  AtOnce : (one : Said) (others : List Said) → said ≡ one ∷ others → IsAnswerTo reading call one → Answered (Some reading) (Node node) old new others → Called reading node call old new said
+  Waited : WaitsFirst reading node call old new said → Called reading node call old new said

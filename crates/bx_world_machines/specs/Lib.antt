@@ -1,3 +1,4 @@
 pub mod Answering
+pub mod AtOnce
 pub mod Machines
 pub mod Standing

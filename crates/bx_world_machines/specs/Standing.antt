@@ -1,16 +1,17 @@
 -- How the machines of a cluster stand between two events.
-use Rattle.std.specs.Prelude.{◌≡◌, ℕ, ◌+◌, ◌*◌, ◌/◌, ◌<◌, ◌≤◌, true, not, List, length, slice_index}
+use Rattle.std.specs.Prelude.{◌≡◌, ℕ, ◌+◌, ◌*◌, ◌/◌, ◌<◌, ◌≤◌, true, false, not, List, length, slice_index}
 use Rattle.bx_base.specs.declared.names.Actor.{Actor}
 use Rattle.bx_base.specs.declared.names.Actor.TheVariants.{Node, Replica, Server, Member}
 use Rattle.bx_disk.specs.Disks.{Disks}
 use Rattle.bx_facts.specs.declared.register.Register as register
 use Rattle.bx_facts.specs.declared.store.Store as store
+use Rattle.bx_facts.specs.Chains.{last}
 use Rattle.bx_facts.specs.Writes.{store_room}
-use Rattle.bx_node_rounds.specs.Rounds.{AreNumbered, AreTold}
-use Rattle.bx_node_steps.specs.Calls.{AreApart}
+use Rattle.bx_node_calls.specs.Waits.{AreNumbered, AreTold, Waits}
+use Rattle.bx_node_steps.specs.Calls.{AreApart, CallOf}
 use Rattle.bx_nodes.specs.Standing.{BeReady, OfNode, Stand}
 use Rattle.bx_nodes.specs.declared.nodes.Nodes.{Nodes}
-use Rattle.bx_owners.specs.declared.owners.Owners as owners
+use Rattle.bx_facts.specs.declared.owners.Owners as owners
 use Rattle.bx_places.specs.Places.{replica_sectors}
 use Rattle.bx_post.specs.declared.packets.Letter.{Letter}
 use Rattle.bx_views.specs.declared.engine.Engine as engine
@@ -35,14 +36,15 @@ module _ {G O S E T : Type 0} (g : register.Ghosts G) (o : owners.Ghosts O) (st 
     pub ready : (node : ℕ) → BeReady st e nodes node
     pub apart : (node : ℕ) → OfNode nodes node AreApart
 
-  -- All is of one cluster, with as many nodes and devices as it says. Those machines that are up are there; and the calls that wait have numbers up to the latest one,
-  -- no two the same.
+  -- All is of one cluster, with as many nodes and devices as it says. Those machines that are up are there; no call waits at a node that is down; and the calls that wait
+  -- have numbers up to the latest one, no two the same.
   pub record AreReady (machines : Machines G O S E T) : Type 0 where
     pub nodes : AreNodes machines.nodes
     pub counted : length machines.nodes.machines.items ≡ machines.count
     pub members : (st.made machines.nodes.store).devices ≡ machines.devices
     pub few : machines.devices ≤ 4
     pub there : (who : Actor) → is_up machines.up.items who ≡ true → HasMachine machines.count machines.devices who
+    pub quiet : (node : ℕ) (call : CallOf) → is_up machines.up.items (Node node) ≡ false → Waits machines.nodes.machines.items node call → ⊥
     pub numbered : AreNumbered machines.latest machines.nodes.machines.items
 
   -- They are ready, and disks of these sizes are as long as their machines need them.
@@ -57,10 +59,11 @@ module _ {G O S E T : Type 0} (g : register.Ghosts G) (o : owners.Ghosts O) (st 
     pub boots : clocks.most ≡ machines.boots
     pub greatest : clocks.greatest ≡ machines.clock
 
-  -- They stand on disks for a tree, whatever was done, with these letters under way; and what their logs have was told.
+  -- They stand on disks for a tree, whatever was done, with these letters under way; what their logs have was told; and the greatest state that a machine knew is the last one.
   pub record Standing (machines : Machines G O S E T) (letters : List Letter) (x : Disks) (tree : T) : Type 0 where
     pub clocks : Clocks
     pub course : Course
     pub are_clocks : AreClocks machines clocks
     pub stands : Stand g o st e machines.nodes x letters clocks course tree
     pub told : AreTold machines.latest machines.nodes.machines.items course.logs
+    pub known : machines.state ≡ last course.register.chain

@@ -3,8 +3,9 @@
 ghost use Rattle.std.specs.Prelude.{◌≡◌, ◌+◌, ◌*◌, ◌<◌, ◌≤◌, ℕ, length, slice_index, true, IfOk, List};
 ghost use Rattle.bx_base.specs.declared.names.Actor.{Actor};
 ghost use Rattle.bx_disk.specs.Disks.{Disks};
+ghost use Rattle.bx_facts.specs.Chains.{last};
 ghost use Rattle.bx_facts.specs.Writes.{store_room};
-ghost use Rattle.bx_node_rounds.specs.Rounds.{AreTold, NoneWaits};
+ghost use Rattle.bx_node_calls.specs.Waits.{AreTold, NoneWaits};
 ghost use Rattle.bx_nodes.specs.Standing.{Stand};
 ghost use Rattle.bx_nodes.specs.bx_node_openings.specs.Opening.{opening_clocks};
 ghost use Rattle.bx_places.specs.Places.{replica_sectors};
@@ -15,10 +16,9 @@ ghost use Rattle.bx_world_standing.specs.Standing.{Course};
 
 use crate::machines::Machines;
 use bx_base::{Actor, OutOfMemory};
-use bx_facts::{Register, Store};
+use bx_facts::{Owners, Register, Store};
 use bx_global::GlobalState;
 use bx_nodes::Nodes;
-use bx_owners::Owners;
 use bx_views::Engine;
 use bx_world_events::ClockRule;
 use std::alloc::Global;
@@ -39,7 +39,7 @@ impl<G: Register, O: Owners, S: Store, E: Engine> Machines<G, O, S, E> {
         devices: u32,
     ) -> Result<Machines<G, O, S, E>, OutOfMemory>
         requires few { devices ≤ 4 }
-        ensures stands { (letters : List Letter) (x : Disks) (course : Course) (tree : E.Tree) → Stand G.Register O.Owners S.Store E.Engine nodes x letters opening_clocks course tree → AreTold 0 nodes.machines.items course.logs
+        ensures stands { (letters : List Letter) (x : Disks) (course : Course) (tree : E.Tree) → Stand G.Register O.Owners S.Store E.Engine nodes x letters opening_clocks course tree → AreTold 0 nodes.machines.items course.logs → state ≡ last course.register.chain
             → IfOk result (λ machines. Standing G.Register O.Owners S.Store E.Engine machines letters x tree) }
         ensures ready { (sizes : List ℕ) → AreNodes G.Register O.Owners S.Store E.Engine nodes → length nodes.machines.items ≡ count → (S.made nodes.store).devices ≡ devices → NoneWaits nodes.machines.items
             → ((disk : ℕ) → disk < 3 → replica_sectors ≤ slice_index sizes disk) → ((disk : ℕ) → 3 ≤ disk → disk < 3 + 2 * devices → store_room (S.made nodes.store) ≤ slice_index sizes disk)

@@ -3,22 +3,24 @@
 ghost use Rattle.std.specs.Prelude.{◌≡◌, ◌+◌, ◌<◌, ◌≤◌, ◌++◌, ℕ, max, true, List, IfOk, OnOk, Some};
 ghost use Rattle.bx_base.specs.declared.names.Actor.TheVariants.{Node};
 ghost use Rattle.bx_disk.specs.Disks.{Disks};
-ghost use Rattle.bx_node_rounds.specs.Rounds.{Rounded};
+ghost use Rattle.bx_node_calls.specs.Turns.{Rounded};
 ghost use Rattle.bx_post.specs.declared.packets.Letter.{Letter};
-ghost use Rattle.bx_world_machines.specs.Answering.{Answered, Called};
+ghost use Rattle.bx_node_steps.specs.Calls.{IsAnswered};
+ghost use Rattle.bx_world_machines.specs.Answering.{Answered, Called, WaitsFirst};
 ghost use Rattle.bx_world_machines.specs.Machines.{is_up};
 ghost use Rattle.bx_world_machines.specs.Standing.{IsReady, Standing};
 
+use crate::at_once::AtOnce;
 use crate::machines::Machines;
 use crate::wakes::turn;
 use bx_base::OutOfMemory;
-use bx_facts::{Outbox, Register, Store};
+use bx_facts::{Outbox, Owners, Register, Store};
 use bx_node_tries::{Said, Waiting};
-use bx_owners::Owners;
 use bx_views::Engine;
 
 impl<G: Register, O: Owners, S: Store, E: Engine> Machines<G, O, S, E> {
-    /// A call comes to a node that is up, which has its turn then. The call is to be newer than all that came. Says the answers, in the order in which the calls acted.
+    /// A call comes to a node that is up, which has its turn then. One that touches no block is answered first. The call is to be newer than all that came. Says the answers,
+    /// in the order in which the calls acted.
     pub fn call(
         &mut self,
         node: u32,
@@ -35,6 +37,43 @@ impl<G: Register, O: Owners, S: Store, E: Engine> Machines<G, O, S, E> {
             → IfOk result (λ said. Rounded E.Engine self.old.nodes.engine (Standing G.Register O.Owners S.Store E.Engine self.new (letters ++ out.new) x) tree said.items) }
         ensures ready { (sizes : List ℕ) → IsReady G.Register O.Owners S.Store E.Engine self.old sizes → OnOk result (IsReady G.Register O.Owners S.Store E.Engine self.new sizes) }
         ensures answers { IfOk result (λ said. Called reading node call self.old.nodes.machines.items self.new.nodes.machines.items said.items) }
+        ensures at_once { E.at_once self.old.nodes.engine call.message → IfOk result (λ said. IsAnswered said.items call.number) }
+        ensures clock { self.new.clock ≡ max self.old.clock reading }
+        ensures latest { OnOk result (self.new.latest ≡ call.number) }
+        ensures same { (self.new.up ≡ self.old.up) × (self.new.state ≡ self.old.state) × (self.new.boots ≡ self.old.boots) × (self.new.count ≡ self.old.count) × (self.new.devices ≡ self.old.devices) × (self.new.nodes.engine ≡ self.old.nodes.engine) }
+    {
+        match self.answer_at_once(call, reading) {
+            Ok(AtOnce::Answered(one)) => {
+                let mut said = self.turn(node, reading, out)?;
+                said.insert(0, one)?;
+                Ok(said)
+            }
+            Ok(AtOnce::Waits(call)) => self.take(node, call, reading, out),
+            Err(OutOfMemory) => {
+                // The clock was read, whatever comes of the call.
+                self.read(reading);
+                Err(OutOfMemory)
+            }
+        }
+    }
+
+    /// A call waits at a node that is up, which has its turn then. The call is to be newer than all that came. Says the answers, in the order in which the calls acted.
+    fn take(
+        &mut self,
+        node: u32,
+        call: Waiting,
+        reading: u64,
+        out: &mut Outbox,
+    ) -> Result<Vec<Said>, OutOfMemory>
+        requires up { is_up self.old.up.items (Node node) ≡ true }
+        requires ready { (sizes : List ℕ) × IsReady G.Register O.Owners S.Store E.Engine self.old sizes }
+        requires steady { self.old.clock ≤ reading + 500 }
+        requires time { reading ≤ 4294967295999 }
+        requires newer { self.old.latest < call.number }
+        ensures stands { (letters : List Letter) (x : Disks) (tree : E.Tree) → Standing G.Register O.Owners S.Store E.Engine self.old (letters ++ out.old) x tree
+            → IfOk result (λ said. Rounded E.Engine self.old.nodes.engine (Standing G.Register O.Owners S.Store E.Engine self.new (letters ++ out.new) x) tree said.items) }
+        ensures ready { (sizes : List ℕ) → IsReady G.Register O.Owners S.Store E.Engine self.old sizes → OnOk result (IsReady G.Register O.Owners S.Store E.Engine self.new sizes) }
+        ensures answers { IfOk result (λ said. WaitsFirst reading node call self.old.nodes.machines.items self.new.nodes.machines.items said.items) }
         ensures clock { self.new.clock ≡ max self.old.clock reading }
         ensures latest { OnOk result (self.new.latest ≡ call.number) }
         ensures same { (self.new.up ≡ self.old.up) × (self.new.state ≡ self.old.state) × (self.new.boots ≡ self.old.boots) × (self.new.count ≡ self.old.count) × (self.new.devices ≡ self.old.devices) × (self.new.nodes.engine ≡ self.old.nodes.engine) }

@@ -2,17 +2,20 @@
 
 ghost use Rattle.std.specs.Prelude.{◌≡◌, ◌+◌, ◌≤◌, ◌++◌, ℕ, max, true, false, List, length, IfOk, IsErrOf, OnOk};
 ghost use Rattle.bx_base.specs.declared.names.Actor.{Actor};
+ghost use Rattle.bx_calls.specs.Calls.{LeavesOnly};
 ghost use Rattle.bx_cluster.specs.Steps.{IsTime, greatest_with};
 ghost use Rattle.bx_disk.specs.Kept.{Counted};
 ghost use Rattle.bx_facts.specs.Disks.{HasRoom};
 ghost use Rattle.bx_facts.specs.Inputs.{IsComing, IsSteady};
 ghost use Rattle.bx_facts.specs.Machines.{IsMachine};
 ghost use Rattle.bx_facts.specs.declared.input.FactError.TheVariants.{Disk as DiskFails, OutOfMemory as MemoryFails};
-ghost use Rattle.bx_node_rounds.specs.Rounds.{AreNumbered, Rounded};
+ghost use Rattle.bx_node_calls.specs.Turns.{Rounded};
+ghost use Rattle.bx_node_calls.specs.Waits.{AreNumbered};
 ghost use Rattle.bx_nodes.specs.Standing.{Stand};
 ghost use Rattle.bx_nodes.specs.Stopping.{Empties, with_down};
 ghost use Rattle.bx_nodes.specs.Taking.{Hears, with_reading};
 ghost use Rattle.bx_nodes.specs.Turns.{Turned};
+ghost use Rattle.bx_nodes.specs.bx_world_volumes.specs.Left.{MayShow};
 ghost use Rattle.bx_post.specs.declared.packets.Letter.{Letter};
 ghost use Rattle.bx_world_machines.specs.Answering.{Answered, reading_in};
 ghost use Rattle.bx_world_machines.specs.Machines.{greater, is_up, up_without};
@@ -25,10 +28,9 @@ use crate::up::leave_out;
 use crate::wakes::wake;
 use bx_base::Actor;
 use bx_disk::Rack;
-use bx_facts::{FactError, Input, Outbox, Register, Store};
+use bx_facts::{FactError, Input, Outbox, Owners, Register, Store};
 use bx_node_tries::Said;
 use bx_nodes::Nodes;
-use bx_owners::Owners;
 use bx_views::Engine;
 use std::alloc::Global;
 
@@ -50,6 +52,8 @@ impl<G: Register, O: Owners, S: Store, E: Engine> Machines<G, O, S, E> {
             → IfOk result (λ said. Rounded E.Engine self.old.nodes.engine (Standing G.Register O.Owners S.Store E.Engine self.new (letters ++ out.new) (R.state rack.new)) tree said.items) }
         ensures stopped { (letters : List Letter) (tree : E.Tree) → R.tells rack.old → IsComing (letters ++ out.old) input.now → Standing G.Register O.Owners S.Store E.Engine self.old (letters ++ out.old) (R.state rack.old) tree
             → IsErrOf result DiskFails → Standing G.Register O.Owners S.Store E.Engine self.new (letters ++ out.old) (R.state rack.new) tree }
+        ensures any_moment { (letters : List Letter) (tree : E.Tree) → R.tells rack.old → IsComing (letters ++ out.old) input.now → (standing : Standing G.Register O.Owners S.Store E.Engine self.old (letters ++ out.old) (R.state rack.old) tree)
+            → LeavesOnly (R.moment rack.old) (R.moment rack.new) (R.left_since rack.old) (R.left_since rack.new) (MayShow (G.reads_as (G.made self.old.nodes.register) (R.state rack.old).sizes) (S.made self.old.nodes.store) (R.state rack.old).sizes standing.course) }
         ensures ready { (sizes : List ℕ) → IsReady G.Register O.Owners S.Store E.Engine self.old sizes → (IsErrOf result MemoryFails → ⊥) → IsReady G.Register O.Owners S.Store E.Engine self.new sizes }
         ensures answers { IfOk result (λ said. Answered (reading_in input.now) at self.old.nodes.machines.items self.new.nodes.machines.items said.items) }
         ensures empties { IsErrOf result DiskFails → Empties at self.old.nodes.machines.items self.new.nodes.machines.items }
@@ -111,10 +115,13 @@ fn hear<G: Register, O: Owners, S: Store, E: Engine, R: Rack>(
     requires time { IsTime (reading_in input.now) }
     ensures stands { (letters : List Letter) (clocks : Clocks) (c : Course) (tree : E.Tree) → R.tells rack.old → clocks.down at ≡ false → IsSteady clocks.greatest input.now → IsComing (letters ++ out.old) input.now
         → Stand G.Register O.Owners S.Store E.Engine nodes.old (R.state rack.old) (letters ++ out.old) clocks c tree
-        → IfOk result (λ said. Hears (λ later. Turned (E.step nodes.old.engine) (Stand G.Register O.Owners S.Store E.Engine nodes.new (R.state rack.new) (letters ++ out.new) (with_reading clocks input.now)) later tree said.items) c) }
+        → IfOk result (λ said. Hears (G.knows nodes.new.register at) (λ later. Turned (E.step nodes.old.engine) (Stand G.Register O.Owners S.Store E.Engine nodes.new (R.state rack.new) (letters ++ out.new) (with_reading clocks input.now)) later tree said.items) c) }
     ensures stopped { (letters : List Letter) (clocks : Clocks) (c : Course) (tree : E.Tree) → R.tells rack.old → clocks.down at ≡ false → IsSteady clocks.greatest input.now → IsComing (letters ++ out.old) input.now
         → Stand G.Register O.Owners S.Store E.Engine nodes.old (R.state rack.old) (letters ++ out.old) clocks c tree
-        → IsErrOf result DiskFails → Hears (λ later. Stand G.Register O.Owners S.Store E.Engine nodes.new (R.state rack.new) (letters ++ out.old) (with_down (with_reading clocks input.now) at) later tree) c }
+        → IsErrOf result DiskFails → Hears (G.knows nodes.new.register at) (λ later. Stand G.Register O.Owners S.Store E.Engine nodes.new (R.state rack.new) (letters ++ out.old) (with_down (with_reading clocks input.now) at) later tree) c }
+    ensures any_moment { (letters : List Letter) (clocks : Clocks) (c : Course) (tree : E.Tree) → R.tells rack.old → clocks.down at ≡ false → IsSteady clocks.greatest input.now → IsComing (letters ++ out.old) input.now
+        → Stand G.Register O.Owners S.Store E.Engine nodes.old (R.state rack.old) (letters ++ out.old) clocks c tree
+        → LeavesOnly (R.moment rack.old) (R.moment rack.new) (R.left_since rack.old) (R.left_since rack.new) (MayShow (G.reads_as (G.made nodes.old.register) (R.state rack.old).sizes) (S.made nodes.old.store) (R.state rack.old).sizes c) }
     ensures answers { (latest : ℕ) → AreNumbered latest nodes.old.machines.items → IfOk result (λ said. Answered (reading_in input.now) at nodes.old.machines.items nodes.new.machines.items said.items) }
     ensures empties { IsErrOf result DiskFails → Empties at nodes.old.machines.items nodes.new.machines.items }
     ensures nodes { (IsErrOf result MemoryFails → ⊥) → AreNodes G.Register O.Owners S.Store E.Engine nodes.new }

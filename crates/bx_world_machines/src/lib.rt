@@ -1,10 +1,13 @@
 //! All machines of a cluster, over any register, owners, store and engine, and what one of them does when it hears something.
 #![tactic(auto)]
 
+mod at_once;
 mod begins;
 mod calls;
 mod hears;
 mod machines;
+mod reads;
+mod starts;
 mod stops;
 mod up;
 mod wakes;

@@ -6,10 +6,9 @@ ghost use Rattle.bx_world_machines.specs.Machines.{greater, is_up};
 
 use crate::up::is_among;
 use bx_base::{Actor, CallNo, OutOfMemory};
-use bx_facts::{Register, Store};
+use bx_facts::{Owners, Register, Store};
 use bx_global::GlobalState;
 use bx_nodes::Nodes;
-use bx_owners::Owners;
 use bx_views::Engine;
 use bx_world_events::ClockRule;
 use std::alloc::Global;

@@ -10,8 +10,7 @@ ghost use Rattle.bx_world_machines.specs.Standing.{IsReady, Standing};
 use crate::machines::Machines;
 use crate::up::leave_out;
 use bx_base::Actor;
-use bx_facts::{Register, Store};
-use bx_owners::Owners;
+use bx_facts::{Owners, Register, Store};
 use bx_views::Engine;
 
 impl<G: Register, O: Owners, S: Store, E: Engine> Machines<G, O, S, E> {

@@ -5,7 +5,7 @@ ghost use Rattle.bx_base.specs.declared.names.Actor.TheVariants.{Node};
 ghost use Rattle.bx_cluster.specs.Steps.{IsTime};
 ghost use Rattle.bx_disk.specs.Disks.{Disks};
 ghost use Rattle.bx_facts.specs.Inputs.{IsSteady};
-ghost use Rattle.bx_node_rounds.specs.Rounds.{AreNumbered};
+ghost use Rattle.bx_node_calls.specs.Waits.{AreNumbered};
 ghost use Rattle.bx_nodes.specs.Standing.{Stand};
 ghost use Rattle.bx_nodes.specs.Turns.{Turned};
 ghost use Rattle.bx_post.specs.declared.packets.Letter.{Letter};
@@ -15,10 +15,9 @@ ghost use Rattle.bx_world_standing.specs.Parts.{Clocks};
 ghost use Rattle.bx_world_standing.specs.Standing.{Course};
 
 use bx_base::OutOfMemory;
-use bx_facts::{Input, Outbox, Register, Store};
+use bx_facts::{Input, Outbox, Owners, Register, Store};
 use bx_node_tries::Said;
 use bx_nodes::Nodes;
-use bx_owners::Owners;
 use bx_views::Engine;
 use std::alloc::Global;
 

@@ -5,7 +5,6 @@ pub mod Parts
 pub mod Rights
 pub mod Sessions
 pub mod Standing
-pub use Rattle.bx_owners
 pub use Rattle.bx_world_logs.specs.bx_redo
 pub use Rattle.bx_world_logs.specs.bx_volume
 pub use Rattle.bx_world_chains

@@ -3,7 +3,7 @@ use Rattle.std.proofs.Common.{inl, ℕ, List, Contains, refl}
 use Rattle.bx_disk.specs.Disks.{Disks}
 use Rattle.bx_facts.specs.declared.register.Register as register
 use Rattle.bx_facts.specs.declared.store.Store as store
-use Rattle.bx_owners.specs.declared.owners.Owners as owners
+use Rattle.bx_facts.specs.declared.owners.Owners as owners
 use Rattle.bx_facts.specs.Chains.{last}
 use Rattle.bx_facts.specs.Writes.{IsOnly, Sent}
 use Rattle.bx_views.specs.Attempts.{Deed}

@@ -7,7 +7,7 @@ use Rattle.bx_base.specs.declared.names.Mode.{Mode}
 use Rattle.bx_disk.specs.Disks.{Disks}
 use Rattle.bx_facts.specs.declared.register.Register as register
 use Rattle.bx_facts.specs.declared.store.Store as store
-use Rattle.bx_owners.specs.declared.owners.Owners as owners
+use Rattle.bx_facts.specs.declared.owners.Owners as owners
 use Rattle.bx_facts.specs.Chains.{HasRow, IsOwnersOwn, IsPlace, IsStoresOwn, LivesIn, last, session_by, with_change}
 use Rattle.bx_facts.specs.Holds.{Holds, KeepsHolds, OwnersPast}
 use Rattle.bx_facts.specs.Inputs.{greatest_with}

@@ -7,7 +7,7 @@ use Rattle.bx_records.specs.Drafts.{Block}
 use Rattle.bx_disk.specs.Disks.{Disks}
 use Rattle.bx_facts.specs.declared.register.Register as register
 use Rattle.bx_facts.specs.declared.store.Store as store
-use Rattle.bx_owners.specs.declared.owners.Owners as owners
+use Rattle.bx_facts.specs.declared.owners.Owners as owners
 use Rattle.bx_facts.specs.Chains.{Chain, HasRow, LivesIn, last, oldest}
 use Rattle.bx_facts.specs.Holds.{Hold, Holds, KeepsHolds, OwnersPast, is_exclusive}
 use Rattle.bx_facts.specs.Pasts.{RegisterPast}

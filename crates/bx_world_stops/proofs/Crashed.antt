@@ -6,7 +6,7 @@ use Rattle.bx_base.specs.declared.names.Actor.TheVariants.{Node}
 use Rattle.bx_disk.specs.Disks.{Disks}
 use Rattle.bx_facts.specs.declared.register.Register as register
 use Rattle.bx_facts.specs.declared.store.Store as store
-use Rattle.bx_owners.specs.declared.owners.Owners as owners
+use Rattle.bx_facts.specs.declared.owners.Owners as owners
 use Rattle.bx_facts.specs.Chains.{HasRow, last}
 use Rattle.bx_facts.specs.Holds.{OwnersPast, owners_crashed}
 use Rattle.bx_facts.specs.Machines.{is_same, put_at}

@@ -6,7 +6,7 @@ use Rattle.bx_base.specs.declared.names.Actor.TheVariants.{Node}
 use Rattle.bx_disk.specs.Disks.{Disks}
 use Rattle.bx_facts.specs.declared.register.Register as register
 use Rattle.bx_facts.specs.declared.store.Store as store
-use Rattle.bx_owners.specs.declared.owners.Owners as owners
+use Rattle.bx_facts.specs.declared.owners.Owners as owners
 use Rattle.bx_facts.specs.Chains.{HasOwnBoot, HasRow, last, session_by}
 use Rattle.bx_facts.specs.Holds.{OwnersPast}
 use Rattle.bx_facts.specs.Machines.{is_same, put_at}

@@ -1,3 +1,5 @@
+pub mod Left
+pub mod Legal
 pub mod Readings
 pub mod Recovered
 pub mod Trees

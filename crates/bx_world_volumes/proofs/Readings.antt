@@ -4,7 +4,7 @@ use Rattle.std.specs.Prelude.{length, slice_get, slice_index, nat_lt, if◌then�
 use Rattle.std.proofs.lemmas.Bool.Decides.{nat_tests}
 use Rattle.std.proofs.lemmas.Option.{slice_get_cases}
 use Rattle.bx_disk.specs.Disks.{Disks, Image, IsImage}
-use Rattle.bx_facts.specs.Chains.{Chain, IsNext, IsPlace, IsStoresOwn, grown, last}
+use Rattle.bx_facts.specs.Chains.{Chain, IsNext, IsPlace, grown, last}
 use Rattle.bx_facts.specs.Holds.{OwnersPast, owners_grown}
 use Rattle.bx_facts.specs.Writes.{IsOfStore, IsOnly, IsSettled, IsSourceIn, IsSourceRow, Made, StorePast, label_on, member_disk as disk_of, store_grown, store_room}
 use Rattle.bx_global.specs.declared.change.Change.{Change}
@@ -36,41 +36,36 @@ use Rattle.bx_world_standing.specs.Rights.{IsWithin, Surely}
 use Rattle.bx_world_standing.specs.Labels.{HasNoLabel, LabelsStand}
 use Rattle.bx_world_standing.specs.Closings.{ClosingStands}
 use Rattle.bx_world_standing.proofs.Grown.{logs_go, surely_goes}
-
--- What stands on disks in a state: the logs, in sectors that are settled in it; and each member that is a source in it has its label, on a whole
--- disk, on a volume of as many devices as the state has.
-pub record StandsIn (x : Disks) (made : Made) (before : Image) (logs : Logs) (slots : ℕ → Slot) (truth : Truth) (s : GlobalState) : Type 0 where
-  pub logs_stand : LogsStand (IsSettled x s) made.devices made.areas s.sessions before logs slots truth
-  pub members : IsOfStore made x s
+pub use Rattle.bx_world_volumes.specs.Left.{StandsIn}
 
 -- ---- one state ahead
 
 module _ (x : Disks) (made : Made) (keeps : StorePast → Type 0) (stands : StorePast → ℕ → ℕ → List ℕ → ℕ → Type 0) (settled : StorePast → ℕ → ℕ → List ℕ → Type 0)
     (settles : (past : StorePast) (d s : ℕ) (content : List ℕ) (index : ℕ) → keeps past → stands past d s content index → settled past d s content)
-    (settled_is : (past : StorePast) (d s : ℕ) (content : List ℕ) → keeps past → settled past d s content → IsSettled x (last past.told.chain) d s content)
-    (grows : (past : StorePast) (change : Change) → keeps past → IsLegal (last past.told.chain) change → IsStoresOwn past.told.handed change
-    → keeps (store_grown past change) × ((d s : ℕ) (content : List ℕ) (index : ℕ) → IsOnly past.writes past.told.greatest d s content → stands past d s content index → stands (store_grown past change) d s content index))
+    (settled_is : (past : StorePast) (d s : ℕ) (content : List ℕ) → keeps past → IsOnly past.writes past.told.greatest d s content → settled past d s content → IsSettled x (last past.told.chain) d s content)
     (labelled : (past : StorePast) → keeps past → IsOfStore made x (last past.told.chain)) where
   stands_at : (sp : StorePast) (s : GlobalState) (before : Image) (logs : Logs) (slots : ℕ → Slot) (truth : Truth) (within : ℕ → ℕ → ℕ → Type 0) → keeps sp → s ≡ last sp.told.chain
       → LogsStand (Surely (stands sp) within sp.writes sp.told.greatest) made.devices made.areas (last sp.told.chain).sessions before logs slots truth
       → StandsIn x made before logs slots truth s
   stands_at sp s before logs slots truth within kept is st = subst (λ (t : GlobalState). StandsIn x made before logs slots truth t) (sym is) (record {
     logs_stand = rows_go (Surely (stands sp) within sp.writes sp.told.greatest) (IsSettled x (last sp.told.chain)) made.devices made.areas before
-        (λ d sector content sure. settled_is sp d sector content kept (settles sp d sector content sure.index kept sure.is))
+        (λ d sector content sure. settled_is sp d sector content kept sure.only (settles sp d sector content sure.index kept sure.is))
         (last sp.told.chain).sessions (last sp.told.chain).sessions logs slots truth (λ slot less. inl refl) st;
     members = labelled sp kept;
   })
 
   pub next_stands : (sp : StorePast) (op : OwnersPast) (IsOf : ℕ → SessionRow → Type 0) (stays_of : (node : ℕ) (old new : SessionRow) → GoesOn old new → IsOf node new → IsOf node old) (knew : ℕ → ℕ) (proposed : List Change) (s : GlobalState) (before : Image) (logs : Logs) (slots : ℕ → Slot) (truth : Truth)
-      → keeps sp → op.told.chain ≡ sp.told.chain → AreAllowed sp.told.chain
-      → ((change : Change) → Contains proposed change → IsStoresOwn sp.told.handed change)
+      → keeps sp
+      → ((change : Change) → Contains proposed change → IsLegal (last sp.told.chain) change
+      → keeps (store_grown sp change) × ((d s : ℕ) (content : List ℕ) (index : ℕ) → IsOnly sp.writes sp.told.greatest d s content → stands sp d s content index → stands (store_grown sp change) d s content index))
+      → op.told.chain ≡ sp.told.chain → AreAllowed sp.told.chain
       → ((gone by : ℕ) → Contains proposed (Close gone by) → ClosingStands made.devices (last sp.told.chain) logs slots sp.writes gone by)
       → LogsStand (Surely (stands sp) (IsWithin made.devices made.areas sp.told.chain op.holding op.floor IsOf knew) sp.writes sp.told.greatest) made.devices made.areas (last sp.told.chain).sessions before logs slots truth
       → IsNext proposed (last sp.told.chain) s → StandsIn x made before logs slots truth s
-  next_stands sp op IsOf stays_of knew proposed s before logs slots truth kept same all owned closing st (inl is) =
+  next_stands sp op IsOf stays_of knew proposed s before logs slots truth kept grows same all closing st (inl is) =
       stands_at sp s before logs slots truth (IsWithin made.devices made.areas sp.told.chain op.holding op.floor IsOf knew) kept is st
-  next_stands sp op IsOf stays_of knew proposed s before logs slots truth kept same all owned closing st (inr (change, there, legal, is)) =
-      let grew = grows sp change kept legal (owned change there) in
+  next_stands sp op IsOf stays_of knew proposed s before logs slots truth kept grows same all closing st (inr (change, there, legal, is)) =
+      let grew = grows change there legal in
       let allowed = all.each (last sp.told.chain) (last_is sp.told.chain) in
       stands_at (store_grown sp change) s before logs slots truth (IsWithin made.devices made.areas (grown sp.told.chain change) op.holding (owners_grown op change).floor IsOf knew) grew.0 is
       (logs_go sp.told.chain change allowed legal
@@ -151,14 +146,25 @@ module _ (x : Disks) (IsState : Image → GlobalState → Type 0) (made : Made) 
       long_is : (b : Bool) → store_room made ≤ slice_index x.sizes (disk_of device b) → disk_sectors made.devices made.areas (disk_of device b) ≤ slice_index x.sizes (disk_of device b)
       long_is b long = subst (λ (low : Bool). (if low then replica_sectors else member_sectors made.devices made.areas) ≤ slice_index x.sizes (disk_of device b)) (sym (not_low b)) long
 
+  -- each reading has the labels of the volume
+  abbrev pub IsLabelledBy : Reading x IsState → Type 0
+  IsLabelledBy reading = IsFirstLabel x.sizes reading.image (label_on made labels.one) × (length reading.state.devices ≡ made.devices)
+      × ((device : ℕ) (row : DeviceRow) (member : Bool) → slice_get reading.state.devices device ≡ Some row → IsSource row.mode member → IsLabelled x.sizes reading.image (label_on made labels.one) (member_disk device member))
+
+  pub labelled_by : (reading : Reading x IsState) → IsLabelledBy reading
+  labelled_by reading = (first_in reading.image reading.is_image, (next reading.image reading.state reading.is_image reading.is_state).members.devices, member_labelled reading)
+
+  -- and what stands in it is read by each
+  pub logs_by : (reading : Reading x IsState) → LogsStand (SureIn reading.image reading.state) made.devices made.areas reading.state.sessions before logs slots truth
+  logs_by reading =
+      let st = next reading.image reading.state reading.is_image reading.is_state in
+      rows_go (IsSettled x reading.state) (SureIn reading.image reading.state) made.devices made.areas before
+      (λ d sector content settled second sources. settled_has x reading.state reading.image second reading.is_image sources d sector content settled)
+      reading.state.sessions reading.state.sessions logs slots truth (λ slot less. inl refl) st.logs_stand
+
   -- The rack is a volume for the tree, where the truth with some of the records in doubt stands for a tree that comes after it.
   pub rack_is_volume : (After : Tree → Tree → Type 0) (tree : Tree)
       → ((shown : Logs) (last_truth : Truth) → ShowsTo logs slots 8 shown truth last_truth → (after : Tree) × After tree after × StandsFor made.areas last_truth after × IsFileTree after × (after.volume ≡ made.volume))
       → IsVolumeFor x IsState made.devices made.areas After tree
   rack_is_volume After tree trees = is_volume x IsState (label_on made labels.one) before logs slots truth After tree
-      (λ reading. let st = next reading.image reading.state reading.is_image reading.is_state in
-      rows_go (IsSettled x reading.state) (SureIn reading.image reading.state) made.devices made.areas before
-      (λ d sector content settled second sources. settled_has x reading.state reading.image second reading.is_image sources d sector content settled)
-      reading.state.sessions reading.state.sessions logs slots truth (λ slot less. inl refl) st.logs_stand)
-      (λ reading. (first_in reading.image reading.is_image, (next reading.image reading.state reading.is_image reading.is_state).members.devices, member_labelled reading))
-      trees
+      logs_by labelled_by trees

@@ -4,7 +4,7 @@ use Rattle.std.specs.Prelude.{IsSomeAnd, length}
 use Rattle.bx_disk.specs.Disks.{Disks, Image}
 use Rattle.bx_facts.specs.declared.register.Register as register
 use Rattle.bx_facts.specs.declared.store.Store as store
-use Rattle.bx_owners.specs.declared.owners.Owners as owners
+use Rattle.bx_facts.specs.declared.owners.Owners as owners
 use Rattle.bx_facts.specs.Chains.{HasRow, LivesIn, last}
 use Rattle.bx_facts.specs.Writes.{Sent}
 use Rattle.bx_global.specs.Allowed.{IsAllowed}

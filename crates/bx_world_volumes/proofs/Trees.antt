@@ -62,7 +62,7 @@ unhinted node = no_hints
 module _ {T : Type 0} (Stands : Truth → Hints → T → Type 0) (Step : T → Deed → T → Type 0) (Sure : ℕ → ℕ → List ℕ → Type 0) (devices areas : ℕ) (s : GlobalState) (allowed : IsAllowed s)
     (before : Image) (logs : Logs) (slots : ℕ → Slot) (truth : Truth) (st : LogsStand Sure devices areas s.sessions before logs slots truth)
     (holding : Holds) (doubts : ℕ → Option Doubt) (doubted : DoubtsStand s.sessions slots doubts)
-    (After : T → Type 0) (goes : (session : ℕ) (doubt : Doubt) (old new : T) → doubts session ≡ Some doubt → After old → StepOf Stands Step doubt.act old new → After new) where
+    (After : T → Type 0) (goes : (session : ℕ) (row : SessionRow) (doubt : Doubt) (old new : T) → row_in s.sessions session ≡ Some row → opens (slots row.slot).activity ≡ true → doubts session ≡ Some doubt → After old → StepOf Stands Step doubt.act old new → After new) where
   -- what stands of the volume, with no node
   abbrev pub Alone : (ℕ → Option Doubt) → Truth → T → Type 0
   Alone left other tree = VolumeStands Stands Step holding (HasRow s) (LivesIn s) nobody nothing unhinted left other tree
@@ -114,7 +114,7 @@ module _ {T : Type 0} (Stands : Truth → Hints → T → Type 0) (Step : T → 
           twice same = let a : row_in s.sessions its.session ≡ Some row = subst (λ (k : ℕ). row_in s.sessions k ≡ Some row) same found in let b = its.is in let e : row ≡ its.row = cc in ap (λ (r : SessionRow). r.slot) e
 
       next : SoFar (suc n) (with_draft old mine.0.draft)
-      next = record { tree = done.0; after = goes its.session mine.0 far.tree done.0 mine.1 far.after done.1; left = without_doubt far.left its.session; same = kept; stands = done.2 }
+      next = record { tree = done.0; after = goes its.session its.row mine.0 far.tree done.0 its.is (subst (λ (k : ℕ). opens (slots k).activity ≡ true) (sym its.at) is.0) mine.1 far.after done.1; left = without_doubt far.left its.session; same = kept; stands = done.2 }
 
   up_to : (n : ℕ) → n ≤ 8 → (shown : Logs) (last : Truth) → ShowsTo logs slots n shown truth last → SoFar 0 truth → SoFar n last
   up_to zero most shown last shows start = subst (λ (t : Truth). SoFar 0 t) (sym shows) start

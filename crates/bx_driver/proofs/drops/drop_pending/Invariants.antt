@@ -1,6 +1,7 @@
 use Rattle.std.proofs.Common.{◌≡◌, ℕ, List}
 use Rattle.bx_driver.specs.Drops.{GoesOn, dropped}
-use Rattle.bx_driver.proofs.Dropping.{left_on}
+use Rattle.bx_driver.specs.Lanes.{is_on}
+use Rattle.bx_driver.proofs.Dropping.{left_of}
 use Rattle.bx_driver.proofs.drops.drop_pending.Given as goal
 
 abbrev pub invariant-loop-number : goal.invariant-loop-number
@@ -13,4 +14,4 @@ invariant-loop-number g l = record {
 }
 
 abbrev pub decreases-loop-number : goal.decreases-loop-number
-decreases-loop-number g l = left_on l.lane (g.C.Shows.seen l.cluster).post
+decreases-loop-number g l = left_of (is_on l.lane) (g.C.Shows.seen l.cluster).post

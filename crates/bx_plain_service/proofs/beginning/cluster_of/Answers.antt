@@ -4,7 +4,9 @@ use Rattle.bx_facts.specs.Writes.{Made}
 use Rattle.bx_plain.specs.Begin.{plain_state}
 use Rattle.bx_plain.specs.Fits.{own_in}
 use Rattle.bx_node_rounds.specs.bx_plain_parts.specs.declared.parts.Shape.{Shape}
-use Rattle.bx_plain_service.proofs.Openings.{has_own, if_ok_map, own_below}
+use Rattle.bx_node_rounds.proofs.Machines.{if_ok_so}
+use Rattle.bx_plain_standing.proofs.Parts.{own_below}
+use Rattle.bx_plain_service.proofs.Openings.{has_own}
 use Rattle.bx_plain_service.proofs.beginning.cluster_of.Goals as goal
 
 no_disks : Disks
@@ -24,7 +26,7 @@ begin-requires-clause-parts c = record {
 pub returns-clause-stands : goal.returns-clause-stands
 returns-clause-stands c = λ disks tree rests.
     let new = c.requires.parts.new disks in
-    if_ok_map _ _ c.begin.result
+    if_ok_so _ _ c.begin.result
     (λ cluster is. (
       is.0,
       λ node less. has_own _ node _ (ap (λ (n : ℕ). own_in n node) (sym new.owners_for.0 ∙ ap (λ (m : Made). m.nodes) c.requires.parts.made) ∙ own_below c.args.nodes node less) (is.1 node),

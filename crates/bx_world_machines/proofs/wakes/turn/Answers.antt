@@ -1,6 +1,7 @@
 use Rattle.bx_facts.specs.Holds.{first_of}
-use Rattle.bx_node_rounds.proofs.Nodes.{if_ok_with, on_ok_pair, on_ok_with, turn_of}
-use Rattle.bx_nodes.proofs.Machines.{there_is}
+use Rattle.bx_node_calls.proofs.Found.{if_ok_with, on_ok_with}
+use Rattle.bx_node_calls.proofs.Turning.{turn_of}
+use Rattle.bx_nodes.proofs.Machines.{both_ok, there_is}
 use Rattle.bx_world_machines.proofs.Answering.{turn_answers}
 use Rattle.bx_world_machines.proofs.Nodes.{nodes_turned}
 use Rattle.bx_world_machines.proofs.wakes.turn.Goals as goal
@@ -13,7 +14,7 @@ returns-clause-answers g c = λ latest numbers.
     if_ok_with _ _ _ c.turn.result
     (λ items answers also. turn_answers c.args.reading c.args.node latest old.machines.items c.turn.new.self.machines.items items.items its.0 its.1
     (turn_of c.args.reading c.args.node old c.turn.new.self items.items c.requires.there said.count answers also.0 (first_of (g.O.Owners.asks old.owners c.args.node)) also.1 said.others (c.requires.nodes.apart c.args.node)) numbers)
-    said.answers (on_ok_pair _ _ c.turn.result said.session said.tidies)
+    said.answers (both_ok _ _ c.turn.result said.session said.tidies)
 
 pub returns-clause-nodes : goal.returns-clause-nodes
 returns-clause-nodes g c =
@@ -22,4 +23,4 @@ returns-clause-nodes g c =
     on_ok_with _ _ _ c.turn.result
     (λ items answers also. nodes_turned g.G.Register g.O.Owners g.S.Store g.E.Engine old c.turn.new.self c.requires.nodes c.args.node c.requires.there said.count said.others also.0 c.args.reading items.items
     (turn_of c.args.reading c.args.node old c.turn.new.self items.items c.requires.there said.count answers also.1.0 (first_of (g.O.Owners.asks old.owners c.args.node)) also.1.1 said.others (c.requires.nodes.apart c.args.node)) said.parts said.nodes said.elsewhere)
-    said.answers (on_ok_pair _ _ c.turn.result said.ready (on_ok_pair _ _ c.turn.result said.session said.tidies))
+    said.answers (both_ok _ _ c.turn.result said.ready (both_ok _ _ c.turn.result said.session said.tidies))

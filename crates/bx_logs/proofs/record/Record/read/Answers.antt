@@ -24,11 +24,12 @@ returns-in-Some-found-clause-some g c = λ tells.
     let image = (g.R.Rack.state c.args.rack.now).reads in
     let told = c.in_ok-head.ensures.rack.keeps_telling tells in
     let stand = of_some (StandOn (g.R.Rack.state c.read_head.new.rack).reads c.args.disk (c.args.sector + 1)) c.in_ok-found.found c.in-Some-found.changed c.in-Some-found.is (c.in_ok-found.ensures.some told) in
+    rw c.new.ensures (
     record_there image c.args.disk c.args.sector c.args.areas (record { head = c.in-Some.head; changed = c.in-Some-found.changed })
     (of_some (λ head. SpellsHead head (image c.args.disk c.args.sector)) c.in_ok-head.field-0 c.in-Some.head c.in-Some.is (c.in_ok-head.ensures.some tells))
     (subst (AreNumbers c.args.areas) c.items.ensures (c.are_numbers.ensures.0 c.if-not-are_numbers.false))
     (of_some (λ changed. map (λ change. change.0) changed ≡ c.items-2.result.now) c.in_ok-found.found c.in-Some-found.changed c.in-Some-found.is c.in_ok-found.ensures.numbers ∙ c.items-2.ensures)
-    (subst (λ (s : Disks). StandOn s.reads c.args.disk (c.args.sector + 1) c.in-Some-found.changed) c.in_ok-head.ensures.stays stand)
+    (subst (λ (s : Disks). StandOn s.reads c.args.disk (c.args.sector + 1) c.in-Some-found.changed) c.in_ok-head.ensures.stays stand))
 
 pub returns-in-None-clause-none : goal.returns-in-None-clause-none
 returns-in-None-clause-none g c = λ tells logged at.

@@ -1,6 +1,8 @@
 use Rattle.std.proofs.Common.{◌∙◌, rules, arith, refl}
+use Rattle.bx_node_calls.proofs.Found.{on_ok_then, on_ok_two}
 use Rattle.bx_nodes.specs.bx_node_openings.specs.Opening.{opening_clocks}
-use Rattle.bx_node_rounds.proofs.Coming.{none_renewed, on_ok_then, on_ok_two, ready_renewed, sessions_on, tidies_renewed, told_renewed}
+use Rattle.bx_node_rounds.proofs.Coming.{none_renewed, ready_renewed, sessions_on, told_renewed}
+use Rattle.bx_node_rounds.proofs.Tidies.{tidies_renewed}
 use Rattle.bx_node_rounds.proofs.cluster.Cluster.+renew_from.Goals as goal
 
 pub renew_from-requires : goal.renew_from-requires
@@ -39,5 +41,6 @@ pub returns-clause-tidies : goal.returns-clause-tidies
 returns-clause-tidies g t c = λ other.
     let said = c.in_ok-renew.ensures in
     let less = c.if-node-self.false in
-    let here = tidies_renewed g.G.Register g.S.Store g.E.Engine c.args.self.now c.requires.ready c.args.node c.renew.new.self (omega (arith, less)) said.count said.calls said.others _ _ _ said.renews other in
+    let counted = c.requires.ready.counted in
+    let here = tidies_renewed c.args.node c.args.self.now.nodes c.renew.new.self (omega (arith, less, counted)) said.count said.others _ _ _ said.renews other in
     on_ok_then _ _ c.renew_from.result (λ later. later ∙ here) (c.renew_from.ensures.tidies other)

@@ -1,8 +1,8 @@
 use Rattle.std.proofs.Common.{[], ◌∙◌, arith, subst}
 use Rattle.std.specs.Prelude.{slice_get}
 use Rattle.bx_facts.proofs.Lists.{nothing}
-use Rattle.bx_node_rounds.proofs.Coming.{first_tidies}
-use Rattle.bx_node_rounds.specs.Rounds.{HasSession}
+use Rattle.bx_node_calls.specs.Turns.{HasSession}
+use Rattle.bx_node_rounds.proofs.Tidies.{first_tidies}
 use Rattle.bx_node_steps.specs.Seen.{seen}
 use Rattle.bx_volume.specs.Records.{Logged}
 use Rattle.bx_nodes.specs.bx_world_stays.proofs.Begins.{opening_course}

@@ -1,5 +1,7 @@
+use Rattle.bx_node_calls.proofs.Coming.{each_called, still_called}
 use Rattle.bx_nodes.specs.bx_node_openings.specs.Opening.{opening_clocks}
-use Rattle.bx_node_rounds.proofs.Coming.{each_called, ready_call, still_called, tidies_called, told_call}
+use Rattle.bx_node_rounds.proofs.Coming.{ready_call, told_call}
+use Rattle.bx_node_rounds.proofs.Tidies.{tidies_called}
 use Rattle.bx_node_rounds.proofs.cluster.Cluster.call.Goals as goal
 
 pub returns-clause-ready : goal.returns-clause-ready

@@ -1,7 +1,8 @@
 use Rattle.std.proofs.Common.{IfOk, ◌∙◌, ◌≡◌, List, [], refl, subst, sym}
-use Rattle.bx_node_rounds.specs.Rounds.{Rounded, Standing, all_said}
+use Rattle.bx_node_calls.specs.Turns.{Rounded}
+use Rattle.bx_node_calls.proofs.Found.{on_ok_then}
+use Rattle.bx_node_rounds.specs.Rounds.{Standing, all_said}
 use Rattle.bx_node_rounds.specs.declared.rounds.Told.{Told}
-use Rattle.bx_node_rounds.proofs.Coming.{on_ok_then}
 use Rattle.bx_node_rounds.proofs.Nodes.{clean_from, clean_left}
 use Rattle.bx_node_rounds.proofs.cluster.Cluster.round.Goals as goal
 

@@ -1,5 +1,7 @@
+use Rattle.bx_node_calls.proofs.Ticking.{still_ticked, told_ticked, waits_ticked}
 use Rattle.bx_nodes.specs.bx_node_openings.specs.Opening.{opening_clocks}
-use Rattle.bx_node_rounds.proofs.Ticking.{begins_ticked, busy_ticked, ready_ticked, still_ticked, told_ticked, waits_ticked}
+use Rattle.bx_node_rounds.proofs.Ticking.{ready_ticked}
+use Rattle.bx_node_rounds.proofs.Tidies.{begins_ticked, busy_ticked}
 use Rattle.bx_node_rounds.proofs.cluster.Cluster.tick.Goals as goal
 
 pub returns-clause-begins : goal.returns-clause-begins
@@ -31,5 +33,5 @@ returns-clause-stands g c = λ x tree standing.
       letters = standing.letters;
       course = standing.course;
       stands = said.stands x standing.letters opening_clocks standing.course tree standing.stands;
-      told = told_ticked c.args.self.now.latest c.args.node c.args.self.now.nodes c.tick.new.self c.requires.there said.count said.ticks said.others standing.course.logs standing.told;
+      told = told_ticked c.args.node c.args.self.now.nodes c.tick.new.self c.requires.there said.count said.ticks said.others c.args.self.now.latest standing.course.logs standing.told;
     }

@@ -1,9 +1,11 @@
 use Rattle.std.proofs.Common.{◌≡◌, List, ◌++◌, refl, sym, subst, arith, ap, ◌∙◌}
 use Rattle.std.proofs.lemmas.List.{append-nil}
 use Rattle.bx_facts.specs.Holds.{first_of}
+use Rattle.bx_node_calls.proofs.Found.{if_ok_and, if_ok_both, if_ok_with, on_ok_by, on_ok_then, on_ok_with}
+use Rattle.bx_node_calls.proofs.Turning.{sessions_turn, turn_of}
 use Rattle.bx_nodes.specs.bx_node_openings.specs.Opening.{opening_clocks}
-use Rattle.bx_node_rounds.proofs.Coming.{on_ok_then}
-use Rattle.bx_node_rounds.proofs.Nodes.{if_ok_and, if_ok_both, if_ok_with, on_ok_by, on_ok_pair, on_ok_with, sessions_turn, turn_clean, turn_of, turn_ready, turn_stands}
+use Rattle.bx_nodes.proofs.Machines.{both_ok}
+use Rattle.bx_node_rounds.proofs.Nodes.{turn_clean, turn_ready, turn_stands}
 use Rattle.bx_nodes.specs.Standing.{Stand}
 use Rattle.bx_post.specs.declared.packets.Letter.{Letter}
 use Rattle.bx_node_rounds.proofs.cluster.Cluster.turn.Goals as goal
@@ -14,7 +16,7 @@ returns-clause-turns g c =
     let said = c.turn.ensures in
     if_ok_with _ _ _ c.turn.result
     (λ items answers also. turn_of c.args.moment c.args.node c.args.self.now.nodes c.turn.new.self items.items (let less = c.requires.there in omega (arith, less, ready.counted)) said.count answers also.0 (first_of (g.O.Owners.asks c.args.self.now.nodes.owners c.args.node)) also.1 said.others (ready.apart c.args.node))
-    said.answers (on_ok_pair _ _ c.turn.result said.session said.tidies)
+    said.answers (both_ok _ _ c.turn.result said.session said.tidies)
 
 pub returns-clause-sessions : goal.returns-clause-sessions
 returns-clause-sessions g c =
@@ -53,4 +55,4 @@ returns-clause-cleans g c = λ sizes x tree is_ready standing.
     (λ items both. on_ok_then _ _ c.turn.result
     (λ goes. turn_clean g.G.Register g.S.Store g.E.Engine c.args.self.now is_ready.nodes g.O.Owners c.args.moment c.args.node c.turn.new.self items.items both.1 c.requires.there x tree
     (standing.letters ++ c.turn.new.out) standing.course standing.told both.0 goes.0 (λ other. (said.own other).0) goes.1)
-    (on_ok_pair _ _ c.turn.result (said.cleans x standing.letters opening_clocks standing.course both.0.later tree both.0.next refl (omega arith) stands both.0.chain both.0.stands) said.tidies))
+    (both_ok _ _ c.turn.result (said.cleans x standing.letters opening_clocks standing.course both.0.later tree both.0.next refl (omega arith) stands both.0.chain both.0.stands) said.tidies))

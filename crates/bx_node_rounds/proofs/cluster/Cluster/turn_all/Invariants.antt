@@ -1,6 +1,7 @@
 use Rattle.std.proofs.Common.{◌≡◌, ◌<◌, ℕ, List}
 use Rattle.bx_disk.specs.Disks.{Disks}
-use Rattle.bx_node_rounds.specs.Rounds.{AreTurns, IsReady, Rounded, Standing, StandsClean, all_said, session_at}
+use Rattle.bx_node_calls.specs.Turns.{Rounded, session_at}
+use Rattle.bx_node_rounds.specs.Rounds.{AreTurns, IsReady, Standing, StandsClean, all_said}
 use Rattle.bx_node_rounds.proofs.cluster.Cluster.turn_all.Given as goal
 
 abbrev pub invariant-loop-node : goal.invariant-loop-node

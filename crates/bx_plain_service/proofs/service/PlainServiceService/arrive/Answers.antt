@@ -1,6 +1,6 @@
 use Rattle.std.proofs.Common.{ap}
 use Rattle.bx_plain_store.specs.contracts.store.PlainStoreStore.TheImpl as plain_store
-use Rattle.bx_node_rounds.proofs.Coming.{on_ok_then, on_ok_two}
+use Rattle.bx_node_calls.proofs.Found.{on_ok_then, on_ok_two}
 use Rattle.bx_plain.specs.contracts.register.PlainRegisterRegister.TheImpl as plain_register
 use Rattle.bx_plain_service.specs.Events.{call_in}
 use Rattle.bx_plain_service.proofs.Arriving.{holds_up, queued_more, waits_back, waits_up}

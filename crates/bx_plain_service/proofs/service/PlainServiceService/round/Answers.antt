@@ -2,7 +2,8 @@ use Rattle.std.proofs.Common.{◌≡◌, ⊎_elim, ℕ, true, false, [], ◌∷�
 use Rattle.bx_plain.specs.Begin.{plain_state}
 use Rattle.bx_plain_service.specs.Events as up
 use Rattle.bx_plain_service.specs.Stages.{IsHolding, IsUpOn, waits_of}
-use Rattle.bx_plain_service.proofs.Openings.{if_ok_map, on_err_then, on_ok_is, shaped_by}
+use Rattle.bx_node_rounds.proofs.Machines.{if_ok_so, ok_so}
+use Rattle.bx_plain_service.proofs.Openings.{on_err_then, shaped_by}
 use Rattle.bx_plain_service.proofs.Recovering.{says_found, says_none}
 use Rattle.bx_plain_service.proofs.Tidies.{cleaned, goes_round, goes_waiting, stays_none, told_well, waited_round}
 use Rattle.bx_plain_service.proofs.Turned.{says_failed, says_up}
@@ -25,7 +26,7 @@ returns-in-Up-clause-rounds g c = λ tree doubts tells holding.
     (λ well. says_up c.args.moment old new told x y tree rounded.next doubts ready.0 holds rounded.leads rounded.stands (said.labels tells) said.sizes said.same.3 said.same.0 said.sessions well.0)
     (λ failed. says_failed c.args.moment old new told x y tree rounded.next doubts ready.0 holds rounded.leads rounded.stands (said.labels tells) said.sizes said.same.3 said.same.0 said.sessions failed.1 failed.2)
     said.turns in
-    rw c.in-Up.is (if_ok_map _ _ c.events_of.result
+    rw c.in-Up.is (if_ok_so _ _ c.events_of.result
     (λ events is. subst (SaysAll (λ t d. IsUpOn new y t d) c.args.moment (up.waits_of old.nodes.machines.items) (up.waits_of new.nodes.machines.items) tree doubts) (sym is) says)
     c.events_of.ensures.all)
 
@@ -33,17 +34,17 @@ pub returns-in-Up-clause-ready : goal.returns-in-Up-clause-ready
 returns-in-Up-clause-ready g c =
     let said = c.in_ok-told.ensures in
     let ready = rw c.in-Up.is at c.requires.ready in
-    on_ok_is _ c.events_of.result (said.ready, shaped_by c.in-Up.cluster c.round.new.self ready.1 said.same.0 said.same.3 said.parts.0 said.parts.1, rw said.sizes ready.2)
+    ok_so _ c.events_of.result (said.ready, shaped_by c.in-Up.cluster c.round.new.self ready.1 said.same.0 said.same.3 said.parts.0 said.parts.1, rw said.sizes ready.2)
 
 pub returns-in-Up-clause-nodes : goal.returns-in-Up-clause-nodes
 returns-in-Up-clause-nodes g c =
     let said = c.in_ok-told.ensures in
     let ready = rw c.in-Up.is at c.requires.ready in
-    rw c.in-Up.is (on_ok_is _ c.events_of.result (said.ready.nodes.counted ∙ said.same.0 ∙ sym ready.0.nodes.counted))
+    rw c.in-Up.is (ok_so _ c.events_of.result (said.ready.nodes.counted ∙ said.same.0 ∙ sym ready.0.nodes.counted))
 
 pub returns-in-Up-clause-turns : goal.returns-in-Up-clause-turns
 returns-in-Up-clause-turns g c =
-    rw c.in-Up.is (on_ok_is _ c.events_of.result (record {
+    rw c.in-Up.is (ok_so _ c.events_of.result (record {
       up = refl;
       calls = waited_round c.args.moment c.in-Up.cluster c.round.new.self c.in_ok-told.told.items _ _ c.in_ok-told.ensures.turns;
       still = λ down. absurd cc;
@@ -58,14 +59,14 @@ returns-in-Up-clause-tidies g c = λ node none.
     let said = c.in_ok-told.ensures in
     let old = c.in-Up.cluster in
     let new = c.round.new.self in
-    on_ok_is _ c.events_of.result (stays_none old.nodes.machines.items new.nodes.machines.items node (said.sessions node) (goes_round c.args.moment old new c.in_ok-told.told.items _ _ said.turns node) (rw c.in-Up.is at none))
+    ok_so _ c.events_of.result (stays_none old.nodes.machines.items new.nodes.machines.items node (said.sessions node) (goes_round c.args.moment old new c.in_ok-told.told.items _ _ said.turns node) (rw c.in-Up.is at none))
 
 pub returns-in-Up-clause-tidies_on : goal.returns-in-Up-clause-tidies_on
 returns-in-Up-clause-tidies_on g c = λ call.
     let said = c.in_ok-told.ensures in
     let old = c.in-Up.cluster in
     let new = c.round.new.self in
-    rw c.in-Up.is (on_ok_is _ c.events_of.result (λ waits. goes_waiting old.nodes.machines.items new.nodes.machines.items call.node (said.sessions call.node) (goes_round c.args.moment old new c.in_ok-told.told.items _ _ said.turns call.node) call refl waits))
+    rw c.in-Up.is (ok_so _ c.events_of.result (λ waits. goes_waiting old.nodes.machines.items new.nodes.machines.items call.node (said.sessions call.node) (goes_round c.args.moment old new c.in_ok-told.told.items _ _ said.turns call.node) call refl waits))
 
 pub returns-in-Up-clause-cleans : goal.returns-in-Up-clause-cleans
 returns-in-Up-clause-cleans g c = λ tree doubts node one tells holding under.
@@ -75,7 +76,7 @@ returns-in-Up-clause-cleans g c = λ tree doubts node one tells holding under.
     let holds = rw c.in-Up.is at holding in
     let ready = rw c.in-Up.is at c.requires.ready in
     let length_is = rw c.in-Up.is at one in
-    on_ok_is _ c.events_of.result (λ over. cleaned old new (g.B.Rack.state c.round.new.rack) node (said.parts.0 ∙ ready.1.state ∙ ap (λ (n : ℕ). plain_state n 1) (sym ready.0.nodes.counted ∙ length_is)) length_is (ap (λ (made : _). made.areas) ready.1.made) (said.sessions 0)
+    ok_so _ c.events_of.result (λ over. cleaned old new (g.B.Rack.state c.round.new.rack) node (said.parts.0 ∙ ready.1.state ∙ ap (λ (n : ℕ). plain_state n 1) (sym ready.0.nodes.counted ∙ length_is)) length_is (ap (λ (made : _). made.areas) ready.1.made) (said.sessions 0)
     (said.cleans tree tells (sym ready.0.nodes.counted ∙ length_is) holds.stands) (rw c.in-Up.is at under) over)
 
 -- ---- where no node is up, or the one node is back

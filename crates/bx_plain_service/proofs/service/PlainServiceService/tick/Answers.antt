@@ -1,6 +1,6 @@
 use Rattle.std.proofs.Common.{ℕ, ◌==◌, ◌∙◌, ap, refl, subst, sym}
 use Rattle.bx_plain_store.specs.contracts.store.PlainStoreStore.TheImpl as plain_store
-use Rattle.bx_node_rounds.specs.Rounds.{Waits}
+use Rattle.bx_node_calls.specs.Waits.{Waits}
 use Rattle.bx_plain.specs.contracts.register.PlainRegisterRegister.TheImpl as plain_register
 use Rattle.bx_plain_service.specs.Events.{call_in, taken_at}
 use Rattle.bx_plain_service.proofs.Arriving.{first_only, holds_up, none_queued, some_queued}

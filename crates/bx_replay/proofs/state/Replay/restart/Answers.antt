@@ -1,7 +1,7 @@
 use Rattle.std.proofs.Common.{◌≡◌, ◌∷◌, Bool, [], true, ap, inl, refl, sym, ◌∙◌}
 use Rattle.std.specs.Prelude.{max}
 use Rattle.std.proofs.lemmas.Result.{err_from_is_err_and}
-use Rattle.bx_script.specs.declared.line.Line.TheVariants.{Restart}
+use Rattle.bx_script.specs.declared.line.Line.TheVariants.{RestartAll}
 use Rattle.bx_script.specs.declared.trace_line.TraceLine.TheVariants.{Acted}
 use Rattle.bx_replay.specs.Headline.{machines_at}
 use Rattle.bx_replay.proofs.Answered.{stands_but}
@@ -21,7 +21,7 @@ returns-then-is_up g c = record {
         holds = holds;
         lines = [];
         waiting_are = are;
-        stands = stands_silent tree _ _ doubts _ done start _ room stands (Restart reading) _ tt place (tt, steady, tt) (ap (λ (up : Bool). machines_at c.args.self.now.nodes up (max greatest reading)) is_up);
+        stands = stands_silent tree _ _ doubts _ done start _ room stands (RestartAll reading) _ tt place (tt, steady, tt) (ap (λ (up : Bool). machines_at c.args.self.now.nodes up (max greatest reading)) is_up);
       };
   moves = λ reading. (refl, λ _. refl);
   back = λ tree doubts bench_tells holds down. absurd (let both = sym down ∙ sym c.is_up.ensures ∙ c.if-is_up.true in cc);
@@ -63,13 +63,13 @@ returns-in_err-print_lines g c =
     record {
       restarts = λ tree doubts greatest reading done start sink_tells bench_tells holds room place steady are stands.
           let p = err_from_is_err_and c.from_residual-in_err-print_lines.result c.from_residual-in_err-print_lines.ensures.1 in
-          let begun = stands_silent tree _ _ doubts _ done start (g.K.Sink.written c.args.out.now) room stands (Restart reading) (machines_at c.args.self.now.nodes (g.M.Service.up c.restart.new.self) (max greatest reading)) tt place (tt, steady, tt) (ap (λ (up : Bool). machines_at c.args.self.now.nodes up (max greatest reading)) c.in_ok-point.ensures.up) in
-          let waiting_now = none_waits (g.M.Service.waits c.args.self.now.service) (g.M.Service.waits c.restart.new.self) done (Restart reading) tt are (g.met.M.Service.idle c.args.self.now.service (sym c.is_up.ensures ∙ c.if-is_up.false)) c.in_ok-point.ensures.waits in
+          let begun = stands_silent tree _ _ doubts _ done start (g.K.Sink.written c.args.out.now) room stands (RestartAll reading) (machines_at c.args.self.now.nodes (g.M.Service.up c.restart.new.self) (max greatest reading)) tt place (tt, steady, tt) (ap (λ (up : Bool). machines_at c.args.self.now.nodes up (max greatest reading)) c.in_ok-point.ensures.up) in
+          let waiting_now = none_waits (g.M.Service.waits c.args.self.now.service) (g.M.Service.waits c.restart.new.self) done (RestartAll reading) tt are (g.met.M.Service.idle c.args.self.now.service (sym c.is_up.ensures ∙ c.if-is_up.false)) c.in_ok-point.ensures.waits in
           let finds = rw c.in-Some.is at (c.in_ok-point.ensures.restarts tree doubts bench_tells holds) in
-          rw (p.1, p.2) (untold (g.M.Service.holds c.restart.new.self (g.B.Rack.state c.restart.new.bench)) _ _ _ _ (Restart reading) done start (g.K.Sink.written c.args.out.now) (Acted c.in-Some.point ∷ [])
-          (goes_found _ (Restart reading) tt done start tree _ (g.M.Service.waits c.restart.new.self) _ doubts _ [] _ begun waiting_now c.in-Some.point finds.0 finds.1)
+          rw (p.1, p.2) (untold (g.M.Service.holds c.restart.new.self (g.B.Rack.state c.restart.new.bench)) _ _ _ _ (RestartAll reading) done start (g.K.Sink.written c.args.out.now) (Acted c.in-Some.point ∷ [])
+          (goes_found _ (RestartAll reading) tt done start tree _ (g.M.Service.waits c.restart.new.self) _ doubts _ [] _ begun waiting_now c.in-Some.point finds.0 finds.1)
           c.in_err-print_lines.field-0.0 _ _ _ _ _ _ stands.output c.in_err-print_lines.ensures.cause (c.in_err-print_lines.ensures.prints sink_tells) c.in_err-print_lines.ensures.in_range
-          (breaks_here tree _ _ doubts _ (Restart reading) [] done start _ begun));
+          (breaks_here tree _ _ doubts _ (RestartAll reading) [] done start _ begun));
       moves = λ reading. (c.restart.ensures.sizes, λ up. absurd (let both = sym up ∙ sym c.is_up.ensures ∙ c.if-is_up.false in cc));
       back = λ tree doubts bench_tells holds down same. rw p.1 tt;
       holds = λ tree doubts bench_tells holds. rw p.1 tt;
@@ -86,16 +86,16 @@ returns-in_err-print_lines g c =
 
 pub returns-in_ok-print_lines-clause-restarts : goal.returns-in_ok-print_lines-clause-restarts
 returns-in_ok-print_lines-clause-restarts g c = λ tree doubts greatest reading done start sink_tells bench_tells holds room place steady are stands.
-    let begun = stands_silent tree _ _ doubts _ done start (g.K.Sink.written c.args.out.now) room stands (Restart reading) (machines_at c.args.self.now.nodes (g.M.Service.up c.restart.new.self) (max greatest reading)) tt place (tt, steady, tt) (ap (λ (up : Bool). machines_at c.args.self.now.nodes up (max greatest reading)) c.in_ok-point.ensures.up) in
-    let waiting_now = none_waits (g.M.Service.waits c.args.self.now.service) (g.M.Service.waits c.restart.new.self) done (Restart reading) tt are (g.met.M.Service.idle c.args.self.now.service (sym c.is_up.ensures ∙ c.if-is_up.false)) c.in_ok-point.ensures.waits in
+    let begun = stands_silent tree _ _ doubts _ done start (g.K.Sink.written c.args.out.now) room stands (RestartAll reading) (machines_at c.args.self.now.nodes (g.M.Service.up c.restart.new.self) (max greatest reading)) tt place (tt, steady, tt) (ap (λ (up : Bool). machines_at c.args.self.now.nodes up (max greatest reading)) c.in_ok-point.ensures.up) in
+    let waiting_now = none_waits (g.M.Service.waits c.args.self.now.service) (g.M.Service.waits c.restart.new.self) done (RestartAll reading) tt are (g.met.M.Service.idle c.args.self.now.service (sym c.is_up.ensures ∙ c.if-is_up.false)) c.in_ok-point.ensures.waits in
     let finds = rw c.in-Some.is at (c.in_ok-point.ensures.restarts tree doubts bench_tells holds) in
-    told_after (g.M.Service.holds c.restart.new.self (g.B.Rack.state c.restart.new.bench)) _ _ _ _ (Restart reading) done start (g.K.Sink.written c.args.out.now) (Acted c.in-Some.point ∷ [])
-    (goes_found _ (Restart reading) tt done start tree _ (g.M.Service.waits c.restart.new.self) _ doubts _ [] _ begun waiting_now c.in-Some.point finds.0 finds.1) _ (c.in_ok-print_lines.ensures.prints sink_tells) c.in_ok-print_lines.ensures.in_range
+    told_after (g.M.Service.holds c.restart.new.self (g.B.Rack.state c.restart.new.bench)) _ _ _ _ (RestartAll reading) done start (g.K.Sink.written c.args.out.now) (Acted c.in-Some.point ∷ [])
+    (goes_found _ (RestartAll reading) tt done start tree _ (g.M.Service.waits c.restart.new.self) _ doubts _ [] _ begun waiting_now c.in-Some.point finds.0 finds.1) _ (c.in_ok-print_lines.ensures.prints sink_tells) c.in_ok-print_lines.ensures.in_range
 
 pub returns-in_default-clause-restarts : goal.returns-in_default-clause-restarts
 returns-in_default-clause-restarts g c = λ tree doubts greatest reading done start sink_tells bench_tells holds room place steady are stands.
-    let begun = stands_silent tree _ _ doubts _ done start (g.K.Sink.written c.args.out.now) room stands (Restart reading) (machines_at c.args.self.now.nodes (g.M.Service.up c.restart.new.self) (max greatest reading)) tt place (tt, steady, tt) (ap (λ (up : Bool). machines_at c.args.self.now.nodes up (max greatest reading)) c.in_ok-point.ensures.up) in
-    let waiting_now = none_waits (g.M.Service.waits c.args.self.now.service) (g.M.Service.waits c.restart.new.self) done (Restart reading) tt are (g.met.M.Service.idle c.args.self.now.service (sym c.is_up.ensures ∙ c.if-is_up.false)) c.in_ok-point.ensures.waits in
+    let begun = stands_silent tree _ _ doubts _ done start (g.K.Sink.written c.args.out.now) room stands (RestartAll reading) (machines_at c.args.self.now.nodes (g.M.Service.up c.restart.new.self) (max greatest reading)) tt place (tt, steady, tt) (ap (λ (up : Bool). machines_at c.args.self.now.nodes up (max greatest reading)) c.in_ok-point.ensures.up) in
+    let waiting_now = none_waits (g.M.Service.waits c.args.self.now.service) (g.M.Service.waits c.restart.new.self) done (RestartAll reading) tt are (g.met.M.Service.idle c.args.self.now.service (sym c.is_up.ensures ∙ c.if-is_up.false)) c.in_ok-point.ensures.waits in
     let returns = rw c.in_default.is at (c.in_ok-point.ensures.restarts tree doubts bench_tells holds) in
     record {
       tree = tree;

@@ -1,11 +1,13 @@
 use Rattle.std.proofs.Common.{◌∙◌, [], length, refl, sym, ap, None}
 use Rattle.std.proofs.lemmas.List.{append-nil}
 use Rattle.std.specs.Prelude.{not}
-use Rattle.bx_cluster.specs.Steps.{ends_one}
-use Rattle.bx_world.specs.Led.{StepOf}
+use Rattle.bx_history.specs.Along.{ends_one}
+use Rattle.bx_history.proofs.OnePart.{some_ended}
+use Rattle.bx_cluster.specs.Runs.{StepOf, rules}
 use Rattle.bx_world.specs.World.{letters_in}
 use Rattle.bx_world.proofs.Ending.{without_length}
-use Rattle.bx_world.proofs.Leading.{accounts_ended, desks_ended, left_ended}
+use Rattle.bx_world.proofs.Leading.{desks_ended, left_ended}
+use Rattle.bx_world.proofs.Leads.{patient}
 use Rattle.bx_world_machines.specs.Machines.{is_up}
 use Rattle.bx_world_machines.proofs.WhoIsUp.{down_without}
 use Rattle.bx_world.proofs.world.World.crash.Goals as goal
@@ -43,9 +45,9 @@ returns-clause-led g c = λ x first parts led.
     record {
       tree = led.tree;
       history = led.history;
-      accounts = rw said.same.6 (accounts_ended (StepOf (g.E.Engine.step old.machines.nodes.engine)) first parts led.history led.tree None (ends_one who) led.accounts);
+      accounts = rw said.same.6 (some_ended (StepOf (g.E.Engine.step old.machines.nodes.engine)) (rules (g.E.Engine.at_once old.machines.nodes.engine)) (patient (g.E.Engine.at_once old.machines.nodes.engine)) first parts led.history led.tree led.accounts None (ends_one who));
       stands = said.stands (letters_in old.post) x led.tree led.stands;
       counted = said.same.5 ∙ led.counted;
-      desks = rw c.clear_at.ensures (desks_ended who old.desks.items parts None led.desks);
-      left = left_ended who old.machines.nodes.machines.items new.nodes.machines.items parts None said.empties led.left;
+      desks = rw c.clear_at.ensures (desks_ended who old.desks.items parts None (ends_one who) (λ node. refl) led.desks);
+      left = left_ended who old.machines.nodes.machines.items new.nodes.machines.items parts None (ends_one who) (λ node. refl) said.empties led.left;
     }

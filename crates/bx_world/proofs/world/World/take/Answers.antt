@@ -29,8 +29,10 @@ returns-clause-takes g c = λ x.
       said = c.in_ok-said.said.items;
       outcome_is = rw ends.outcome_is refl;
       answers = subst (λ m. Called c.args.reading c.args.node call old.machines.nodes.machines.items m.nodes.machines.items c.in_ok-said.said.items) (sym same) said.answers;
+      at_once = said.at_once;
       desks = rw waits at ends.desks;
       latest = ap (λ m. m.latest) same ∙ said.latest;
+      engine = ap (λ m. m.nodes.engine) same ∙ said.same.5;
       leads = λ tree. leads_then g.G.Register g.O.Owners g.S.Store g.E.Engine old new c.call.new.self same x c.in_ok-said.said.items _ _ ends.post c.new-out.ensures tree (λ standing. said.stands (letters_in old.post) x tree standing);
     }
 

@@ -1,7 +1,11 @@
-use Rattle.std.proofs.Common.{◌≤◌, ◌∙◌, Some, refl, sym, inl, inr}
+use Rattle.std.proofs.Common.{◌≤◌, ◌∙◌, Some, refl, sym, inl, inr, ap}
+use Rattle.bx_node_calls.proofs.Found.{if_ok_with}
 use Rattle.bx_nodes.proofs.Machines.{if_ok_so}
+use Rattle.bx_nodes.specs.bx_node_events.proofs.Registered.{HandedLaws}
 use Rattle.bx_world.specs.World.{letters_in}
 use Rattle.bx_world_events.specs.declared.event.Event.TheVariants.{Tick}
+use Rattle.bx_world.proofs.LedOn.{are_named, went_led}
+use Rattle.bx_world.proofs.Shown.{left_shown, with_box}
 use Rattle.bx_world.proofs.Ending.{at_ok, ended, ready_said, ready_stopped, said_by, says_then, shows_said, shows_stopped, stops_then}
 use Rattle.bx_world.proofs.world.World.tick.Goals as goal
 
@@ -53,7 +57,42 @@ returns-clause-went g c =
     let answers = at_ok _ c.hear-heard.result items said.answers is in
     inl (says_then g.G.Register g.O.Owners g.S.Store g.E.Engine old new heard same c.args.at old.post items.items _ outcome ends (Some c.args.reading) (g.R.Rack.tells c.args.rack.now) x y c.new-out.result
     (said_by (Some c.args.reading) c.args.at old.machines.nodes.machines.items heard.nodes.machines.items items.items _ _ _ (ready.machines.are_ready.there c.args.at c.requires.up) ready.desks answers)
-    refl c.new-out.ensures answers (λ tells tree standing. at_ok _ c.hear-heard.result items (said.stands (letters_in old.post) tree tells tt standing) is)))
+    refl c.new-out.ensures answers said.same.3 said.same.4 (λ tells tree standing. at_ok _ c.hear-heard.result items (said.stands (letters_in old.post) tree tells tt standing) is)))
     (λ fails outcome ends.
-    inr (stops_then g.G.Register g.O.Owners g.S.Store g.E.Engine old new heard same c.args.at old.post outcome ends (g.R.Rack.tells c.args.rack.now) x y c.new-out.result refl c.new-out.ensures (said.empties fails)
+    inr (stops_then g.G.Register g.O.Owners g.S.Store g.E.Engine old new heard same c.args.at old.post outcome ends (g.R.Rack.tells c.args.rack.now) x y c.new-out.result refl c.new-out.ensures (said.empties fails) said.same.3 said.same.4
     (λ tells tree standing. said.stopped (letters_in old.post) tree tells tt standing fails)))
+
+pub returns-clause-led : goal.returns-clause-led
+returns-clause-led g c = λ first parts tells led.
+    let old = c.args.self.now in
+    let new = c.end.new.self in
+    let x = g.R.Rack.state c.args.rack.now in
+    let y = g.R.Rack.state c.hear-heard.new.rack in
+    if_ok_with _ _ _ c.end.result
+    (λ outcome went ready. went_led g.G.Register g.O.Owners g.S.Store g.E.Engine old new x y first parts led (are_named g.G.Register g.O.Owners g.S.Store g.E.Engine new x.sizes ready) (ap (λ m. m.nodes.engine) c.end.ensures.same.0 ∙ c.hear-heard.ensures.same.4)
+    (Some c.args.reading) c.args.at (g.R.Rack.tells c.args.rack.now) tells outcome went)
+    (returns-clause-went g c) (returns-clause-ready g c x.sizes c.requires.ready)
+
+pub returns-clause-any_moment : goal.returns-clause-any_moment
+returns-clause-any_moment g c = λ first parts tells led doubted.
+    let old = c.args.self.now in
+    let x = g.R.Rack.state c.args.rack.now in
+    let laws : HandedLaws g.G.Register g.O.Owners g.S.Store = record {
+      allowed = g.met.G.Register.allowed;
+      legal = g.met.G.Register.legal;
+      places = g.met.G.Register.places;
+      registers_elsewhere = g.met.G.Register.elsewhere;
+      registers_lose = g.met.G.Register.loses;
+      lives = g.met.O.Owners.lives;
+      apart = λ one past keeps. record { each = λ session other block hold other_hold has has_other ne is is_other. g.met.O.Owners.apart one past session other block hold other_hold keeps has has_other ne is is_other };
+      alone = g.met.O.Owners.alone;
+      owners_grow = g.met.O.Owners.grows;
+      owners_lose = g.met.O.Owners.loses;
+      own_out = g.met.S.Store.own_out;
+      stores_grow = g.met.S.Store.grows;
+      stores_elsewhere = g.met.S.Store.elsewhere;
+      stores_lose = g.met.S.Store.loses;
+    } in
+    let standing = with_box g.G.Register g.O.Owners g.S.Store g.E.Engine old.machines (letters_in old.post) c.new-out.result x led.tree c.new-out.ensures led.stands in
+    left_shown g.G.Register g.O.Owners g.S.Store g.E.Engine laws old x first parts led doubted (g.R.Rack.moment c.args.rack.now) (g.R.Rack.moment c.hear-heard.new.rack) (g.R.Rack.left_since c.args.rack.now) (g.R.Rack.left_since c.hear-heard.new.rack)
+    (c.hear-heard.ensures.any_moment (letters_in old.post) led.tree tells tt standing)

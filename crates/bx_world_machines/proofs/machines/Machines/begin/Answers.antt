@@ -6,7 +6,7 @@ use Rattle.bx_world_machines.proofs.Beginning.{all_there, only_there}
 use Rattle.bx_world_machines.proofs.machines.Machines.begin.Goals as goal
 
 pub returns-clause-stands : goal.returns-clause-stands
-returns-clause-stands g c = λ letters x course tree stands told. record {
+returns-clause-stands g c = λ letters x course tree stands told known. record {
   clocks = opening_clocks;
   course = course;
   are_clocks = record {
@@ -16,6 +16,7 @@ returns-clause-stands g c = λ letters x course tree stands told. record {
   };
   stands = stands;
   told = told;
+  known = known;
 }
 
 pub returns-clause-ready : goal.returns-clause-ready
@@ -26,6 +27,7 @@ returns-clause-ready g c = λ sizes nodes counted devices none replicas members.
     members = devices;
     few = c.requires.few;
     there = λ who up. only_there c.args.count c.args.devices who (subst (λ l. is_up l who ≡ true) c.in_ok-up.ensures up);
+    quiet = λ node call is_down waits. absurd (none node call waits);
     numbered = record { least = λ node call waits. absurd (none node call waits); most = λ node call waits. absurd (none node call waits); alone = λ node other call twin waits also same. absurd (none node call waits) };
   };
   replicas = replicas;

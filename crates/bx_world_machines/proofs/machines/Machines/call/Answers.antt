@@ -1,91 +1,22 @@
-use Rattle.std.proofs.Common.{◌≡◌, ◌∙◌, ◌+◌, ◌≤◌, ◌++◌, refl, ap, arith}
-use Rattle.std.specs.Prelude.{false, max, not}
-use Rattle.bx_base.specs.declared.names.Actor.TheVariants.{Node}
-use Rattle.bx_facts.specs.declared.input.Input.TheVariants.{Tick}
-use Rattle.bx_node_rounds.proofs.Nodes.{if_ok_both, on_ok_with}
-use Rattle.bx_nodes.proofs.Machines.{if_ok_so}
-use Rattle.bx_nodes.specs.Taking.{with_reading}
-use Rattle.bx_nodes.specs.bx_node_events.proofs.Registered.{HandedLaws}
-use Rattle.bx_world_machines.proofs.Reading.{stands_later}
-use Rattle.bx_world_machines.proofs.Standing.{comes_to, node_there, nodes_called, numbers_with, ready_called, stands_called}
+use Rattle.std.proofs.Common.{◌++◌}
+use Rattle.bx_world_machines.specs.Answering.Called.{AtOnce}
+use Rattle.bx_world_machines.specs.Standing.{Standing}
+use Rattle.bx_world_machines.proofs.AnsweredAtOnce.{rounded_behind}
 use Rattle.bx_world_machines.proofs.machines.Machines.call.Goals as goal
 
-pub turn-requires-clause-nodes : goal.turn-requires-clause-nodes
-turn-requires-clause-nodes g c =
+pub returns-in_ok-insert-in-Ok-Answered-clause-stands : goal.returns-in_ok-insert-in-Ok-Answered-clause-stands
+returns-in_ok-insert-in-Ok-Answered-clause-stands g c = λ letters x tree standing.
     let old = c.args.self.now in
-    let ready = c.requires.ready.1.are_ready in
-    let said = c.in_ok-call.ensures in
-    let there = node_there g.G.Register g.O.Owners g.S.Store g.E.Engine old c.args.node ready c.requires.up in
-    nodes_called g.G.Register g.O.Owners g.S.Store g.E.Engine old old c.call.new.self c.args.node c.args.reading c.args.call ready there c.requires.newer (rw c.read.ensures at said.count) (rw c.read.ensures at said.waits) (rw c.read.ensures at said.others)
-    (rw c.read.ensures at said.parts) (said.ready (rw c.read.ensures (ready.nodes.ready c.args.node))) (rw c.read.ensures at said.adds)
+    let middle = c.answer_at_once.new.self in
+    let first = rw c.in-Ok-Answered.field-0-is at (c.in-Ok-Answered.ensures.stands (letters ++ c.args.out.now) x tree standing) in
+    rounded_behind g.E.Engine old.nodes.engine (Standing g.G.Register g.O.Owners g.S.Store g.E.Engine middle (letters ++ c.args.out.now) x) (Standing g.G.Register g.O.Owners g.S.Store g.E.Engine c.turn.new.self (letters ++ c.turn.new.out) x) tree
+    c.in-Ok-Answered.one c.in_ok-said-in-Ok-Answered.said.items c.insert.new.self.items c.in_ok-insert-in-Ok-Answered.ensures.items first
+    (λ next stands. rw c.in-Ok-Answered.ensures.same at (c.in_ok-said-in-Ok-Answered.ensures.stands letters x next stands))
 
-pub returns-clause-answers : goal.returns-clause-answers
-returns-clause-answers g c =
-    let old = c.args.self.now in
-    let ready = c.requires.ready.1.are_ready in
-    let said = c.in_ok-call.ensures in
-    let there = node_there g.G.Register g.O.Owners g.S.Store g.E.Engine old c.args.node ready c.requires.up in
-    let count = rw c.read.ensures at said.count in
-    let behind = rw c.read.ensures at said.waits in
-    let others = rw c.read.ensures at said.others in
-    if_ok_so _ _ c.turn.result
-    (λ items answers. record {
-      middle = c.call.new.self.machines.items;
-      comes = comes_to g.G.Register g.O.Owners g.S.Store g.E.Engine old old c.call.new.self c.args.node c.args.reading c.args.call ready there c.requires.newer count behind others;
-      answers = answers;
-    })
-    (c.turn.ensures.answers c.args.call.number (numbers_with g.G.Register g.O.Owners g.S.Store g.E.Engine old old c.call.new.self c.args.node c.args.reading c.args.call ready there c.requires.newer count behind others))
+pub returns-in_ok-insert-in-Ok-Answered-clause-ready : goal.returns-in_ok-insert-in-Ok-Answered-clause-ready
+returns-in_ok-insert-in-Ok-Answered-clause-ready g c = λ sizes ready. c.in_ok-said-in-Ok-Answered.ensures.ready sizes (c.in-Ok-Answered.ensures.ready sizes ready)
 
-pub returns-clause-ready : goal.returns-clause-ready
-returns-clause-ready g c = λ sizes is_ready.
-    let old = c.args.self.now in
-    let ready = c.requires.ready.1.are_ready in
-    let said = c.in_ok-call.ensures in
-    let there = node_there g.G.Register g.O.Owners g.S.Store g.E.Engine old c.args.node ready c.requires.up in
-    let count = rw c.read.ensures at said.count in
-    let behind = rw c.read.ensures at said.waits in
-    let others = rw c.read.ensures at said.others in
-    let new = record c.read.new.self { nodes = c.turn.new.nodes; latest = c.args.call.number } in
-    on_ok_with _ _ _ c.turn.result
-    (λ items answers nodes. ready_called g.G.Register g.O.Owners g.S.Store g.E.Engine old new c.call.new.self c.args.node c.args.reading c.args.call ready there c.requires.newer count behind others
-    (rw c.read.ensures refl) (rw c.read.ensures refl) (rw c.read.ensures refl) (rw c.read.ensures refl) refl (rw c.read.ensures refl) sizes items.items answers is_ready nodes
-    (c.turn.ensures.parts.2 ∙ ap g.S.Store.made (rw c.read.ensures at said.parts.2)) (c.turn.ensures.count ∙ count))
-    (c.turn.ensures.answers c.args.call.number (numbers_with g.G.Register g.O.Owners g.S.Store g.E.Engine old old c.call.new.self c.args.node c.args.reading c.args.call ready there c.requires.newer count behind others))
-    c.turn.ensures.nodes
-
-pub returns-clause-stands : goal.returns-clause-stands
-returns-clause-stands g c = λ letters x tree standing.
-    let old = c.args.self.now in
-    let ready = c.requires.ready.1.are_ready in
-    let said = c.in_ok-call.ensures in
-    let there = node_there g.G.Register g.O.Owners g.S.Store g.E.Engine old c.args.node ready c.requires.up in
-    let count = rw c.read.ensures at said.count in
-    let behind = rw c.read.ensures at said.waits in
-    let others = rw c.read.ensures at said.others in
-    let new = record c.read.new.self { nodes = c.turn.new.nodes; latest = c.args.call.number } in
-    let laws : HandedLaws g.G.Register g.O.Owners g.S.Store = record {
-      allowed = g.met.G.Register.allowed;
-      legal = g.met.G.Register.legal;
-      places = g.met.G.Register.places;
-      registers_elsewhere = g.met.G.Register.elsewhere;
-      registers_lose = g.met.G.Register.loses;
-      lives = g.met.O.Owners.lives;
-      apart = λ one past keeps. record { each = λ session other block hold other_hold has has_other ne is is_other. g.met.O.Owners.apart one past session other block hold other_hold keeps has has_other ne is is_other };
-      alone = g.met.O.Owners.alone;
-      owners_grow = g.met.O.Owners.grows;
-      owners_lose = g.met.O.Owners.loses;
-      own_out = g.met.S.Store.own_out;
-      stores_grow = g.met.S.Store.grows;
-      stores_elsewhere = g.met.S.Store.elsewhere;
-      stores_lose = g.met.S.Store.loses;
-    } in
-    let clocks = with_reading standing.clocks (Tick c.args.reading) in
-    let up : standing.clocks.down (Node c.args.node) ≡ false = standing.are_clocks.down (Node c.args.node) (ready.there (Node c.args.node) c.requires.up) ∙ ap not c.requires.up in
-    let steady : max standing.clocks.greatest c.args.reading ≤ c.args.reading + 500 = let same = standing.are_clocks.greatest in let rule = c.requires.steady in omega (arith, same, rule) in
-    let later = stands_later g.G.Register g.O.Owners g.S.Store g.E.Engine laws old.nodes x (letters ++ c.args.out.now) standing.clocks (Tick c.args.reading) standing.course tree standing.stands in
-    if_ok_both _ _ _ c.turn.result
-    (λ items turned answers. stands_called g.G.Register g.O.Owners g.S.Store g.E.Engine old new c.call.new.self c.args.node c.args.reading c.args.call ready there c.requires.newer count behind others
-    (rw c.read.ensures refl) (rw c.read.ensures refl) (rw c.read.ensures refl) (rw c.read.ensures refl) refl (rw c.read.ensures refl) (letters ++ c.args.out.now) (letters ++ c.turn.new.out) x tree items.items answers standing
-    (rw (rw c.read.ensures at said.parts.3) at turned))
-    (c.turn.ensures.stands x letters clocks standing.course tree up steady (said.stands x (letters ++ c.args.out.now) clocks standing.course tree (rw c.read.ensures later)))
-    (c.turn.ensures.answers c.args.call.number (numbers_with g.G.Register g.O.Owners g.S.Store g.E.Engine old old c.call.new.self c.args.node c.args.reading c.args.call ready there c.requires.newer count behind others))
+pub returns-in_ok-insert-in-Ok-Answered-clause-answers : goal.returns-in_ok-insert-in-Ok-Answered-clause-answers
+returns-in_ok-insert-in-Ok-Answered-clause-answers g c =
+    AtOnce c.in-Ok-Answered.one c.in_ok-said-in-Ok-Answered.said.items c.in_ok-insert-in-Ok-Answered.ensures.items (rw c.in-Ok-Answered.field-0-is at c.in-Ok-Answered.ensures.tried)
+    (rw c.in-Ok-Answered.ensures.same at c.in_ok-said-in-Ok-Answered.ensures.answers)

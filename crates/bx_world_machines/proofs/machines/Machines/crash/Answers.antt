@@ -1,4 +1,5 @@
-use Rattle.std.proofs.Common.{inl, refl}
+use Rattle.std.proofs.Common.{◌∙◌, inl, refl, sym, ap}
+use Rattle.bx_facts.specs.Chains.{Chain, last}
 use Rattle.bx_facts.specs.declared.input.Input.TheVariants.{Synced}
 use Rattle.bx_world_machines.proofs.Nodes.{nodes_emptied}
 use Rattle.bx_world_machines.proofs.Standing.{ready_stopped, stands_stopped}
@@ -10,8 +11,8 @@ returns-clause-stands g c = λ letters x tree standing.
     let said = c.crash.ensures in
     let new = record old { nodes = c.crash.new.self; up = c.leave_out.new.up } in
     let stopped = said.stands x letters standing.clocks standing.course tree standing.stands in
-    stands_stopped g.G.Register g.O.Owners g.S.Store g.E.Engine old new Synced refl refl refl refl refl c.args.who c.leave_out.ensures said.empties letters x x tree standing
-    (record { later = stopped.later; grows = inl stopped.chain; logs = stopped.logs; stands = stopped.stands })
+    stands_stopped g.G.Register g.O.Owners g.S.Store g.E.Engine old new Synced refl refl refl refl refl c.args.who c.leave_out.ensures said.empties letters x x tree standing old.state
+    (record { later = stopped.later; grows = inl stopped.chain; told = inl stopped.chain; logs = stopped.logs; stands = stopped.stands }) (standing.known ∙ ap (λ (chain : Chain). last chain) (sym stopped.chain))
 
 pub returns-clause-ready : goal.returns-clause-ready
 returns-clause-ready g c = λ sizes is_ready.

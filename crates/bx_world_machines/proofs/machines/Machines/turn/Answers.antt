@@ -2,7 +2,7 @@ use Rattle.std.proofs.Common.{◌≡◌, ◌∙◌, ◌+◌, ◌≤◌, ◌++◌
 use Rattle.std.specs.Prelude.{false, max, not}
 use Rattle.bx_base.specs.declared.names.Actor.TheVariants.{Node}
 use Rattle.bx_facts.specs.declared.input.Input.TheVariants.{Tick}
-use Rattle.bx_node_rounds.proofs.Nodes.{if_ok_both, on_ok_with}
+use Rattle.bx_node_calls.proofs.Found.{if_ok_both, on_ok_with}
 use Rattle.bx_nodes.specs.Taking.{with_reading}
 use Rattle.bx_nodes.specs.bx_node_events.proofs.Registered.{HandedLaws}
 use Rattle.bx_world_machines.proofs.Reading.{stands_later}
@@ -51,6 +51,6 @@ returns-clause-stands g c = λ letters x tree standing.
     let later = stands_later g.G.Register g.O.Owners g.S.Store g.E.Engine laws old.nodes x (letters ++ c.args.out.now) standing.clocks (Tick c.args.reading) standing.course tree standing.stands in
     if_ok_both _ _ _ c.turn.result
     (λ items turned answers. stands_turned g.G.Register g.O.Owners g.S.Store g.E.Engine old new c.args.node c.args.reading ready (rw c.read.ensures refl) (rw c.read.ensures refl) (rw c.read.ensures refl) (rw c.read.ensures refl) (rw c.read.ensures refl) (rw c.read.ensures refl) items.items answers
-    (letters ++ c.args.out.now) (letters ++ c.turn.new.out) x tree standing (rw c.read.ensures at turned))
+    (letters ++ c.args.out.now) (letters ++ c.turn.new.out) x tree (rw c.read.ensures refl) standing (rw c.read.ensures at turned))
     (c.turn.ensures.stands x letters clocks standing.course tree up steady (rw c.read.ensures later))
     (returns-clause-answers g c)

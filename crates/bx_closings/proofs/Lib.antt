@@ -1,0 +1,12 @@
+pub mod Closes
+pub mod Closing
+pub mod Doubts
+pub mod Labels
+pub mod Numbers
+pub mod Open
+pub mod Own
+pub mod Points
+pub mod Rows
+pub mod Shown
+pub mod Telling
+pub mod Trees

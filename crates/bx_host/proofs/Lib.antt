@@ -1,0 +1,10 @@
+mod Acting
+mod Dues
+mod Ending
+mod Going
+mod Hearings
+mod Moving
+mod Sendings
+mod Serving
+mod Tidying
+mod Turning

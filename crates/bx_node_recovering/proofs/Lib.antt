@@ -1,0 +1,11 @@
+pub mod Asking
+pub mod Begun
+pub mod Closing
+pub mod Going
+pub mod Keeping
+pub mod Reading
+pub mod Sending
+pub mod Settling
+pub mod Surely
+pub mod Telling
+pub mod Unsaid

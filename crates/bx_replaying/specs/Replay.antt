@@ -1,0 +1,174 @@
+-- How a replay stands between two lines.
+use Rattle.std.specs.Prelude.{◌≡◌, ◌≢◌, ℕ, ◌<◌, ◌≤◌, ◌==◌, true, List, [], ◌∷◌, ◌++◌, length, map, reverse, take, Result, Ok, Err, Option, Some, None, ◌⊎◌, IsSomeAnd}
+use Rattle.std.specs.List.{AllByRecursion}
+use Rattle.bx_base.specs.Faults.{Rose}
+use Rattle.bx_base.specs.Text.{LacksFeed, BeginsWith, lines_of as text_lines}
+use Rattle.bx_base.specs.declared.names.Actor.{Actor}
+use Rattle.bx_base.specs.declared.names.Point.{Point}
+use Rattle.bx_history.specs.Parts.{Part, trace_of}
+use Rattle.bx_model.specs.declared.tree.Tree.{Tree}
+use Rattle.bx_opens.specs.bx_cluster.bx_world_events.specs.Causes.{IsThere as IsInCluster}
+use Rattle.bx_opens.specs.bx_cluster.bx_world_events.specs.Refusals.{Seen}
+use Rattle.bx_schedule.specs.Placing.{AreOfLines, Done, lines_of, parts_of, schedule_of}
+use Rattle.bx_script.specs.Schedule.{HasPlace}
+use Rattle.bx_script.specs.ScheduleLine.{spelling}
+use Rattle.bx_script.specs.TraceText.{InTraceRange, trace_text}
+use Rattle.bx_script.specs.declared.line.Line.{Line}
+use Rattle.bx_script.specs.declared.line.Line.TheVariants.{Heading}
+use Rattle.bx_script.specs.declared.trace_line.TraceLine.{TraceLine}
+use Rattle.bx_script.specs.declared.trace_line.TraceLine.TheVariants.{Acted}
+use Rattle.bx_stops.specs.declared.stop.Reason.TheVariants.{Grammar}
+use Rattle.bx_stops.specs.declared.stop.Stop.{Stop}
+use Rattle.bx_stops.specs.declared.stop.Stop.TheVariants as stops
+use Rattle.bx_replaying.specs.Headline.{opening_of}
+use Rattle.bx_replaying.specs.Lines.{AreDone, IsRefusedLine, Machines, after_lines}
+use Rattle.bx_replaying.specs.Outcome.{IsBroken, IsCut, IsCutOff, IsPlayable, IsReadTo, IsRefusal, IsRefused, IsReplayed, closing_text}
+
+-- A cluster shows what lines tell of its machines: no other is down, unless one may have stopped by itself.
+pub record ShowsLines (MayStop : Type 0) (machines : Machines) (seen : Seen) (greatest : ℕ) : Type 0 where
+  pub nodes : seen.nodes ≡ machines.nodes
+  pub devices : seen.devices ≡ machines.devices
+  pub clock : greatest ≡ machines.greatest
+  pub down : (who : Actor) → IsInCluster seen who → machines.down who ≡ true → seen.down who ≡ true
+  pub stopped : (who : Actor) → IsInCluster seen who → seen.down who ≡ true → (machines.down who ≡ true) ⊎ MayStop
+
+-- Behind these lines, the newest first, the cluster was led to by their parts from the tree that the heading opens, and shows what they tell; and what was written since the start is the trace of the parts,
+-- whose lines are in range.
+pub record Stands (MayStop : Type 0) (Led : Tree → List Part → Type 0) (seen : Seen) (greatest : ℕ) (done : List Done) (start written : List ℕ) : Type 0 where
+  pub led : Led (opening_of (schedule_of done)) (parts_of done)
+  pub of_lines : AreOfLines MayStop done
+  pub headed : 0 < length done
+  pub are_done : AreDone MayStop (schedule_of done)
+  pub shows : ShowsLines MayStop (after_lines (lines_of done)) seen greatest
+  pub in_range : AllByRecursion InTraceRange (trace_of (parts_of done))
+  pub output : written ≡ start ++ trace_text (reverse (trace_of (parts_of done)))
+
+-- no fault of a sink, and of a bench, is forgotten, and both go on to tell what they told
+pub record GoesOn (sink_told sink_tells : Type 0) (sink_before sink_now : ℕ) (bench_told bench_tells_now : Type 0) (bench_before bench_now : ℕ) : Type 0 where
+  pub later : sink_before ≤ sink_now
+  pub keeps_telling : sink_told → sink_tells
+  pub bench_later : bench_before ≤ bench_now
+  pub bench_tells : bench_told → bench_tells_now
+
+-- facts that hold unless the source failed, unless the sink failed, unless memory ran out, and unless the bench failed
+abbrev pub UnlessRead : {A : Type 0} → Result A Stop → Type 0 → Type 0
+UnlessRead (Ok _) P = P
+UnlessRead (Err (stops.Refused line reason)) P = P
+UnlessRead (Err stops.ReadFault) P = Unit {0}
+UnlessRead (Err stops.WriteFault) P = P
+UnlessRead (Err stops.DiskFault) P = P
+UnlessRead (Err stops.OutOfMemory) P = P
+
+abbrev pub UnlessWrite : {A : Type 0} → Result A Stop → Type 0 → Type 0
+UnlessWrite (Ok _) P = P
+UnlessWrite (Err (stops.Refused line reason)) P = P
+UnlessWrite (Err stops.ReadFault) P = P
+UnlessWrite (Err stops.WriteFault) P = Unit {0}
+UnlessWrite (Err stops.DiskFault) P = P
+UnlessWrite (Err stops.OutOfMemory) P = P
+
+abbrev pub UnlessMemory : {A : Type 0} → Result A Stop → Type 0 → Type 0
+UnlessMemory (Ok _) P = P
+UnlessMemory (Err (stops.Refused line reason)) P = P
+UnlessMemory (Err stops.ReadFault) P = P
+UnlessMemory (Err stops.WriteFault) P = P
+UnlessMemory (Err stops.DiskFault) P = P
+UnlessMemory (Err stops.OutOfMemory) P = Unit {0}
+
+abbrev pub UnlessDisk : {A : Type 0} → Result A Stop → Type 0 → Type 0
+UnlessDisk (Ok _) P = P
+UnlessDisk (Err (stops.Refused line reason)) P = P
+UnlessDisk (Err stops.ReadFault) P = P
+UnlessDisk (Err stops.WriteFault) P = P
+UnlessDisk (Err stops.DiskFault) P = Unit {0}
+UnlessDisk (Err stops.OutOfMemory) P = P
+
+-- ---- reading a line
+
+-- what a read of a line gives, by its number, what was there to read and what is behind the line
+abbrev pub GivesLine : Result (Option Line) Stop → ℕ → List ℕ → List ℕ → List ℕ → Type 0
+GivesLine (Ok (Some line)) number text rest left = BeginsWith text (spelling line) rest
+GivesLine (Ok None) number text rest left = (text ≡ []) × (left ≡ [])
+GivesLine (Err (stops.Refused line reason)) number text rest left =
+    (first : List ℕ) × (others : List (List ℕ)) × (text_lines text ≡ first ∷ others)
+    × ((4294967295 < number) ⊎ ((value : Line) → HasPlace (number == 1) value → first ≢ spelling value))
+GivesLine (Err stops.ReadFault) number text rest left = (piece : List ℕ) × (text ≡ piece ++ left) × LacksFeed piece × (length piece ≤ 18600)
+GivesLine (Err stops.WriteFault) number text rest left = ⊥
+GivesLine (Err stops.DiskFault) number text rest left = ⊥
+GivesLine (Err stops.OutOfMemory) number text rest left = Unit {0}
+
+-- why a read of a line stops short
+abbrev pub HasLineCause : Stop → ℕ → ℕ → ℕ → Type 0
+HasLineCause (stops.Refused line reason) number before now = (line ≡ number) × (reason ≡ Grammar)
+HasLineCause stops.ReadFault number before now = Rose before now
+HasLineCause stops.WriteFault number before now = ⊥
+HasLineCause stops.DiskFault number before now = ⊥
+HasLineCause stops.OutOfMemory number before now = Unit {0}
+
+-- ---- doing a line
+
+-- The replay would stand with one line more, but only a part of the trace was written.
+pub record BreaksAfter (MayStop : Type 0) (Led : Tree → List Part → Type 0) (seen : Seen) (greatest : ℕ) (line : Line) (done : List Done) (start written : List ℕ) : Type 0 where
+  pub parts : List Part
+  pub output : List ℕ
+  pub more : List ℕ
+  pub added : written ≡ start ++ output
+  pub after : Stands MayStop Led seen greatest (record { line = line; parts = parts } ∷ done) start (written ++ more)
+
+-- a replay stands with one line more
+pub record StandsAfter (MayStop : Type 0) (Led : Tree → List Part → Type 0) (seen : Seen) (greatest : ℕ) (line : Line) (done : List Done) (start written : List ℕ) : Type 0 where
+  pub parts : List Part
+  pub stands : Stands MayStop Led seen greatest (record { line = line; parts = parts } ∷ done) start written
+
+-- why a line with a number is refused
+abbrev pub IsRefusedFor : Type 0 → Stop → ℕ → Machines → Line → Type 0
+IsRefusedFor MayStop (stops.Refused number reason) wanted machines line = (number ≡ wanted) × IsRefusedLine MayStop reason machines line
+IsRefusedFor MayStop stops.ReadFault wanted machines line = ⊥
+IsRefusedFor MayStop stops.WriteFault wanted machines line = Unit {0}
+IsRefusedFor MayStop stops.DiskFault wanted machines line = ⊥
+IsRefusedFor MayStop stops.OutOfMemory wanted machines line = Unit {0}
+
+-- all of a text is behind what was there before; or a part of it, from its front; or none
+abbrev pub Prints : Result (Unit {0}) Stop → List ℕ → List ℕ → List ℕ → Type 0
+Prints (Ok _) text old new = new ≡ old ++ text
+Prints (Err (stops.Refused line reason)) text old new = ⊥
+Prints (Err stops.ReadFault) text old new = ⊥
+Prints (Err stops.WriteFault) text old new = (n : ℕ) × (new ≡ old ++ take n text)
+Prints (Err stops.DiskFault) text old new = ⊥
+Prints (Err stops.OutOfMemory) text old new = new ≡ old
+
+-- why printing stops short
+abbrev pub HasPrintCause : Stop → ℕ → ℕ → Type 0
+HasPrintCause (stops.Refused line reason) before now = ⊥
+HasPrintCause stops.ReadFault before now = ⊥
+HasPrintCause stops.WriteFault before now = Rose before now
+HasPrintCause stops.DiskFault before now = ⊥
+HasPrintCause stops.OutOfMemory before now = Unit {0}
+
+-- A disk failed; or what was held isn't found, which can't be where the bench tells what it holds.
+abbrev pub IsDiskCause : Type 0 → ℕ → ℕ → Type 0
+IsDiskCause Held before now = Rose before now ⊎ (Held → ⊥)
+
+-- behind the old bytes the new ones have an output with this property
+pub record Wrote (old new : List ℕ) (P : List ℕ → Type 0) : Type 0 where
+  pub output : List ℕ
+  pub added : new ≡ old ++ output
+  pub holds : P output
+
+-- What a replay leaves, by what it was given and what is left of that; and, where the sink and the bench tell, by what the sink had and has. The tree that a replay to the end leaves stands on the bench so, with what is told
+-- behind `end`.
+abbrev pub Leaves : Type 0 → Type 0 → (Tree → List TraceLine → Type 0) → Result (Unit {0}) Stop → List ℕ → List ℕ → List ℕ → List ℕ → Type 0
+Leaves MayStop Tells Stands (Ok _) text left old new = IsPlayable MayStop text × (left ≡ []) × (Tells → Wrote old new (IsReplayed MayStop text Stands))
+Leaves MayStop Tells Stands (Err (stops.Refused number reason)) text left old new = IsRefusal MayStop text number reason × (Tells → Wrote old new (IsRefused MayStop text number reason))
+Leaves MayStop Tells Stands (Err stops.ReadFault) text left old new = IsCut MayStop text left × (Tells → Wrote old new (IsCutOff MayStop text left))
+Leaves MayStop Tells Stands (Err stops.WriteFault) text left old new = Tells → Wrote old new (IsBroken MayStop text)
+Leaves MayStop Tells Stands (Err stops.DiskFault) text left old new = Tells → Wrote old new (IsBroken MayStop text)
+Leaves MayStop Tells Stands (Err stops.OutOfMemory) text left old new = Tells → Wrote old new (IsBroken MayStop text)
+
+-- why a replay stops short: the faults of the source, of the sink and of the bench, before and now, and whether the bench tells
+abbrev pub HasCause : Stop → ℕ → ℕ → ℕ → ℕ → Type 0 → ℕ → ℕ → Type 0
+HasCause (stops.Refused line reason) source_before source_now sink_before sink_now Tells bench_before bench_now = Unit {0}
+HasCause stops.ReadFault source_before source_now sink_before sink_now Tells bench_before bench_now = Rose source_before source_now
+HasCause stops.WriteFault source_before source_now sink_before sink_now Tells bench_before bench_now = Rose sink_before sink_now
+HasCause stops.DiskFault source_before source_now sink_before sink_now Tells bench_before bench_now = IsDiskCause Tells bench_before bench_now
+HasCause stops.OutOfMemory source_before source_now sink_before sink_now Tells bench_before bench_now = Unit {0}

@@ -1,15 +1,22 @@
 -- How a replay stands between two lines.
-use Rattle.std.specs.Prelude.{◌≡◌, ◌≢◌, ℕ, ◌<◌, ◌≤◌, ◌==◌, true, List, [], ◌∷◌, ◌++◌, length, map, reverse, take, Result, Ok, Err, Option, Some, None, ◌⊎◌, IsSomeAnd}
+use Rattle.std.specs.Prelude.{◌≡◌, ◌≢◌, ℕ, ◌<◌, ◌≤◌, ◌==◌, Bool, true, List, filter, [], ◌∷◌, ◌++◌, length, map, reverse, take, Result, Ok, Err, Option, Some, None, ◌⊎◌, IsSomeAnd}
+use Rattle.std.specs.FinSet as set
 use Rattle.std.specs.List.{AllByRecursion}
+use Rattle.std.specs.Ordering.{nat_cmp}
 use Rattle.bx_base.specs.Faults.{Rose}
 use Rattle.bx_base.specs.Text.{LacksFeed, BeginsWith, lines_of as text_lines}
 use Rattle.bx_base.specs.declared.names.Actor.{Actor}
 use Rattle.bx_base.specs.declared.names.Point.{Point}
+use Rattle.bx_disk.specs.Disks.{Disks}
+use Rattle.bx_history.specs.Along.{AllowedNewest}
 use Rattle.bx_history.specs.Parts.{Part, trace_of}
 use Rattle.bx_model.specs.declared.tree.Tree.{Tree}
+use Rattle.bx_opens.specs.Opening.{AreOpenAlone}
+use Rattle.bx_opens.specs.bx_rack_audit.specs.Alone.{StandAlone}
 use Rattle.bx_opens.specs.bx_cluster.bx_world_events.specs.Causes.{IsThere as IsInCluster}
 use Rattle.bx_opens.specs.bx_cluster.bx_world_events.specs.Refusals.{Seen}
-use Rattle.bx_schedule.specs.Placing.{AreOfLines, Done, lines_of, parts_of, schedule_of}
+use Rattle.bx_schedule.specs.Lacking.{AreLacking}
+use Rattle.bx_schedule.specs.Placing.{AreOfLines, Done, parts_of, schedule_of}
 use Rattle.bx_script.specs.Schedule.{HasPlace}
 use Rattle.bx_script.specs.ScheduleLine.{spelling}
 use Rattle.bx_script.specs.TraceText.{InTraceRange, trace_text}
@@ -21,7 +28,7 @@ use Rattle.bx_stops.specs.declared.stop.Reason.TheVariants.{Grammar}
 use Rattle.bx_stops.specs.declared.stop.Stop.{Stop}
 use Rattle.bx_stops.specs.declared.stop.Stop.TheVariants as stops
 use Rattle.bx_replaying.specs.Headline.{opening_of}
-use Rattle.bx_replaying.specs.Lines.{AreDone, IsRefusedLine, Machines, after_lines}
+use Rattle.bx_replaying.specs.Lines.{Allows, IsRefusedLine, Machines, after_lines}
 use Rattle.bx_replaying.specs.Outcome.{IsBroken, IsCut, IsCutOff, IsPlayable, IsReadTo, IsRefusal, IsRefused, IsReplayed, closing_text}
 
 -- A cluster shows what lines tell of its machines: no other is down, unless one may have stopped by itself.
@@ -32,14 +39,18 @@ pub record ShowsLines (MayStop : Type 0) (machines : Machines) (seen : Seen) (gr
   pub down : (who : Actor) → IsInCluster seen who → machines.down who ≡ true → seen.down who ≡ true
   pub stopped : (who : Actor) → IsInCluster seen who → seen.down who ≡ true → (machines.down who ≡ true) ⊎ MayStop
 
--- Behind these lines, the newest first, the cluster was led to by their parts from the tree that the heading opens, and shows what they tell; and what was written since the start is the trace of the parts,
--- whose lines are in range.
-pub record Stands (MayStop : Type 0) (Led : Tree → List Part → Type 0) (seen : Seen) (greatest : ℕ) (done : List Done) (start written : List ℕ) : Type 0 where
-  pub led : Led (opening_of (schedule_of done)) (parts_of done)
-  pub of_lines : AreOfLines MayStop done
+-- Behind these lines, the newest first, each of which was allowed, a cluster shows what they tell.
+pub record Reached (MayStop : Type 0) (seen : Seen) (greatest : ℕ) (done : List Line) : Type 0 where
   pub headed : 0 < length done
-  pub are_done : AreDone MayStop (schedule_of done)
-  pub shows : ShowsLines MayStop (after_lines (lines_of done)) seen greatest
+  pub are_done : AllowedNewest (Allows MayStop) done
+  pub shows : ShowsLines MayStop (after_lines done) seen greatest
+
+-- These lines were done, the newest first: their parts led to the cluster from the tree that the heading opens, these calls lack their points, and what was written since the start is the trace of the parts, whose
+-- lines are in range.
+pub record Stands (MayStop : Type 0) (Led : Tree → List Part → Type 0) (lacking : set.FinSet nat_cmp) (done : List Done) (start written : List ℕ) : Type 0 where
+  pub led : Led (opening_of (schedule_of done)) (parts_of done)
+  pub lacks : AreLacking lacking (parts_of done)
+  pub of_lines : AreOfLines MayStop done
   pub in_range : AllByRecursion InTraceRange (trace_of (parts_of done))
   pub output : written ≡ start ++ trace_text (reverse (trace_of (parts_of done)))
 
@@ -105,20 +116,53 @@ HasLineCause stops.WriteFault number before now = ⊥
 HasLineCause stops.DiskFault number before now = ⊥
 HasLineCause stops.OutOfMemory number before now = Unit {0}
 
+-- ---- the heading
+
+-- The text begins with a heading, with which a cluster that shows this was begun; no clock was read.
+pub record IsBegun (seen : Seen) (greatest : ℕ) (text rest : List ℕ) : Type 0 where
+  pub heading : Line
+  pub in_place : HasPlace true heading
+  pub begins : BeginsWith text (spelling heading) rest
+  pub reached : (MayStop : Type 0) → Reached MayStop seen greatest (heading ∷ [])
+
+-- what a read of the heading gives
+abbrev pub Begins : {A : Type 0} → (A → Seen) → (A → ℕ) → Result A Stop → List ℕ → List ℕ → List ℕ → Type 0
+Begins seen greatest (Ok begun) text rest left = IsBegun (seen begun) (greatest begun) text rest
+Begins seen greatest (Err (stops.Refused line reason)) text rest left = (text ≡ []) ⊎ GivesLine (Err (stops.Refused line reason)) 1 text rest left
+Begins seen greatest (Err stops.ReadFault) text rest left = GivesLine (Err stops.ReadFault) 1 text rest left
+Begins seen greatest (Err stops.WriteFault) text rest left = ⊥
+Begins seen greatest (Err stops.DiskFault) text rest left = Unit {0}
+Begins seen greatest (Err stops.OutOfMemory) text rest left = Unit {0}
+
+-- The heading that the text begins with has no events: with it the cluster stands for what was written before.
+abbrev pub BeginsLed : {A : Type 0} → (A → Tree → List Part → Type 0) → (A → set.FinSet nat_cmp) → Result A Stop → List ℕ → Type 0
+BeginsLed Led lacking (Ok begun) text = (MayStop : Type 0) (heading : Line) (rest start : List ℕ) → HasPlace true heading → BeginsWith text (spelling heading) rest
+    → Stands MayStop (Led begun) (lacking begun) (record { line = heading; parts = [] } ∷ []) start start
+BeginsLed Led lacking (Err stop) text = Unit {0}
+
+-- why a replay doesn't begin: the faults of the source and of the bench, before and now
+abbrev pub HasBeginCause : Stop → ℕ → ℕ → ℕ → ℕ → Type 0
+HasBeginCause (stops.Refused line reason) source_before source_now bench_before bench_now = (line ≡ 1) × (reason ≡ Grammar)
+HasBeginCause stops.ReadFault source_before source_now bench_before bench_now = Rose source_before source_now
+HasBeginCause stops.WriteFault source_before source_now bench_before bench_now = ⊥
+HasBeginCause stops.DiskFault source_before source_now bench_before bench_now = Rose bench_before bench_now
+HasBeginCause stops.OutOfMemory source_before source_now bench_before bench_now = Unit {0}
+
 -- ---- doing a line
 
--- The replay would stand with one line more, but only a part of the trace was written.
-pub record BreaksAfter (MayStop : Type 0) (Led : Tree → List Part → Type 0) (seen : Seen) (greatest : ℕ) (line : Line) (done : List Done) (start written : List ℕ) : Type 0 where
+-- These lines and one more were done, with some parts.
+pub record StandsAfter (MayStop : Type 0) (Led : Tree → List Part → Type 0) (lacking : set.FinSet nat_cmp) (line : Line) (done : List Done) (start written : List ℕ) : Type 0 where
   pub parts : List Part
-  pub output : List ℕ
-  pub more : List ℕ
-  pub added : written ≡ start ++ output
-  pub after : Stands MayStop Led seen greatest (record { line = line; parts = parts } ∷ done) start (written ++ more)
+  pub stands : Stands MayStop Led lacking (record { line = line; parts = parts } ∷ done) start written
 
--- a replay stands with one line more
-pub record StandsAfter (MayStop : Type 0) (Led : Tree → List Part → Type 0) (seen : Seen) (greatest : ℕ) (line : Line) (done : List Done) (start written : List ℕ) : Type 0 where
-  pub parts : List Part
-  pub stands : Stands MayStop Led seen greatest (record { line = line; parts = parts } ∷ done) start written
+-- What doing a line leaves on the output, by what it leaves where it is done: all of its lines; or nothing, where it is refused; or a part of them.
+abbrev pub DoesLine : Result (Unit {0}) Stop → (List ℕ → Type 0) → List ℕ → List ℕ → Type 0
+DoesLine (Ok _) After old new = After new
+DoesLine (Err (stops.Refused number reason)) After old new = new ≡ old
+DoesLine (Err stops.ReadFault) After old new = ⊥
+DoesLine (Err stops.WriteFault) After old new = (more : List ℕ) × After (new ++ more)
+DoesLine (Err stops.DiskFault) After old new = ⊥
+DoesLine (Err stops.OutOfMemory) After old new = new ≡ old
 
 -- why a line with a number is refused
 abbrev pub IsRefusedFor : Type 0 → Stop → ℕ → Machines → Line → Type 0
@@ -145,9 +189,45 @@ HasPrintCause stops.WriteFault before now = Rose before now
 HasPrintCause stops.DiskFault before now = ⊥
 HasPrintCause stops.OutOfMemory before now = Unit {0}
 
+-- ---- the end
+
+-- The tree that the disks stand for behind the end, and the points that are told of it: those of records that are open, of calls that lack one.
+pub record IsShownAs (disks : Disks) (lacking : ℕ → Bool) (tree : Tree) (points : List Point) : Type 0 where
+  pub stands : StandAlone disks tree
+  pub opened : List Point
+  pub open_are : AreOpenAlone disks opened
+  pub points_are : points ≡ filter (λ point. lacking point.call) opened
+  pub in_range : AllByRecursion InTraceRange (map Acted points)
+
+-- The end was written, or a part of it.
+abbrev pub Ends : Result (Unit {0}) Stop → Disks → (ℕ → Bool) → List ℕ → List ℕ → Type 0
+Ends (Ok _) disks lacking old new = (tree : Tree) × (points : List Point) × IsShownAs disks lacking tree points × (new ≡ old ++ closing_text (map Acted points) tree)
+Ends (Err stops.WriteFault) disks lacking old new =
+    (tree : Tree) × (points : List Point) × IsShownAs disks lacking tree points × ((more : List ℕ) × (new ++ more ≡ old ++ closing_text (map Acted points) tree) × ((wrote : List ℕ) × (new ≡ old ++ wrote)))
+Ends (Err (stops.Refused line reason)) disks lacking old new = ⊥
+Ends (Err stops.ReadFault) disks lacking old new = ⊥
+Ends (Err stops.DiskFault) disks lacking old new = new ≡ old
+Ends (Err stops.OutOfMemory) disks lacking old new = new ≡ old
+
 -- A disk failed; or what was held isn't found, which can't be where the bench tells what it holds.
 abbrev pub IsDiskCause : Type 0 → ℕ → ℕ → Type 0
 IsDiskCause Held before now = Rose before now ⊎ (Held → ⊥)
+
+-- why the tree isn't read back from the bench
+abbrev pub HasBenchCause : Stop → Type 0 → ℕ → ℕ → Type 0
+HasBenchCause (stops.Refused line reason) Held before now = ⊥
+HasBenchCause stops.ReadFault Held before now = ⊥
+HasBenchCause stops.WriteFault Held before now = ⊥
+HasBenchCause stops.DiskFault Held before now = IsDiskCause Held before now
+HasBenchCause stops.OutOfMemory Held before now = Unit {0}
+
+-- why a replay doesn't end: the faults of the sink and of the bench, before and now
+abbrev pub HasFinishCause : Stop → ℕ → ℕ → Type 0 → ℕ → ℕ → Type 0
+HasFinishCause (stops.Refused line reason) before now Held bench_before bench_now = ⊥
+HasFinishCause stops.ReadFault before now Held bench_before bench_now = ⊥
+HasFinishCause stops.WriteFault before now Held bench_before bench_now = Rose before now
+HasFinishCause stops.DiskFault before now Held bench_before bench_now = IsDiskCause Held bench_before bench_now
+HasFinishCause stops.OutOfMemory before now Held bench_before bench_now = Unit {0}
 
 -- behind the old bytes the new ones have an output with this property
 pub record Wrote (old new : List ℕ) (P : List ℕ → Type 0) : Type 0 where

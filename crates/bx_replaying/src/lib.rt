@@ -7,5 +7,6 @@ mod ends;
 mod lines;
 mod run;
 mod steps;
+mod stops;
 
 pub use run::replay;

@@ -1,6 +1,6 @@
 //! Clusters.
 
-ghost use Rattle.std.specs.Prelude.{◌≡◌, ◌≢◌, ◌⊎◌, ◌<◌, ◌∷◌, ℕ, true, filter, List, Option, None, Some, IfErr, IfOk, IsSome, OnOk};
+ghost use Rattle.std.specs.Prelude.{◌≡◌, ◌≢◌, ◌⊎◌, ◌<◌, ◌∷◌, ℕ, true, filter, List, Option, None, Some, IfErr, IfOk, IsSome, OnOk, length};
 ghost use Rattle.bx_base.specs.Faults.{Rose};
 ghost use Rattle.bx_base.specs.declared.names.Actor.{Actor};
 ghost use Rattle.bx_calls.specs.Calls.{LeavesOnly};
@@ -108,4 +108,7 @@ pub trait Cluster: Shows + Drop {
 
     /// So may it be replaced by a blank one, where that isn't refused.
     ghost blanks: { (w : Self) (x : Disks) (tree : Tree) (parts : List Part) (who : Actor) (disk : ℕ) → led w x tree parts → refusal (Self.seen w) (Blank who) ≡ None → disk_of who ≡ Some disk → led w (blanked x disk) tree parts };
+
+    /// The disks of all machines that are there are among those that it has room in.
+    ghost disks: { (w : Self) (sizes : List ℕ) (who : Actor) (disk : ℕ) → room w sizes → IsThere (Self.seen w) who → disk_of who ≡ Some disk → disk < length sizes };
 }

@@ -1,6 +1,6 @@
 //! Clusters.
 
-ghost use Rattle.std.specs.Prelude.{◌≡◌, ◌≢◌, ◌⊎◌, ◌<◌, ◌∷◌, ℕ, true, filter, List, Option, None, Some, IfErr, IfOk, IsSome, OnOk, length};
+ghost use Rattle.std.specs.Prelude.{◌≡◌, ◌≢◌, ◌⊎◌, ◌<◌, ◌∷◌, ℕ, true, filter, length, List, Option, None, Some, IfErr, IfOk, IsSome, OnOk};
 ghost use Rattle.bx_base.specs.Faults.{Rose};
 ghost use Rattle.bx_base.specs.declared.names.Actor.{Actor};
 ghost use Rattle.bx_calls.specs.Calls.{LeavesOnly};
@@ -97,6 +97,9 @@ pub trait Cluster: Shows + Drop {
         ensures room { (sizes : List ℕ) → room self.old sizes → room self.new sizes }
         ensures events { events self.new ≡ events self.old };
 
+    /// A rack with room has a disk for each machine that has one.
+    ghost disks: { (w : Self) (sizes : List ℕ) (who : Actor) (disk : ℕ) → room w sizes → IsThere (Self.seen w) who → disk_of who ≡ Some disk → disk < length sizes };
+
     /// What happened is told of by one history, which leads from that tree.
     ghost accounts: { (w : Self) (x : Disks) (tree : Tree) (parts : List Part) → led w x tree parts → Account (steps w) (at_once w) tree parts };
 
@@ -108,7 +111,4 @@ pub trait Cluster: Shows + Drop {
 
     /// So may it be replaced by a blank one, where that isn't refused.
     ghost blanks: { (w : Self) (x : Disks) (tree : Tree) (parts : List Part) (who : Actor) (disk : ℕ) → led w x tree parts → refusal (Self.seen w) (Blank who) ≡ None → disk_of who ≡ Some disk → led w (blanked x disk) tree parts };
-
-    /// The disks of all machines that are there are among those that it has room in.
-    ghost disks: { (w : Self) (sizes : List ℕ) (who : Actor) (disk : ℕ) → room w sizes → IsThere (Self.seen w) who → disk_of who ≡ Some disk → disk < length sizes };
 }

@@ -1,10 +1,16 @@
 mod Acting
 mod Allowing
 mod Crashing
+mod Downs
 mod Dues
 mod Going
+mod Holding
 mod Lacks
+mod Lasting
 mod Lining
+mod OneCause
+mod Parting
+mod Placings
 mod Sets
 mod Telling
 mod Turning

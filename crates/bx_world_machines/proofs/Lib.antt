@@ -1,3 +1,4 @@
+pub mod Allowed
 pub mod AnsweredAtOnce
 pub mod Answering
 pub mod Beginning
@@ -5,6 +6,7 @@ pub mod Clocks
 pub mod Disks
 pub mod Known
 pub mod Nodes
+pub mod OtherDisks
 pub mod Reading
 pub mod Rooms
 pub mod Standing

@@ -40,7 +40,7 @@ impl<G: Register, O: Owners, S: Store, E: Engine> Machines<G, O, S, E> {
     ) -> Result<Machines<G, O, S, E>, OutOfMemory>
         requires few { devices ≤ 4 }
         ensures stands { (letters : List Letter) (x : Disks) (course : Course) (tree : E.Tree) → Stand G.Register O.Owners S.Store E.Engine nodes x letters opening_clocks course tree → AreTold 0 nodes.machines.items course.logs → state ≡ last course.register.chain
-            → IfOk result (λ machines. Standing G.Register O.Owners S.Store E.Engine machines letters x tree) }
+            → IfOk result (λ machines. (standing : Standing G.Register O.Owners S.Store E.Engine machines letters x tree) × (standing.course ≡ course)) }
         ensures ready { (sizes : List ℕ) → AreNodes G.Register O.Owners S.Store E.Engine nodes → length nodes.machines.items ≡ count → (S.made nodes.store).devices ≡ devices → NoneWaits nodes.machines.items
             → ((disk : ℕ) → disk < 3 → replica_sectors ≤ slice_index sizes disk) → ((disk : ℕ) → 3 ≤ disk → disk < 3 + 2 * devices → store_room (S.made nodes.store) ≤ slice_index sizes disk)
             → IfOk result (λ machines. IsReady G.Register O.Owners S.Store E.Engine machines sizes) }

@@ -98,7 +98,7 @@ turns_many event down (who ∷ before) from to steps (middle, earlier, are, Does
     many_both from middle to (turns_many event down before from middle earlier are) (record { nodes = goes.shown.nodes; devices = goes.shown.devices })
 turns_many event down (who ∷ before) from to steps (middle, earlier, are, Passes its same here) = subst (HasAsMany from) (sym here) (turns_many event down before from middle earlier are)
 
-same_is : (a b : Actor) → is_same a b ≡ true → a ≡ b
+pub same_is : (a b : Actor) → is_same a b ≡ true → a ≡ b
 same_is (Node n) (Node m) is = let e : n ≡ m = grind (arith, nat_tests) in ap Node e
 same_is (Node n) (Replica m) is = cc
 same_is (Node n) (Server m) is = cc

@@ -3,6 +3,7 @@ mod Allowing
 mod Crashing
 mod Downs
 mod Dues
+mod Each
 mod Going
 mod Holding
 mod Lacks

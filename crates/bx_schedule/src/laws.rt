@@ -1,6 +1,6 @@
 //! What the lines of a schedule come to, in parts of a run.
 
-ghost use Rattle.std.specs.Prelude.{◌≡◌, ◌++◌, ◌∷◌, ◌⊎◌, [], ℕ, Bool, List, Option, false, true};
+ghost use Rattle.std.specs.Prelude.{◌≡◌, ◌++◌, ◌∷◌, ◌⊎◌, [], ℕ, Bool, List, Option, false, map, reverse, true};
 ghost use Rattle.std.specs.FinSet as set;
 ghost use Rattle.bx_base.specs.Faults.{Rose};
 ghost use Rattle.bx_base.specs.declared.names.Actor.{Actor};
@@ -11,8 +11,9 @@ ghost use Rattle.bx_script.specs.Schedule.{is_heading};
 ghost use Rattle.bx_script.specs.declared.line.Line.{Line};
 ghost use Rattle.bx_world_events.specs.Causes.{IsThere};
 ghost use Rattle.bx_world_events.specs.Refusals.{Seen};
+ghost use Rattle.bx_world_events.specs.declared.event.Event.TheVariants.{Crash, Restart};
 ghost use Rattle.bx_world_events.specs.declared.event.EventError.{EventError};
-ghost use Rattle.bx_schedule.specs.Doing.{IsLine};
+ghost use Rattle.bx_schedule.specs.Doing.{AllCrash, AllRestart, IsLine};
 ghost use Rattle.bx_schedule.specs.Places.{HasAsMany, has_stopped};
 ghost use Rattle.bx_schedule.specs.Placing.{ArePartsOf, IsByLines, is_down_by, nodes_after};
 ghost use Rattle.bx_schedule.specs.Refusing.{IsRefusal};
@@ -36,6 +37,12 @@ pub fn down_by_lines()
 /// The parts of steps come in front of those that there were.
 pub fn parts_stand_apart()
     ensures { (steps : List Step) (parts : List Part) → parts_with steps parts ≡ parts_with steps [] ++ parts }
+{}
+
+/// Where all machines crash, each that was up has its turn, in their order, if no fault stopped one meanwhile; where all start again, each that was down has it.
+pub fn each_has_its_turn()
+    ensures crash { (from to : Seen) (steps : List Step) (all : AllCrash from steps to) → has_stopped steps ≡ false → map (λ step. step.event) steps ≡ map Crash (reverse all.machines) }
+    ensures restart { (reading : ℕ) (from to : Seen) (steps : List Step) (all : AllRestart reading from steps to) → map (λ step. step.event) steps ≡ map (Restart reading) (reverse all.machines) }
 {}
 
 /// A line has one cause for which it is refused, or none.

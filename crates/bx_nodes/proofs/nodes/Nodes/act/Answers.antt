@@ -63,9 +63,10 @@ returns-clause-stands g c = λ x letters clocks course tree up steady stands.
     let three = c.in_ok-answers.ensures.stands x letters clocks two.later two.next session up two.stands own_then ends_then live_then mine_then in
     let Final = Stand g.G.Register g.O.Owners g.S.Store e c.attempt_turn.new.self x (letters ++ c.attempt_turn.new.out) clocks in
     let both = turned_on (e.step middle.engine) (Stand g.G.Register g.O.Owners g.S.Store e stepped x (letters ++ c.step_log.new.out) clocks) Final course tree (option_to_list c.in_ok-acked.acked) c.in_ok-answers.answers.items two
-    (subst (λ en. Turned (e.step en) Final two.later two.next c.in_ok-answers.answers.items) c.in_ok-acked.ensures.parts.2 three) in
-    let all = subst (λ en. Turned (e.step en) Final course tree (option_to_list c.in_ok-acked.acked ++ c.in_ok-answers.answers.items)) c.in_ok-receive.ensures.parts.2 both in
-    if_ok_so _ _ c.together.result (λ said is. subst (λ (l : List Said). Turned (e.step old.engine) Final course tree l) (sym is) all) c.together.ensures
+    (subst (λ en. Turned (Some session) (e.step en) Final two.later two.next c.in_ok-answers.answers.items) c.in_ok-acked.ensures.parts.2 three) in
+    let all = subst (λ en. Turned (Some session) (e.step en) Final course tree (option_to_list c.in_ok-acked.acked ++ c.in_ok-answers.answers.items)) c.in_ok-receive.ensures.parts.2 both in
+    if_ok_so _ _ c.together.result (λ said is. subst (λ (l : List Said). Turned (g.O.Owners.own old.owners node) (e.step old.engine) Final course tree l) (sym is)
+    (subst (λ (mine : Option ℕ). Turned mine (e.step old.engine) Final course tree (option_to_list c.in_ok-acked.acked ++ c.in_ok-answers.answers.items)) (sym has.is_own) all)) c.together.ensures
 
 pub returns-clause-waits : goal.returns-clause-waits
 returns-clause-waits g c = λ lease has.

@@ -37,9 +37,10 @@ returns-clause-stands g c = λ x letters clocks course tree up steady stands.
     let two = c.in_ok-said.ensures.stands x letters clocks course tree up steady one in
     let Acted = Stand g.G.Register g.O.Owners g.S.Store e acted x (letters ++ c.act.new.out) clocks in
     let Final = Stand g.G.Register g.O.Owners g.S.Store e new x (letters ++ c.act.new.out) clocks in
-    subst (λ en. Turned (e.step en) Final course tree c.in_ok-said.said.items) c.note_asked.ensures.parts.3
+    subst (λ w. Turned (g.O.Owners.own w c.args.node) (e.step old.engine) Final course tree c.in_ok-said.said.items) c.note_asked.ensures.parts.1
+    (subst (λ en. Turned (g.O.Owners.own noted.owners c.args.node) (e.step en) Final course tree c.in_ok-said.said.items) c.note_asked.ensures.parts.3
     (turned_as (e.step noted.engine) Acted Final course tree c.in_ok-said.said.items
-    (λ later next stood. stands_noted g.G.Register g.O.Owners g.S.Store e acted new c.note_asked-2.ensures.parts x (letters ++ c.act.new.out) clocks later next c.note_asked-2.ensures.seen stood) two)
+    (λ later next stood. stands_noted g.G.Register g.O.Owners g.S.Store e acted new c.note_asked-2.ensures.parts x (letters ++ c.act.new.out) clocks later next c.note_asked-2.ensures.seen stood) two))
 
 pub returns-clause-waits : goal.returns-clause-waits
 returns-clause-waits g c = λ lease has.

@@ -281,6 +281,9 @@ module _ (moment : ℕ) (calls waiting : List Waiting) (said : List Said) (begin
   pub begun_by : (recording : Recording) → IsRecordingOf moment begins.call begins.attempt recording → WaitsOn recording.waits waiting later → Begun_by recording
   begun_by recording asks waits = by begins.attempt asks
     where
+      waited : (number : ℕ) → MayAct waiting number → MayAct calls number
+      waited number may = record { one = may.one; there = went.waiting_from may.one may.there; same = may.same; still = may.still }
+
       by : (attempt : Attempt) → IsRecordingOf moment begins.call attempt recording → Begun_by recording
       by (attempts.Need wants) is = absurd is
       by (attempts.Change draft done) is =
@@ -316,6 +319,3 @@ module _ (moment : ℕ) (calls waiting : List Waiting) (said : List Said) (begin
             writes = λ one written. cc;
           })
       by (attempts.Answer done) is = absurd is
-
-      waited : (number : ℕ) → MayAct waiting number → MayAct calls number
-      waited number may = record { one = may.one; there = went.waiting_from may.one may.there; same = may.same; still = may.still }

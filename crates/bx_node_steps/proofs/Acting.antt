@@ -56,3 +56,45 @@ module _ (old new : Machine) (calls : new.calls.items ≡ old.calls.items) where
     opening = λ number is. absurd (let wrong : None ≡ Some is.call = sym none ∙ is.is in cc);
     answered = λ number is. inr (answers number is);
   }
+
+-- .. and nothing is answered
+pub acts_unwritten : (old new : Machine) → new.calls.items ≡ old.calls.items → call_written new.stage ≡ None → ActsOn old new []
+acts_unwritten old new calls none = acts_over old new calls [] none (λ number is. none_answered number is)
+
+-- Calls are attempted, and none begins a record: those that wait on waited, and what is answered might act.
+pub acts_tried : (old new : Machine) (said : List Said) → new ≡ record old { calls = new.calls } → ((number : ℕ) → MayAct new.calls.items number → MayAct old.calls.items number)
+    → ((number : ℕ) → IsAnswered said number → MayAct old.calls.items number) → ActsOn old new said
+acts_tried old new said only waits answers = record {
+  to_act = λ number is. ⊎_elim (λ may. inl (waits number may)) (λ writes. inr (still false number writes)) is;
+  opening = λ number is. inr (still true number is);
+  answered = λ number is. inl (inl (answers number is));
+}
+  where
+    still : (opening : Bool) (number : ℕ) → IsWritten opening new number → IsWritten opening old number
+    still opening number is = record {
+      call = is.call;
+      is = sym (ap (λ (m : Machine). call_written m.stage) only) ∙ is.is;
+      same = is.same;
+      gate = sym (ap (λ (m : Machine). is_opening m.log.work) only) ∙ is.gate;
+    }
+
+-- Calls are attempted, and one begins a record, whose gate isn't sent yet.
+pub acts_begun : (old new : Machine) (said : List Said) → ((number : ℕ) → MayAct new.calls.items number → MayAct old.calls.items number)
+    → ((call : Waiting) → call_written new.stage ≡ Some call → MayAct old.calls.items call.number) → is_opening new.log.work ≡ false
+    → ((number : ℕ) → IsAnswered said number → MayAct old.calls.items number) → ActsOn old new said
+acts_begun old new said waits written gate answers = record {
+  to_act = λ number is. ⊎_elim (λ may. inl (waits number may)) (λ writes. inl (subst (MayAct old.calls.items) writes.same (written writes.call writes.is))) is;
+  opening = λ number is. absurd (let wrong : false ≡ true = sym gate ∙ is.gate in cc);
+  answered = λ number is. inl (inl (answers number is));
+}
+
+-- A node begins anew: it writes no record then, and the call of the one that it wrote waits on, over where the gate may have been sent.
+pub acts_anew : (old new : Machine) → call_written new.stage ≡ None
+    → ((number : ℕ) → MayAct new.calls.items number → MayAct old.calls.items number ⊎ ((call : Waiting) × (call_written old.stage ≡ Some call) × (call.number ≡ number) × (is_opening old.log.work ≡ false))) → ActsOn old new []
+acts_anew old new none waits = record {
+  to_act = λ number is. ⊎_elim
+      (λ may. ⊎_elim inl (λ was. inr (record { call = was.0; is = was.1; same = was.2; gate = was.3 })) (waits number may))
+      (λ writes. absurd (let wrong : None ≡ Some writes.call = sym none ∙ writes.is in cc)) is;
+  opening = λ number is. absurd (let wrong : None ≡ Some is.call = sym none ∙ is.is in cc);
+  answered = λ number is. none_answered number is;
+}

@@ -4,7 +4,7 @@ use Rattle.std.specs.Prelude.{option_map, option_to_list}
 use Rattle.std.proofs.lemmas.List.Elements.{Contains-append_cases, Contains-append_left, Contains-append_right}
 use Rattle.bx_base.specs.declared.names.Point.{Point}
 use Rattle.bx_facts.proofs.Lists.{behind, front, front_or_behind, nothing}
-use Rattle.bx_node_steps.proofs.Acting.{acts_over, acts_same, acts_sent}
+use Rattle.bx_node_steps.proofs.Acting.{acts_over, acts_same, acts_sent, acts_unwritten}
 use Rattle.bx_node_steps.specs.Calls.{Acting, ActsAt, ActsOn, Answers, AnswersCalls, AreApart, AreInOrder, AreToOthers, CallOf, IsAmong, IsAnswered, IsOpening, IsThat, WaitsAt, acting_of, acting_said, call_of, call_written, is_opening, point_in, under_way}
 use Rattle.bx_node_steps.specs.Logging.{Closed, FitsStage, IsNumbered, LogGoes, Rests, SendsClosing, SendsGate, SendsHomes, SendsShut, said_of}
 use Rattle.bx_node_steps.specs.declared.machine.Machine.{Machine}
@@ -229,7 +229,7 @@ same_waits : (calls : List Waiting) (written : Option Waiting) (call : CallOf) �
 same_waits calls written call = ((λ waits. waits), (λ waits. waits))
 
 -- A node of which neither the calls nor the record that is written change, where that is told of those that may act.
-same_as : (moment : ℕ) (old new : Machine) → new.calls.items ≡ old.calls.items → call_written new.stage ≡ call_written old.stage → under_way new ≡ under_way old → ActsOn old new [] → IsNumberedAt old → AreApart old → AnswersCalls moment old new []
+pub same_as : (moment : ℕ) (old new : Machine) → new.calls.items ≡ old.calls.items → call_written new.stage ≡ call_written old.stage → under_way new ≡ under_way old → ActsOn old new [] → IsNumberedAt old → AreApart old → AnswersCalls moment old new []
 same_as moment old new calls written point acts numbered apart = record {
   answers = at_machines moment old new old.calls.items old.calls.items (call_written old.stage) (call_written old.stage) (under_way old) (under_way old) [] refl refl refl calls written point
       (still moment _ _ (same_waits old.calls.items (call_written old.stage)) (under_way old) (waits_written old.calls.items (call_written old.stage) (point_in old.log.work) numbered));
@@ -301,7 +301,7 @@ log_answers moment areas old new runs said fits apart (SendsHomes pending point 
         let none : call_written old.stage ≡ None = written ∙ ap first is in
         subst (λ (c : Option (Waiting × List ℕ)). AnswersCalls moment old new (option_to_list (said_of c point))) (sym is)
         (same_as moment old new (ap (λ (m : Machine). m.calls.items) now) (ap (λ (m : Machine). call_written m.stage) now ∙ sym none) (ap under_way now ∙ sym (under None none))
-        (acts_over old new (ap (λ (m : Machine). m.calls.items) now) [] (ap (λ (m : Machine). call_written m.stage) now) (λ number answered. absurd (none_said number answered))) (fits_numbered areas old fits) apart)
+        (acts_unwritten old new (ap (λ (m : Machine). m.calls.items) now) (ap (λ (m : Machine). call_written m.stage) now)) (fits_numbered areas old fits) apart)
     by (Some (call, reply)) is =
         let some : call_written old.stage ≡ Some call = written ∙ ap first is in
         subst (λ (c : Option (Waiting × List ℕ)). AnswersCalls moment old new (option_to_list (said_of c point))) (sym is)
@@ -314,12 +314,12 @@ log_answers moment areas old new runs said fits apart (SendsHomes pending point 
 log_answers moment areas old new runs said fits apart (SendsClosing stage now volume settles) =
     same_as moment old new (ap (λ (m : Machine). m.calls.items) now) (ap (λ (m : Machine). call_written m.stage) now ∙ ap call_written (sym stage))
     (ap under_way now ∙ ap (λ (s : Stage). acting_of (call_written s) (point_in old.log.work)) (sym stage))
-    (acts_over old new (ap (λ (m : Machine). m.calls.items) now) [] (ap (λ (m : Machine). call_written m.stage) now) (λ number answered. absurd (none_said number answered))) (fits_numbered areas old fits) apart
+    (acts_unwritten old new (ap (λ (m : Machine). m.calls.items) now) (ap (λ (m : Machine). call_written m.stage) now)) (fits_numbered areas old fits) apart
 log_answers moment areas old new runs said fits apart (SendsShut stage work now) =
     same_as moment old new (ap (λ (m : Machine). m.calls.items) now) (ap (λ (m : Machine). call_written m.stage) now)
     (ap under_way now ∙ ap (λ (s : Stage). acting_of (call_written s) (point_in works.Shuts)) stage ∙ ap (λ (s : Stage). acting_of (call_written s) (point_in old.log.work)) (sym stage))
-    (acts_over old new (ap (λ (m : Machine). m.calls.items) now) [] (ap (λ (m : Machine). call_written m.stage) now ∙ ap call_written stage) (λ number answered. absurd (none_said number answered))) (fits_numbered areas old fits) apart
+    (acts_unwritten old new (ap (λ (m : Machine). m.calls.items) now) (ap (λ (m : Machine). call_written m.stage) now ∙ ap call_written stage)) (fits_numbered areas old fits) apart
 log_answers moment areas old new runs said fits apart (Closed stage work now) =
     same_as moment old new (ap (λ (m : Machine). m.calls.items) now) (ap (λ (m : Machine). call_written m.stage) now ∙ ap call_written (sym stage))
     (ap under_way now ∙ ap (λ (s : Stage). acting_of (call_written s) (point_in old.log.work)) (sym stage))
-    (acts_over old new (ap (λ (m : Machine). m.calls.items) now) [] (ap (λ (m : Machine). call_written m.stage) now) (λ number answered. absurd (none_said number answered))) (fits_numbered areas old fits) apart
+    (acts_unwritten old new (ap (λ (m : Machine). m.calls.items) now) (ap (λ (m : Machine). call_written m.stage) now)) (fits_numbered areas old fits) apart

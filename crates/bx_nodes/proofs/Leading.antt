@@ -1,12 +1,13 @@
 -- Answers that lead from tree to tree, and further.
-use Rattle.std.proofs.Common.{◌∙◌, inl, ℕ, List, [], ◌∷◌, ◌++◌, Contains, Option, refl, sym, subst}
+use Rattle.std.proofs.Common.{◌∙◌, inl, ℕ, List, [], ◌∷◌, ◌++◌, Contains, Option, None, Some, IfSome, refl, sym, subst}
 use Rattle.std.specs.Prelude.{reverse}
 use Rattle.std.proofs.lemmas.List.{append-nil, reverse-append}
+use Rattle.bx_facts.specs.Chains.{LivesIn, last}
 use Rattle.bx_node_events.proofs.Works.{keeps_all, leaves_kept, leaves_on}
 use Rattle.bx_node_tries.specs.Tries.{LeadsBack}
 use Rattle.bx_node_tries.specs.declared.round.Said.{Said}
 use Rattle.bx_nodes.specs.Asks.{Later}
-use Rattle.bx_nodes.specs.Turns.{IsOldOrTold, Turned}
+use Rattle.bx_nodes.specs.Turns.{IsOldOrTold, Turned, TurnedUnder}
 use Rattle.bx_nodes.proofs.Told.{told_as, told_from, told_on}
 use Rattle.bx_views.specs.Attempts.{Deed}
 use Rattle.bx_volume.specs.Records.{Logged}
@@ -60,3 +61,21 @@ turned_none Step Stands_then c tree stands = record { later = c; next = tree; le
 pub turned_as : {own : Option ℕ} {T : Type 0} (Step : T → Deed → T → Type 0) (Stands Stands_then : Course → T → Type 0) (c : Course) (tree : T) (said : List Said) → ((later : Course) (next : T) → Stands later next → Stands_then later next)
     → Turned own Step Stands c tree said → Turned own Step Stands_then c tree said
 turned_as Step Stands Stands_then c tree said leads one = record { later = one.later; next = one.next; leads = one.leads; chain = one.chain; logged = one.logged; works = one.works; stands = leads one.later one.next one.stands }
+
+-- a turn under a session that is its own otherwise told, for what stands then
+pub under_as : {T : Type 0} (IsOwn IsOwn_then : ℕ → Type 0) (Step : T → Deed → T → Type 0) (Stands Stands_then : Course → T → Type 0) (c : Course) (tree : T) (said : List Said) → ((session : ℕ) → IsOwn session → IsOwn_then session)
+    → ((later : Course) (next : T) → Stands later next → Stands_then later next) → TurnedUnder IsOwn Step Stands c tree said → TurnedUnder IsOwn_then Step Stands_then c tree said
+under_as IsOwn IsOwn_then Step Stands Stands_then c tree said owns leads one = record {
+  own = one.own;
+  is_own = by one.own one.is_own;
+  quiet = one.quiet;
+  turned = turned_as Step Stands Stands_then c tree said leads one.turned;
+}
+  where
+    by : (own : Option ℕ) → IfSome own (λ session. IsOwn session × LivesIn (last c.register.chain) session) → IfSome own (λ session. IsOwn_then session × LivesIn (last c.register.chain) session)
+    by None is = tt
+    by (Some session) is = (owns session is.0, is.1)
+
+-- nothing is done, under no session
+pub under_none : {T : Type 0} (IsOwn : ℕ → Type 0) (Step : T → Deed → T → Type 0) (Stands_then : Course → T → Type 0) (c : Course) (tree : T) → Stands_then c tree → TurnedUnder IsOwn Step Stands_then c tree []
+under_none IsOwn Step Stands_then c tree stands = record { own = None; is_own = tt; quiet = λ none. refl; turned = turned_none Step Stands_then c tree stands }

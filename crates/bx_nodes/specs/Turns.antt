@@ -1,8 +1,9 @@
 -- What a turn does.
-use Rattle.std.specs.Prelude.{◌≡◌, ◌≢◌, ◌⊎◌, ℕ, false, true, All, Contains, List, Option, None, Some, IsSome, reverse, slice_get}
+use Rattle.std.specs.Prelude.{◌≡◌, ◌≢◌, ◌⊎◌, ℕ, false, true, All, Contains, IfSome, List, [], Option, None, Some, IsSome, reverse, slice_get}
 use Rattle.std.specs.List.{AllByRecursion}
 use Rattle.bx_base.specs.declared.names.Mode.{Mode}
 use Rattle.bx_facts.specs.declared.store.Store as store
+use Rattle.bx_facts.specs.Chains.{LivesIn, last}
 use Rattle.bx_facts.specs.Holds.{first_of}
 use Rattle.bx_facts.specs.Writes.{Asked, Sent}
 use Rattle.bx_node_cache.specs.Kept.{held_in, hint_in}
@@ -41,6 +42,13 @@ pub record Turned {T : Type 0} (own : Option ℕ) (Step : T → Deed → T → T
   pub logged : (slot : ℕ) (one : Logged) → Contains (later.logs slot) one → IsOldOrTold c.logs said slot one
   pub works : LeavesWorks own c later
   pub stands : Stands_then later next
+
+-- So a node had a turn under a session that is its own and lives; or under none, and then it answers nothing.
+pub record TurnedUnder {T : Type 0} (IsOwn : ℕ → Type 0) (Step : T → Deed → T → Type 0) (Stands_then : Course → T → Type 0) (c : Course) (tree : T) (said : List Said) : Type 0 where
+  pub own : Option ℕ
+  pub is_own : IfSome own (λ session. IsOwn session × LivesIn (last c.register.chain) session)
+  pub quiet : own ≡ None → said ≡ []
+  pub turned : Turned own Step Stands_then c tree said
 
 -- All machines but one are as they were.
 pub record OnlyMachine (node : ℕ) (old new : List Machine) : Type 0 where

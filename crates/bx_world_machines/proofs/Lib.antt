@@ -1,8 +1,12 @@
+pub mod Acts
 pub mod AnsweredAtOnce
 pub mod Answering
 pub mod Beginning
 pub mod Clocks
 pub mod Disks
+pub mod Doubts
+pub mod Emptied
+pub mod Goes
 pub mod Known
 pub mod Nodes
 pub mod Reading

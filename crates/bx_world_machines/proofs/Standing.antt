@@ -180,7 +180,15 @@ node_there g o st e machines node ready up = let less = ready.there (Node node) 
 module _ {G O S E T : Type 0} (g : register.Ghosts G) (o : owners.Ghosts O) (st : store.Ghosts S) (e : engine.Ghosts E T) (old new : Machines G O S E T) (middle : Nodes G O S E T) (node reading : ℕ) (call : Waiting) (ready : AreReady g o st e old) (there : node < length old.nodes.machines.items)
     (later : old.latest < call.number) (count : length middle.machines.items ≡ length old.nodes.machines.items) (behind : OfBoth old.nodes middle node (WaitsBehind call)) (others : OnlyMachine node old.nodes.machines.items middle.machines.items) where
   pub comes_to : Comes node call old.nodes.machines.items middle.machines.items
-  comes_to = record { waits = each_called node call old.nodes middle there count behind others; acting = (still_called node call old.nodes middle there count behind others).acting }
+  comes_to = record {
+    waits = each_called node call old.nodes middle there count behind others;
+    acting = (still_called node call old.nodes middle there count behind others).acting;
+    to_act = may_with node old.nodes.machines.items middle.machines.items pair.before pair.after pair.was pair.is others call pair.says;
+    opening = opens_with node old.nodes.machines.items middle.machines.items pair.before pair.after pair.was pair.is others call pair.says;
+  }
+    where
+      pair : Changed node old.nodes middle (WaitsBehind call)
+      pair = changed_at node old.nodes middle (WaitsBehind call) there count behind
 
   pub numbers_with : AreNumbered call.number middle.machines.items
   numbers_with = numbered_with old.latest node old.nodes.machines.items middle.machines.items call later (λ at other. (comes_to.waits at other).0) ready.numbered

@@ -1,6 +1,7 @@
 -- Calls in doubt, from one course to a later one.
-use Rattle.std.proofs.Common.{◌≡◌, ◌≢◌, ◌⊎◌, ◌∙◌, ⊎_elim, inl, inr, ℕ, ◌<◌, true, List, Option, Some, None, sym, ap, subst, arith}
+use Rattle.std.proofs.Common.{◌≡◌, ◌≢◌, ◌⊎◌, ◌∙◌, ⊎_elim, inl, inr, ℕ, ◌<◌, true, List, [], Contains, Option, Some, None, sym, ap, subst, arith}
 use Rattle.bx_facts.specs.Chains.{Chain, GrowsBy, last}
+use Rattle.bx_facts.proofs.Lists.{nothing}
 use Rattle.bx_global.specs.Allowed.{IsAllowed}
 use Rattle.bx_global.specs.bx_rows.specs.Words.{row_in}
 use Rattle.bx_node_calls.proofs.Found.{same_or}
@@ -8,9 +9,10 @@ use Rattle.bx_node_steps.specs.declared.machine.Machine.{Machine}
 use Rattle.bx_nodes.specs.bx_node_events.specs.Works.{KeepsWorks, LeavesWorks}
 use Rattle.bx_views.specs.Attempts.{Deed}
 use Rattle.bx_world_machines.specs.Acts.{MayActAt, OpenStill, OpensAt}
-use Rattle.bx_world_machines.specs.Doubts.{AreInDoubt, IsOpenIn}
+use Rattle.bx_world_machines.specs.Doubts.{AreInDoubt, DoubtsGo, IsOpenIn}
 use Rattle.bx_world_standing.specs.Doubts.{DoubtsStand}
 use Rattle.bx_world_standing.specs.Standing.{Course}
+use Rattle.bx_world_standing.specs.bx_volume.specs.Overlay.{Logs}
 use Rattle.bx_world_standing.specs.bx_world_chains.proofs.Rows.{below_next, row_before}
 use Rattle.bx_world_standing.specs.bx_world_logs.specs.Logs.{Slot, opens}
 use Rattle.bx_world_standing.specs.bx_world_views.specs.Views.{Doubt}
@@ -101,3 +103,22 @@ in_doubt_later latest number machines c later was = record {
   opening = was.opening;
   once = was.once;
 }
+
+-- Nothing is answered, and the logs stay.
+pub goes_none : (machines : List Machine) (c later : Course) → WereOpen c later → later.logs ≡ c.logs → DoubtsGo [] machines c later
+goes_none machines c later before logs = record {
+  doubted = λ session doubt deed is. inl (before session doubt deed is, λ answered. nothing answered.one answered.there);
+  logged = λ slot one has. inl (subst (λ (l : Logs). Contains (l slot) one) logs has);
+}
+
+-- Nothing is in doubt.
+pub in_doubt_none : (latest : ℕ) (machines : List Machine) (c : Course) → ((session : ℕ) → c.doubts session ≡ None) → AreInDoubt latest machines c
+in_doubt_none latest machines c none = record {
+  came = λ session doubt deed is. absurd (nobody session doubt deed is);
+  over = λ session node doubt deed is may. nobody session doubt deed is;
+  opening = λ session node doubt deed is sent. absurd (nobody session doubt deed is);
+  once = λ session other doubt twin deed act is also same. absurd (nobody session doubt deed is);
+}
+  where
+    nobody : (session : ℕ) (doubt : Doubt) (deed : Deed) → IsOpenIn c session doubt deed → ⊥
+    nobody session doubt deed is = let wrong : None ≡ Some doubt = sym (none session) ∙ is.is in cc

@@ -9,6 +9,9 @@ use Rattle.bx_node_tries.specs.declared.round.Waiting.{Waiting}
 use Rattle.bx_nodes.specs.Stopping.{Empties, HasNothing}
 use Rattle.bx_nodes.proofs.Emptied.{emptied}
 use Rattle.bx_world_machines.specs.Acts.{MayActAt, OpenStill, OpensAt}
+use Rattle.bx_world_machines.specs.Doubts.{AreInDoubt}
+use Rattle.bx_world_machines.proofs.Doubts.{WereOpen, in_doubt_kept}
+use Rattle.bx_world_standing.specs.Standing.{Course}
 
 it_is : {A : Type 0} (found : Option A) → IfSome found (λ one. found ≡ Some one)
 it_is None = tt
@@ -48,3 +51,7 @@ module _ (who : Actor) (old new : List Machine) (empties : Empties who old new) 
       (it_is (slice_get old node)))
       opens
       (λ one leads w. leads w)
+
+-- Calls stay in doubt where a machine stops.
+pub in_doubt_emptied : (latest : ℕ) (who : Actor) (old new : List Machine) → Empties who old new → (c later : Course) → WereOpen c later → AreInDoubt latest old c → AreInDoubt latest new later
+in_doubt_emptied latest who old new empties c later before was = in_doubt_kept latest old new c later before (λ node number may. may_before who old new empties node number may) (λ node number opens. opens_before who old new empties node number opens) was

@@ -13,4 +13,5 @@ pub mod Reading
 pub mod Rooms
 pub mod Standing
 pub mod Starting
+pub mod Used
 pub mod WhoIsUp

@@ -81,7 +81,7 @@ module _ {G O S : Type 0} (g : register.Ghosts G) (o : owners.Ghosts O) (st : st
     abbrev Has : S → Disks → StorePast → Type 0
     Has one w sp = HasLogs (st.made store_is) (st.keeps one w) (st.stands one w) (IsOfNode o.by_boot known.clocks) (λ node. c.store.told.knew (Node node)) c.register.proposed c.owners c.before c.logs c.slots c.truth sp
 
-    has_logs : Has store_is x c.store
+    pub has_logs : Has store_is x c.store
     has_logs = record {
       kept = at.parts.store_keeps;
       grows = λ change there legal. let it = laws.stores_grow store_is x c.store change at.parts.store_keeps legal (at.pasts.proposed change there).1 in (it.0, it.1.standing);

@@ -100,6 +100,12 @@ module _ {G O S E T : Type 0} (g : register.Ghosts G) (o : owners.Ghosts O) (st 
     }, refl);
   }
 
+  -- .. by the course by which they stood
+  pub answered_by : (letters : List Letter) (x : Disks) (tree : T) (said : List Said) (course : Course) → (by_it : StandsBy g o st e course old letters x tree)
+      → LedTo (e.stands old.nodes.engine) (e.step old.nodes.engine) (e.free old.nodes.engine by_it.0.course.truth) by_it.0.course.truth tree said
+      → Rounded e old.nodes.engine (StandsBy g o st e course (record old { latest = number }) letters x) tree said
+  answered_by letters x tree said course by_it led = subst (λ (k : Course). Rounded e old.nodes.engine (StandsBy g o st e k (record old { latest = number }) letters x) tree said) by_it.1 (stands_answered letters x tree said by_it.0 led)
+
 -- What leads on, behind one answer more that is newer than all that are in doubt.
 pub rounded_more : {G O S E T : Type 0} (g : register.Ghosts G) (o : owners.Ghosts O) (st : store.Ghosts S) (e : engine.Ghosts E T) (engine_is : E) (one : Said) (others all : List Said) (c : Course) (old new : Machines G O S E T) (letters : List Letter) (x : Disks) (tree : T)
     → all ≡ one ∷ others → old.latest < one.point.call → AreInDoubt old.latest old.nodes.machines.items c → Rounded e engine_is (StandsBehind g o st e c others new letters x) tree others → Rounded e engine_is (StandsBehind g o st e c all new letters x) tree others

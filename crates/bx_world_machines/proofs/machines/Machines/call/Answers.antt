@@ -1,4 +1,5 @@
 use Rattle.std.proofs.Common.{◌++◌, subst}
+use Rattle.bx_node_tries.specs.Tries.{IsAnswerTo}
 use Rattle.bx_world_machines.specs.Answering.Called.{AtOnce}
 use Rattle.bx_world_machines.specs.Doubts.{AreInDoubt}
 use Rattle.bx_world_machines.specs.Standing.{StandsBehind, StandsBy}
@@ -10,10 +11,11 @@ returns-in_ok-insert-in-Ok-Answered-clause-stands g c = λ letters x tree course
     let old = c.args.self.now in
     let middle = c.answer_at_once.new.self in
     let first = rw c.in-Ok-Answered.field-0-is at (c.in-Ok-Answered.ensures.stands (letters ++ c.args.out.now) x tree course standing) in
+    let tried : IsAnswerTo c.args.reading c.args.call c.in-Ok-Answered.one = rw c.in-Ok-Answered.field-0-is at c.in-Ok-Answered.ensures.tried in
     rounded_behind g.E.Engine old.nodes.engine (StandsBy g.G.Register g.O.Owners g.S.Store g.E.Engine course middle (letters ++ c.args.out.now) x) (StandsBehind g.G.Register g.O.Owners g.S.Store g.E.Engine course c.insert.new.self.items c.turn.new.self (letters ++ c.turn.new.out) x) tree
     c.in-Ok-Answered.one c.in_ok-said-in-Ok-Answered.said.items c.insert.new.self.items c.in_ok-insert-in-Ok-Answered.ensures.items first
     (λ next stands. rounded_more g.G.Register g.O.Owners g.S.Store g.E.Engine old.nodes.engine c.in-Ok-Answered.one c.in_ok-said-in-Ok-Answered.said.items c.insert.new.self.items course old c.turn.new.self
-    (letters ++ c.turn.new.out) x next c.in_ok-insert-in-Ok-Answered.ensures.items (rw (rw c.in-Ok-Answered.field-0-is at c.in-Ok-Answered.ensures.tried).number c.requires.newer) (subst (AreInDoubt old.latest old.nodes.machines.items) standing.1 standing.0.doubts)
+    (letters ++ c.turn.new.out) x next c.in_ok-insert-in-Ok-Answered.ensures.items (rw tried.number c.requires.newer) (subst (AreInDoubt old.latest old.nodes.machines.items) standing.1 standing.0.doubts)
     (rw c.in-Ok-Answered.ensures.same at (c.in_ok-said-in-Ok-Answered.ensures.stands letters x next course stands)))
 
 pub returns-in_ok-insert-in-Ok-Answered-clause-ready : goal.returns-in_ok-insert-in-Ok-Answered-clause-ready

@@ -62,13 +62,13 @@ pub stands_fewer : {G O S E T : Type 0} (g : register.Ghosts G) (o : owners.Ghos
     → ((letter : Letter) → Contains fewer letter → Contains letters letter) → (standing : Standing g o st e machines letters x tree) → StandsBehind g o st e standing.course [] machines fewer x tree
 stands_fewer g o st e laws machines letters fewer x tree among standing = let nodes = machines.nodes in record {
   stands = record {
-  clocks = standing.clocks;
-  course = lettered standing.course fewer;
-  are_clocks = standing.are_clocks;
-  stands = lost g o st (e.stands nodes.engine) (e.step nodes.engine) laws nodes.register nodes.owners nodes.store x letters fewer standing.clocks (seen nodes.machines.items) standing.course tree standing.stands among;
-  told = standing.told;
-  doubts = record { came = standing.doubts.came; over = standing.doubts.over; opening = standing.doubts.opening; once = standing.doubts.once };
-  known = standing.known;
+    clocks = standing.clocks;
+    course = lettered standing.course fewer;
+    are_clocks = standing.are_clocks;
+    stands = lost g o st (e.stands nodes.engine) (e.step nodes.engine) laws nodes.register nodes.owners nodes.store x letters fewer standing.clocks (seen nodes.machines.items) standing.course tree standing.stands among;
+    told = standing.told;
+    doubts = record { came = standing.doubts.came; over = standing.doubts.over; opening = standing.doubts.opening; once = standing.doubts.once };
+    known = standing.known;
   };
   goes = goes_none machines.nodes.machines.items standing.course (lettered standing.course fewer) (λ session doubt deed is. record { row = is.row; has_row = is.has_row; sent = is.sent; is = is.is; act = is.act }) refl;
 }

@@ -54,10 +54,13 @@ rounded_behind e engine_is Middle Stands_then tree one others all is first goes_
 pub goes_more : (one : Said) (others all : List Said) (machines : List Machine) (c later : Course) (latest : ℕ) (old : List Machine) → all ≡ one ∷ others → latest < one.point.call → AreInDoubt latest old c → DoubtsGo others machines c later → DoubtsGo all machines c later
 goes_more one others all machines c later latest old is newer was goes = rw is (record {
   doubted = λ session doubt deed open_is. ⊎_elim
-      (λ before. inl (before.0, λ answered. ⊎_elim
-      (λ first. let low = was.came session doubt deed before.0 in let same = ap (λ (s : Said). s.point.call) first in let n = answered.same in omega (arith, low, newer, same, n))
-      (λ there. before.1 (record { one = answered.one; there = there; same = answered.same }))
-      (front_or_behind one others answered.one answered.there)))
+      (λ before. inl (
+        before.0,
+        λ answered. ⊎_elim
+            (λ first. let low = was.came session doubt deed before.0 in let same = ap (λ (s : Said). s.point.call) first in let n = answered.same in omega (arith, low, newer, same, n))
+            (λ there. before.1 (record { one = answered.one; there = there; same = answered.same }))
+            (front_or_behind one others answered.one answered.there),
+      ))
       inr
       (goes.doubted session doubt deed open_is);
   logged = λ slot record_is has. ⊎_elim
@@ -89,15 +92,18 @@ module _ {G O S E T : Type 0} (g : register.Ghosts G) (o : owners.Ghosts O) (st 
   stands_answered letters x tree said standing led = record {
     next = led.last;
     leads = led.leads;
-    stands = (record {
-      clocks = standing.clocks;
-      course = standing.course;
-      are_clocks = record { down = standing.are_clocks.down; boots = standing.are_clocks.boots; greatest = standing.are_clocks.greatest };
-      stands = answered g o st (e.stands old.nodes.engine) (e.step old.nodes.engine) old.nodes.register old.nodes.owners old.nodes.store x letters standing.clocks (seen old.nodes.machines.items) standing.course tree led.last led.all standing.stands;
-      told = told_later old.latest number old.nodes.machines.items standing.course.logs later standing.told;
-      doubts = in_doubt_later old.latest number old.nodes.machines.items standing.course later standing.doubts;
-      known = standing.known;
-    }, refl);
+    stands = (
+      record {
+        clocks = standing.clocks;
+        course = standing.course;
+        are_clocks = record { down = standing.are_clocks.down; boots = standing.are_clocks.boots; greatest = standing.are_clocks.greatest };
+        stands = answered g o st (e.stands old.nodes.engine) (e.step old.nodes.engine) old.nodes.register old.nodes.owners old.nodes.store x letters standing.clocks (seen old.nodes.machines.items) standing.course tree led.last led.all standing.stands;
+        told = told_later old.latest number old.nodes.machines.items standing.course.logs later standing.told;
+        doubts = in_doubt_later old.latest number old.nodes.machines.items standing.course later standing.doubts;
+        known = standing.known;
+      },
+      refl,
+    );
   }
 
   -- .. by the course by which they stood

@@ -112,13 +112,13 @@ module _ {G O S E T : Type 0} (g : register.Ghosts G) (o : owners.Ghosts O) (st 
       → LabelsStand (st.made machines.nodes.store) y → StandsBehind g o st e standing.course [] machines letters y tree
   stands_on y register_keeps store_moves labels = record {
     stands = record {
-    clocks = standing.clocks;
-    course = lettered standing.course letters;
-    are_clocks = standing.are_clocks;
-    stands = moved g o st e laws machines.nodes x y letters standing.clocks standing.course tree standing.stands register_keeps store_moves labels;
-    told = standing.told;
-    doubts = record { came = standing.doubts.came; over = standing.doubts.over; opening = standing.doubts.opening; once = standing.doubts.once };
-    known = standing.known;
+      clocks = standing.clocks;
+      course = lettered standing.course letters;
+      are_clocks = standing.are_clocks;
+      stands = moved g o st e laws machines.nodes x y letters standing.clocks standing.course tree standing.stands register_keeps store_moves labels;
+      told = standing.told;
+      doubts = record { came = standing.doubts.came; over = standing.doubts.over; opening = standing.doubts.opening; once = standing.doubts.once };
+      known = standing.known;
     };
     goes = goes_none machines.nodes.machines.items standing.course (lettered standing.course letters) (λ session doubt deed is. record { row = is.row; has_row = is.has_row; sent = is.sent; is = is.is; act = is.act }) refl;
   }

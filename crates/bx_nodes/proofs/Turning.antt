@@ -48,7 +48,7 @@ pushed items later item is = ap length is ∙ length-append items (item ∷ [])
 
 one_goes : {newest : Option ℕ} (moment : ℕ) (call : Waiting) (old new : Round) → Goes newest moment call old new → length new.waiting.items + length new.said.items ≤ length old.waiting.items + length old.said.items + 1
 one_goes moment call old new (Stays waits said begun needs) = let w = pushed old.waiting.items new.waiting.items call waits in let s = ap length said in omega (arith, w, s)
-one_goes moment call old new (Needing wants waits said begun needs older attempted) = let w = pushed old.waiting.items new.waiting.items call waits in let s = ap length said in omega (arith, w, s)
+one_goes moment call old new (Needing wants waits said begun needs older) = let w = pushed old.waiting.items new.waiting.items call waits in let s = ap length said in omega (arith, w, s)
 one_goes moment call old new (Answered one is said waits begun needs older attempted) = let s = pushed old.said.items new.said.items one said in let w = ap length waits in omega (arith, w, s)
 one_goes moment call old new (Begins none begun said waits needs older attempted) = let s = ap length said in let w = ap length waits in omega (arith, w, s)
 
@@ -90,7 +90,7 @@ settled_from {newest = newest} moment calls old new (MoreGo before one first mid
 
     by : Goes newest moment one middle last → Contains middle.waiting.items call ⊎ (one ≡ call)
     by (Stays waits said begun needs) = pushed_on waits
-    by (Needing wants waits said begun needs older attempted) = pushed_on waits
+    by (Needing wants waits said begun needs older) = pushed_on waits
     by (Answered answer is said waits begun needs older attempted) = inl (subst (λ (l : List Waiting). Contains l call) waits has)
     by (Begins none begun said waits needs older attempted) = inl (subst (λ (l : List Waiting). Contains l call) waits has)
 
@@ -105,7 +105,7 @@ settled_all {newest = newest} moment calls old new (MoreGo before one first midd
 
     by : (middle.said.items ≡ [] → middle.begun ≡ None → middle.waiting.items ≡ first.waiting.items ++ before) → Goes newest moment one middle last → last.waiting.items ≡ first.waiting.items ++ (before ++ one ∷ [])
     by earlier (Stays waits said begun needs) = on earlier waits said begun
-    by earlier (Needing wants waits said begun needs older attempted) = on earlier waits said begun
+    by earlier (Needing wants waits said begun needs older) = on earlier waits said begun
     by earlier (Answered answer is said waits begun needs older attempted) = absurd (let e = ap (λ (l : List Said). length l) (sym said ∙ none_said) in let n = length-append middle.said.items (answer ∷ []) in omega (arith, e, n))
     by earlier (Begins none begun said waits needs older attempted) = absurd (subst (λ b. IsSomeAnd b (λ begins. begins.call ≡ one)) none_begun begun)
 
@@ -126,7 +126,7 @@ settled_each {newest = newest} moment calls old new (MoreGo before one first mid
 
     by : Earlier → Goes newest moment one middle last → Contains last.waiting.items call ⊎ IsAnswered last.said.items call.number
     by earlier (Stays waits said begun needs) = on earlier waits said begun
-    by earlier (Needing wants waits said begun needs older attempted) = on earlier waits said begun
+    by earlier (Needing wants waits said begun needs older) = on earlier waits said begun
     by earlier (Answered answer is said waits begun needs older attempted) = ⊎_elim
         (λ older. ⊎_elim (λ waiting. inl (subst (λ (l : List Waiting). Contains l call) (sym waits) waiting))
         (λ answered. inr (record { one = answered.one; there = subst (λ (l : List Said). Contains l answered.one) (sym said) (Contains-append_left middle.said.items (answer ∷ []) answered.one answered.there); same = answered.same }))
@@ -154,7 +154,7 @@ settled_newer {newest = newest} moment calls old new (MoreGo before one first mi
 
     by : Earlier → Goes newest moment one middle last → Contains last.waiting.items call
     by earlier (Stays waits said begun needs) = pushed_on earlier waits
-    by earlier (Needing wants waits said begun needs older attempted) = pushed_on earlier waits
+    by earlier (Needing wants waits said begun needs older) = pushed_on earlier waits
     by earlier (Answered answer is said waits begun needs older attempted) = is_older earlier waits older
     by earlier (Begins none begun said waits needs older attempted) = is_older earlier waits older
 

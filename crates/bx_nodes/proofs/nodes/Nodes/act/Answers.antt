@@ -1,4 +1,4 @@
-use Rattle.std.proofs.Common.{◌≡◌, ⊎_elim, ◌∙◌, ℕ, ◌<◌, ◌++◌, [], List, Option, Some, IfSome, IsSome, refl, sym, ap, subst, arith}
+use Rattle.std.proofs.Common.{◌≡◌, ⊎_elim, ◌∙◌, ℕ, ◌<◌, ◌++◌, [], List, Option, Some, None, IfSome, None, IsSome, None, refl, sym, ap, subst, arith}
 use Rattle.std.specs.Prelude.{option_to_list, slice_get}
 use Rattle.bx_facts.specs.Chains.{Chain, LivesIn, last}
 use Rattle.bx_node_steps.specs.Changing.{TakesAnswer}
@@ -16,6 +16,10 @@ use Rattle.bx_nodes.proofs.Turning.{answered_more, rest_there, steps_only, taken
 use Rattle.bx_nodes.proofs.Cleaning.{Cleans, cleans_then, goes_there}
 use Rattle.bx_nodes.proofs.Tidying.{tidy_left, tidy_received, tidy_same, tidy_stepped, tidy_then}
 use Rattle.bx_nodes.proofs.nodes.Nodes.act.Goals as goal
+
+-- a session is some session
+some_not : (session : ℕ) → Some session ≡ None → ⊥
+some_not session none = cc
 
 -- a node has one session
 same_session : (own : Option ℕ) (one other : ℕ) → own ≡ Some one → own ≡ Some other → one ≡ other
@@ -66,7 +70,7 @@ returns-clause-stands g c = λ x letters clocks course tree up steady stands.
     (subst (λ en. Turned (Some session) (e.step en) Final two.later two.next c.in_ok-answers.answers.items) c.in_ok-acked.ensures.parts.2 three) in
     let all = subst (λ en. Turned (Some session) (e.step en) Final course tree (option_to_list c.in_ok-acked.acked ++ c.in_ok-answers.answers.items)) c.in_ok-receive.ensures.parts.2 both in
     if_ok_so _ _ c.together.result (λ said is. subst (λ (l : List Said). TurnedUnder (IsUnderOwn g.O.Owners old node) (e.step old.engine) Final course tree l) (sym is)
-    (record { own = Some session; is_own = ((has.is_own, has.is_under), live); quiet = λ none. absurd cc; turned = all })) c.together.ensures
+    (record { own = Some session; is_own = ((has.is_own, has.is_under), live); quiet = λ none. absurd (some_not session none); turned = all })) c.together.ensures
 
 pub returns-clause-waits : goal.returns-clause-waits
 returns-clause-waits g c = λ lease has.

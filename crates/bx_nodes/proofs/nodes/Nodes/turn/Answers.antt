@@ -43,8 +43,11 @@ returns-clause-stands g c = λ x letters clocks course tree up steady stands.
     let Final = Stand g.G.Register g.O.Owners g.S.Store e new x (letters ++ c.act.new.out) clocks in
     subst (λ en. TurnedUnder (IsUnderOwn g.O.Owners old node) (e.step en) Final course tree c.in_ok-said.said.items) c.note_asked.ensures.parts.3
     (under_as (IsUnderOwn g.O.Owners noted node) (IsUnderOwn g.O.Owners old node) (e.step noted.engine) Acted Final course tree c.in_ok-said.said.items
-    (λ session is. (sym (ap (λ w. g.O.Owners.own w node) c.note_asked.ensures.parts.1) ∙ is.0, was_there (λ (m : Machine). m.session ≡ Some session) (slice_get old.machines.items node) found.0 found.1
-    (of_there (λ (m : Machine). m.session ≡ Some session) (slice_get noted.machines.items node) (record found.0 { mark = mark }) is_noted is.1)))
+    (λ session is. (
+      sym (ap (λ w. g.O.Owners.own w node) c.note_asked.ensures.parts.1) ∙ is.0,
+      was_there (λ (m : Machine). m.session ≡ Some session) (slice_get old.machines.items node) found.0 found.1
+          (of_there (λ (m : Machine). m.session ≡ Some session) (slice_get noted.machines.items node) (record found.0 { mark = mark }) is_noted is.1),
+    ))
     (λ later next stood. stands_noted g.G.Register g.O.Owners g.S.Store e acted new c.note_asked-2.ensures.parts x (letters ++ c.act.new.out) clocks later next c.note_asked-2.ensures.seen stood) two)
 
 pub returns-clause-waits : goal.returns-clause-waits

@@ -190,7 +190,7 @@ module _ {G O S T : Type 0} (g : register.Ghosts G) (o : owners.Ghosts O) (st : 
         (λ change proposed legal. clause (store_grown one change) (has.grows change proposed legal).0 (may_grow (store_with one tended_box).told change (g.knows register_heard who) who input may)))
         (λ image shows. subst (λ m. MayShow (g.reads_as m x.sizes) (st.made store_is) x.sizes c image) same_made
         (subst (λ (sizes : List ℕ). MayShow (g.reads_as (g.made register_heard) sizes) (st.made store_is) sizes c image) register_took.sizes
-        (shows_same (g.reads_as (g.made register_heard) y.sizes) (st.made store_is) y.sizes c later (record { before = heard.3.before; logs = heard.3.logs; slots = heard.3.slots; truth = heard.3.truth }) image shows)))
+        (shows_same (g.reads_as (g.made register_heard) y.sizes) (st.made store_is) y.sizes c later (record { before = heard.3.before; logs = heard.3.logs; slots = heard.3.slots; truth = heard.3.truth; doubts = heard.3.doubts }) image shows)))
       where
         heard : (one : Course) × GrowsBy c.register.proposed c.register.chain one.register.chain
             × StandsBut g o st Stands Step register_heard owners_are store_is y who (letters ++ heard_box) clocks machines (lettered one (letters ++ heard_box)) tree × SameVolume c one × IsLast (g.knows register_heard who) c.register.chain one.register.chain

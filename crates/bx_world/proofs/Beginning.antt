@@ -14,7 +14,11 @@ use Rattle.bx_node_steps.specs.Calls.{Acting, IsThat, WaitsAt, acting_of, call_w
 use Rattle.bx_node_steps.specs.declared.machine.Machine.{Machine}
 use Rattle.bx_node_tries.specs.declared.round.Waiting.{Waiting}
 use Rattle.bx_cluster.specs.Runs.{rules}
+use Rattle.bx_rows.specs.declared.session.SessionRow.{SessionRow}
+use Rattle.bx_world.specs.Doubts.{AreOfTaken}
 use Rattle.bx_world.specs.Led.{AreDesks, AreLeft}
+use Rattle.bx_world_standing.specs.bx_world_logs.specs.Logs.{Slot}
+use Rattle.bx_world_standing.specs.bx_world_views.specs.Views.{Doubt}
 use Rattle.bx_world.specs.Outcomes.{empty_desks}
 
 pub accounts_none : {Tree : Type 0} (Step : Tree → Entry → Tree → Type 0) (AtOnce : List ℕ → Type 0) (first : Tree) → AwaitsNewest Step (rules AtOnce) first [] [] first (waiting [])
@@ -67,4 +71,12 @@ pub left_none : (machines : List Machine) → NoneWaits machines → AreLeft mac
 left_none machines none = record {
   waits = λ node call. (λ w. absurd (none node call w), λ there. absurd there);
   acting = λ node acts is. absurd (none node acts.call (acts_waits (slice_get machines node) acts is));
+}
+
+-- ---- what is in doubt
+
+pub doubted_none : (rows : List SessionRow) (slots : ℕ → Slot) (doubts : ℕ → Option Doubt) → ((session : ℕ) → doubts session ≡ None) → AreOfTaken [] rows slots doubts
+doubted_none rows slots doubts none = record {
+  each = λ session doubt deed is. absurd (let wrong : None ≡ Some doubt = sym (none session) ∙ is.is in cc);
+  once = λ session other doubt twin deed act is also same. absurd (let wrong : None ≡ Some doubt = sym (none session) ∙ is.is in cc);
 }

@@ -1,14 +1,19 @@
-use Rattle.std.proofs.Common.{◌∙◌, [], length, ap, arith}
+use Rattle.std.proofs.Common.{◌∙◌, [], length, sym, ap, subst, arith}
 use Rattle.bx_cluster.specs.Runs.{StepOf}
-use Rattle.bx_world.proofs.Beginning.{accounts_none, desks_none, empty_length, left_none}
+use Rattle.bx_facts.specs.Chains.{last}
+use Rattle.bx_world.specs.Doubts.{AreOfTaken}
+use Rattle.bx_world_standing.specs.Standing.{Course}
+use Rattle.bx_world.proofs.Beginning.{accounts_none, desks_none, doubted_none, empty_length, left_none}
 use Rattle.bx_world.proofs.world.World.begin.Goals as goal
 
 pub returns-clause-led : goal.returns-clause-led
-returns-clause-led g c = λ x tree standing none. record {
+returns-clause-led g c = λ x tree course standing undoubted none. record {
   tree = tree;
   history = [];
   accounts = accounts_none (StepOf (g.E.Engine.step c.args.machines.nodes.engine)) (g.E.Engine.at_once c.args.machines.nodes.engine) tree;
-  stands = rw c.new.ensures standing;
+  stands = rw c.new.ensures standing.0;
+  doubted = rw c.new.ensures (subst (λ (k : Course). AreOfTaken [] (last k.register.chain).sessions k.slots k.doubts) (sym standing.1) (doubted_none (last course.register.chain).sessions course.slots course.doubts undoubted));
+  logged = λ slot one has. refl;
   counted = c.requires.first;
   desks = rw (c.in_ok-desks.ensures, c.nodes.ensures) (desks_none c.args.machines.count);
   left = left_none c.args.machines.nodes.machines.items none;

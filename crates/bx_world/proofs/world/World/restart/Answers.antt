@@ -39,12 +39,12 @@ returns-in-Ok-clause-restarts g c =
       desks = refl;
       latest = said.same.3;
       engine = said.same.4;
-      stands = λ tells may_start tree standing.
+      stands = λ tells may_start tree course standing.
           let none : letters_in old.post ++ c.new-out.result ≡ letters_in old.post = ap (λ (l : List Letter). letters_in old.post ++ l) c.new-out.ensures ∙ append-nil (letters_in old.post) in
-          subst (λ (l : List Letter). machines.Standing g.G.Register g.O.Owners g.S.Store g.E.Engine c.restart.new.self l (g.R.Rack.state c.restart.new.rack) tree)
+          subst (λ (l : List Letter). machines.StandsBehind g.G.Register g.O.Owners g.S.Store g.E.Engine course [] c.restart.new.self l (g.R.Rack.state c.restart.new.rack) tree)
           (sym (ap letters_in c.in_ok-send-in-Ok.ensures.ok ∙ letters_sent old.post c.restart.new.out))
-          (c.in-Ok.ensures.stands (letters_in old.post) tree tells may_start
-          (subst (λ (l : List Letter). machines.Standing g.G.Register g.O.Owners g.S.Store g.E.Engine old.machines l (g.R.Rack.state c.args.rack.now) tree) (sym none) standing));
+          (c.in-Ok.ensures.stands (letters_in old.post) tree course tells may_start
+          (subst (λ (l : List Letter). machines.StandsBy g.G.Register g.O.Owners g.S.Store g.E.Engine course old.machines l (g.R.Rack.state c.args.rack.now) tree) (sym none) standing));
     })
 
 pub returns-in-Ok-clause-ready : goal.returns-in-Ok-clause-ready
@@ -83,11 +83,11 @@ returns-in-Err-Disk-clause-restarts g c =
       desks = c.clear_at.ensures;
       latest = said.same.3;
       engine = said.same.4;
-      stands = λ tells tree standing.
+      stands = λ tells tree course standing.
           let none : letters_in old.post ++ c.new-out.result ≡ letters_in old.post = ap (λ (l : List Letter). letters_in old.post ++ l) c.new-out.ensures ∙ append-nil (letters_in old.post) in
-          subst (λ (l : List Letter). machines.Standing g.G.Register g.O.Owners g.S.Store g.E.Engine c.restart.new.self l (g.R.Rack.state c.restart.new.rack) tree) none
-          (said.failed (letters_in old.post) tree tells
-          (subst (λ (l : List Letter). machines.Standing g.G.Register g.O.Owners g.S.Store g.E.Engine old.machines l (g.R.Rack.state c.args.rack.now) tree) (sym none) standing) fails);
+          subst (λ (l : List Letter). machines.StandsBehind g.G.Register g.O.Owners g.S.Store g.E.Engine course [] c.restart.new.self l (g.R.Rack.state c.restart.new.rack) tree) none
+          (said.failed (letters_in old.post) tree course tells
+          (subst (λ (l : List Letter). machines.StandsBy g.G.Register g.O.Owners g.S.Store g.E.Engine course old.machines l (g.R.Rack.state c.args.rack.now) tree) (sym none) standing) fails);
     })
 
 pub returns-in-Err-Disk-clause-ready : goal.returns-in-Err-Disk-clause-ready

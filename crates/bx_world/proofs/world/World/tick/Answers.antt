@@ -57,10 +57,10 @@ returns-clause-went g c =
     let answers = at_ok _ c.hear-heard.result items said.answers is in
     inl (says_then g.G.Register g.O.Owners g.S.Store g.E.Engine old new heard same c.args.at old.post items.items _ outcome ends (Some c.args.reading) (g.R.Rack.tells c.args.rack.now) x y c.new-out.result
     (said_by (Some c.args.reading) c.args.at old.machines.nodes.machines.items heard.nodes.machines.items items.items _ _ _ (ready.machines.are_ready.there c.args.at c.requires.up) ready.desks answers)
-    refl c.new-out.ensures answers said.same.3 said.same.4 (λ tells tree standing. at_ok _ c.hear-heard.result items (said.stands (letters_in old.post) tree tells tt standing) is)))
+    refl c.new-out.ensures answers said.same.3 said.same.4 (λ tells tree course standing. at_ok _ c.hear-heard.result items (said.stands (letters_in old.post) tree course tells tt standing) is)))
     (λ fails outcome ends.
     inr (stops_then g.G.Register g.O.Owners g.S.Store g.E.Engine old new heard same c.args.at old.post outcome ends (g.R.Rack.tells c.args.rack.now) x y c.new-out.result refl c.new-out.ensures (said.empties fails) said.same.3 said.same.4
-    (λ tells tree standing. said.stopped (letters_in old.post) tree tells tt standing fails)))
+    (λ tells tree course standing. said.stopped (letters_in old.post) tree course tells tt standing fails)))
 
 pub returns-clause-led : goal.returns-clause-led
 returns-clause-led g c = λ first parts tells led.

@@ -98,7 +98,7 @@ returns-clause-led g c = λ first parts tells led.
     (returns-clause-ready g c x.sizes c.requires.ready)
 
 pub returns-clause-any_moment : goal.returns-clause-any_moment
-returns-clause-any_moment g c = λ first parts tells led doubted.
+returns-clause-any_moment g c = λ first parts tells led.
     let old = c.args.self.now in
     let x = g.R.Rack.state c.args.rack.now in
     let packet = c.in-Some.packet.now in
@@ -121,5 +121,5 @@ returns-clause-any_moment g c = λ first parts tells led doubted.
       stores_lose = g.met.S.Store.loses;
     } in
     let standing = with_box g.G.Register g.O.Owners g.S.Store g.E.Engine old.machines (letters_in old.post) c.new-out.result x led.tree c.new-out.ensures led.stands in
-    left_shown g.G.Register g.O.Owners g.S.Store g.E.Engine laws old x first parts led doubted (g.R.Rack.moment c.args.rack.now) (g.R.Rack.moment c.hear-heard.new.rack) (g.R.Rack.left_since c.args.rack.now) (g.R.Rack.left_since c.hear-heard.new.rack)
+    left_shown g.G.Register g.O.Owners g.S.Store g.E.Engine laws old x first parts led (g.R.Rack.moment c.args.rack.now) (g.R.Rack.moment c.hear-heard.new.rack) (g.R.Rack.left_since c.args.rack.now) (g.R.Rack.left_since c.hear-heard.new.rack)
     (c.hear-heard.ensures.any_moment (letters_in old.post) led.tree tells coming standing)

@@ -118,7 +118,7 @@ returns-in-Err-Disk-clause-led g c = λ first parts tells may_start led.
     (λ node call is. c.requires.ready.machines.are_ready.quiet node call (subst (λ (who : Actor). is_up old.machines.up.items who ≡ false) is c.requires.down)) may_start (returns-in-Err-Disk-clause-restarts g c)
 
 pub returns-in-Ok-clause-any_moment : goal.returns-in-Ok-clause-any_moment
-returns-in-Ok-clause-any_moment g c = λ first parts tells led doubted.
+returns-in-Ok-clause-any_moment g c = λ first parts tells led.
     let old = c.args.self.now in
     let x = g.R.Rack.state c.args.rack.now in
     let laws : HandedLaws g.G.Register g.O.Owners g.S.Store = record {
@@ -138,11 +138,11 @@ returns-in-Ok-clause-any_moment g c = λ first parts tells led doubted.
       stores_lose = g.met.S.Store.loses;
     } in
     let standing = with_box g.G.Register g.O.Owners g.S.Store g.E.Engine old.machines (letters_in old.post) c.new-out.result x led.tree c.new-out.ensures led.stands in
-    left_shown g.G.Register g.O.Owners g.S.Store g.E.Engine laws old x first parts led doubted (g.R.Rack.moment c.args.rack.now) (g.R.Rack.moment c.restart.new.rack) (g.R.Rack.left_since c.args.rack.now) (g.R.Rack.left_since c.restart.new.rack)
+    left_shown g.G.Register g.O.Owners g.S.Store g.E.Engine laws old x first parts led (g.R.Rack.moment c.args.rack.now) (g.R.Rack.moment c.restart.new.rack) (g.R.Rack.left_since c.args.rack.now) (g.R.Rack.left_since c.restart.new.rack)
     (c.restart.ensures.any_moment (letters_in old.post) led.tree tells standing)
 
 pub returns-in_err-send-in-Ok-clause-any_moment : goal.returns-in_err-send-in-Ok-clause-any_moment
-returns-in_err-send-in-Ok-clause-any_moment g c = λ first parts tells led doubted.
+returns-in_err-send-in-Ok-clause-any_moment g c = λ first parts tells led.
     let old = c.args.self.now in
     let x = g.R.Rack.state c.args.rack.now in
     let laws : HandedLaws g.G.Register g.O.Owners g.S.Store = record {
@@ -162,11 +162,11 @@ returns-in_err-send-in-Ok-clause-any_moment g c = λ first parts tells led doubt
       stores_lose = g.met.S.Store.loses;
     } in
     let standing = with_box g.G.Register g.O.Owners g.S.Store g.E.Engine old.machines (letters_in old.post) c.new-out.result x led.tree c.new-out.ensures led.stands in
-    left_shown g.G.Register g.O.Owners g.S.Store g.E.Engine laws old x first parts led doubted (g.R.Rack.moment c.args.rack.now) (g.R.Rack.moment c.restart.new.rack) (g.R.Rack.left_since c.args.rack.now) (g.R.Rack.left_since c.restart.new.rack)
+    left_shown g.G.Register g.O.Owners g.S.Store g.E.Engine laws old x first parts led (g.R.Rack.moment c.args.rack.now) (g.R.Rack.moment c.restart.new.rack) (g.R.Rack.left_since c.args.rack.now) (g.R.Rack.left_since c.restart.new.rack)
     (c.restart.ensures.any_moment (letters_in old.post) led.tree tells standing)
 
 pub returns-in-Err-Disk-clause-any_moment : goal.returns-in-Err-Disk-clause-any_moment
-returns-in-Err-Disk-clause-any_moment g c = λ first parts tells led doubted.
+returns-in-Err-Disk-clause-any_moment g c = λ first parts tells led.
     let old = c.args.self.now in
     let x = g.R.Rack.state c.args.rack.now in
     let laws : HandedLaws g.G.Register g.O.Owners g.S.Store = record {
@@ -186,11 +186,11 @@ returns-in-Err-Disk-clause-any_moment g c = λ first parts tells led doubted.
       stores_lose = g.met.S.Store.loses;
     } in
     let standing = with_box g.G.Register g.O.Owners g.S.Store g.E.Engine old.machines (letters_in old.post) c.new-out.result x led.tree c.new-out.ensures led.stands in
-    left_shown g.G.Register g.O.Owners g.S.Store g.E.Engine laws old x first parts led doubted (g.R.Rack.moment c.args.rack.now) (g.R.Rack.moment c.restart.new.rack) (g.R.Rack.left_since c.args.rack.now) (g.R.Rack.left_since c.restart.new.rack)
+    left_shown g.G.Register g.O.Owners g.S.Store g.E.Engine laws old x first parts led (g.R.Rack.moment c.args.rack.now) (g.R.Rack.moment c.restart.new.rack) (g.R.Rack.left_since c.args.rack.now) (g.R.Rack.left_since c.restart.new.rack)
     (c.restart.ensures.any_moment (letters_in old.post) led.tree tells standing)
 
 pub returns-clause-any_moment : goal.returns-clause-any_moment
-returns-clause-any_moment g c = λ first parts tells led doubted.
+returns-clause-any_moment g c = λ first parts tells led.
     let old = c.args.self.now in
     let x = g.R.Rack.state c.args.rack.now in
     let laws : HandedLaws g.G.Register g.O.Owners g.S.Store = record {
@@ -210,5 +210,5 @@ returns-clause-any_moment g c = λ first parts tells led doubted.
       stores_lose = g.met.S.Store.loses;
     } in
     let standing = with_box g.G.Register g.O.Owners g.S.Store g.E.Engine old.machines (letters_in old.post) c.new-out.result x led.tree c.new-out.ensures led.stands in
-    left_shown g.G.Register g.O.Owners g.S.Store g.E.Engine laws old x first parts led doubted (g.R.Rack.moment c.args.rack.now) (g.R.Rack.moment c.restart.new.rack) (g.R.Rack.left_since c.args.rack.now) (g.R.Rack.left_since c.restart.new.rack)
+    left_shown g.G.Register g.O.Owners g.S.Store g.E.Engine laws old x first parts led (g.R.Rack.moment c.args.rack.now) (g.R.Rack.moment c.restart.new.rack) (g.R.Rack.left_since c.args.rack.now) (g.R.Rack.left_since c.restart.new.rack)
     (c.restart.ensures.any_moment (letters_in old.post) led.tree tells standing)

@@ -1,4 +1,4 @@
-use Rattle.std.proofs.Common.{◌++◌, subst}
+use Rattle.std.proofs.Common.{◌≡◌, ◌++◌, subst}
 use Rattle.bx_node_tries.specs.Tries.{IsAnswerTo}
 use Rattle.bx_world_machines.specs.Answering.Called.{AtOnce}
 use Rattle.bx_world_machines.specs.Doubts.{AreInDoubt}
@@ -25,3 +25,9 @@ pub returns-in_ok-insert-in-Ok-Answered-clause-answers : goal.returns-in_ok-inse
 returns-in_ok-insert-in-Ok-Answered-clause-answers g c =
     AtOnce c.in-Ok-Answered.one c.in_ok-said-in-Ok-Answered.said.items c.in_ok-insert-in-Ok-Answered.ensures.items (rw c.in-Ok-Answered.field-0-is at c.in-Ok-Answered.ensures.tried)
     (rw c.in-Ok-Answered.ensures.same at c.in_ok-said-in-Ok-Answered.ensures.answers)
+
+pub returns-in-Ok-Waits-clause-stands : goal.returns-in-Ok-Waits-clause-stands
+returns-in-Ok-Waits-clause-stands g c = λ letters x tree course standing.
+    let stays : (⊥ → ⊥) → c.answer_at_once.new.self ≡ c.args.self.now = rw c.in-Ok-Waits.field-0-is at c.in-Ok-Waits.ensures.waits in
+    let same = stays (λ none. none) in
+    rw same at (c.take.ensures.stands letters x tree course (rw same standing))

@@ -12,10 +12,10 @@ use std::alloc::Global;
 
 impl<G: Register, O: Owners, S: Store, E: Engine<Tree = Tree>> Cluster for World<G, O, S, E> {
     ghost use Rattle.bx_cluster.specs.Runs.{StepOf};
-    ghost use Rattle.bx_world.specs.Laws.{accounts, all_shown, blanks, crashes, has_disks};
-    ghost use Rattle.bx_world.specs.Led.{LedFrom};
+    ghost use Rattle.bx_world.specs.Laws as laws;
     ghost use Rattle.bx_world.specs.Room.{HasRoom};
     ghost use Rattle.bx_world.specs.Shown as shown_trees;
+    ghost use Rattle.bx_world.specs.Trees as trees;
 
     ghost events = { λ world. world.events };
 
@@ -25,7 +25,7 @@ impl<G: Register, O: Owners, S: Store, E: Engine<Tree = Tree>> Cluster for World
 
     ghost at_once = { λ world bytes. E.at_once world.machines.nodes.engine bytes };
 
-    ghost led = { λ world x tree parts. LedFrom G.Register O.Owners S.Store E.Engine world x tree parts };
+    ghost led = { λ world x tree parts. trees.LedFrom G.Register O.Owners S.Store E.Engine world x tree parts };
 
     ghost shown = { λ world sizes image tree parts. shown_trees.Shown G.Register O.Owners S.Store E.Engine world sizes image tree parts };
 
@@ -60,4 +60,14 @@ impl<G: Register, O: Owners, S: Store, E: Engine<Tree = Tree>> Cluster for World
     fn forget(&mut self) {
         World::forget(self);
     }
+
+    ghost disks = { λ world sizes who disk room there is. laws.has_disks G.Register O.Owners S.Store E.Engine world sizes who disk room there is };
+
+    ghost accounts = { λ world x tree parts led. trees.accounts G.Register O.Owners S.Store E.Engine world x tree parts led };
+
+    ghost shows = { λ world x tree parts image led is. laws.all_shown G.Register O.Owners S.Store E.Engine (record { allowed = G.allowed; legal = G.legal; places = G.places; registers_elsewhere = G.elsewhere; registers_lose = G.loses; lives = O.lives; apart = λ one past keeps. record { each = λ session other block hold other_hold has has_other ne is is_other. O.apart one past session other block hold other_hold keeps has has_other ne is is_other }; alone = O.alone; owners_grow = O.grows; owners_lose = O.loses; own_out = S.own_out; stores_grow = S.grows; stores_elsewhere = S.elsewhere; stores_lose = S.loses }) (record { reads_next = G.reads_next; settles = S.settles; settled_is = S.settled_is; labelled = S.labelled }) world x tree parts led.led image is };
+
+    ghost crashes = { λ world x y tree parts who disk led there down is sizes crash. record { led = laws.crashes G.Register O.Owners S.Store E.Engine (record { allowed = G.allowed; legal = G.legal; places = G.places; registers_elsewhere = G.elsewhere; registers_lose = G.loses; lives = O.lives; apart = λ one past keeps. record { each = λ session other block hold other_hold has has_other ne is is_other. O.apart one past session other block hold other_hold keeps has has_other ne is is_other }; alone = O.alone; owners_grow = O.grows; owners_lose = O.loses; own_out = S.own_out; stores_grow = S.grows; stores_elsewhere = S.elsewhere; stores_lose = S.loses }) (record { registers_survive = G.survives; stores_survive = S.survives; stores_replaced = S.replaced }) world x tree parts led.led y who disk there down is sizes crash; volume = led.volume; areas = led.areas } };
+
+    ghost blanks = { λ world x tree parts who disk led allowed is. record { led = laws.blanks G.Register O.Owners S.Store E.Engine (record { allowed = G.allowed; legal = G.legal; places = G.places; registers_elsewhere = G.elsewhere; registers_lose = G.loses; lives = O.lives; apart = λ one past keeps. record { each = λ session other block hold other_hold has has_other ne is is_other. O.apart one past session other block hold other_hold keeps has has_other ne is is_other }; alone = O.alone; owners_grow = O.grows; owners_lose = O.loses; own_out = S.own_out; stores_grow = S.grows; stores_elsewhere = S.elsewhere; stores_lose = S.loses }) (record { registers_survive = G.survives; stores_survive = S.survives; stores_replaced = S.replaced }) world x tree parts led.led who disk allowed is; volume = led.volume; areas = led.areas } };
 }

@@ -3,7 +3,6 @@ use Rattle.std.proofs.Common.{◌≡◌, ◌∙◌, ℕ, Option, Some, refl, sym
 use Rattle.bx_facts.specs.Chains.{Chain, last}
 use Rattle.bx_node_events.specs.Works.{KeepsWorks, LeavesWorks}
 use Rattle.bx_rows.specs.Words.{row_in}
-use Rattle.bx_rows.specs.declared.session.SessionRow.{SessionRow}
 use Rattle.bx_world_logs.specs.Logs.{Slot}
 use Rattle.bx_world_standing.specs.Standing.{Course}
 use Rattle.bx_world_views.specs.Views.{Doubt}

@@ -1,5 +1,5 @@
 -- Which calls may act yet, from one step of a node to the next.
-use Rattle.std.proofs.Common.{◌≡◌, ◌⊎◌, ◌∙◌, ⊎_elim, inl, inr, ℕ, Bool, false, true, List, [], ◌++◌, Contains, Option, Some, None, refl, sym, ap, subst}
+use Rattle.std.proofs.Common.{◌≡◌, ◌⊎◌, ◌∙◌, ⊎_elim, inl, inr, ℕ, Bool, false, true, List, [], ◌++◌, Some, None, sym, ap, subst}
 use Rattle.std.proofs.lemmas.List.Elements.{Contains-append_cases}
 use Rattle.bx_facts.proofs.Lists.{nothing}
 use Rattle.bx_node_steps.specs.Calls.{ActsOn, IsAnswered, IsOpening, IsToAct, IsWritten, MayAct, call_written, is_opening}

@@ -13,7 +13,6 @@ use Rattle.bx_places.specs.Places.{log_device}
 use Rattle.bx_redo.specs.Steps.{closed_log}
 use Rattle.bx_redo.specs.View.{LogView}
 use Rattle.bx_redo.specs.declared.work.Work.{Work}
-use Rattle.bx_redo.specs.declared.work.Work.TheVariants as works
 use Rattle.bx_rows.specs.declared.session.SessionRow.{SessionRow}
 
 -- the log with which a session begins, by its row; without one, that of slot 0

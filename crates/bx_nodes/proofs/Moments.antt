@@ -1,5 +1,5 @@
 -- What images show that a crash may leave while a machine is handed an input or starts again, by the clauses of register and store on the moments of their calls: what the course has.
-use Rattle.std.proofs.Common.{◌≡◌, ◌≢◌, inl, inr, ◌∙◌, ℕ, ◌+◌, ◌<◌, ◌≤◌, true, false, List, ◌++◌, Contains, refl, sym, subst, arith}
+use Rattle.std.proofs.Common.{◌≡◌, inl, inr, ◌∙◌, ℕ, ◌+◌, ◌<◌, ◌≤◌, true, false, List, ◌++◌, Contains, refl, sym, subst, arith}
 use Rattle.std.specs.Prelude.{slice_index}
 use Rattle.bx_base.specs.declared.names.Actor.{Actor}
 use Rattle.bx_base.specs.declared.names.Actor.TheVariants.{Node}
@@ -7,7 +7,6 @@ use Rattle.bx_calls.specs.Calls.{LeavesOnly}
 use Rattle.bx_calls.specs.Laws.{leaves_implies}
 use Rattle.bx_disk.specs.Disks.{Disks, Image, IsImage}
 use Rattle.bx_facts.specs.declared.input.Input.{Input}
-use Rattle.bx_facts.specs.declared.input.Input.TheVariants.{Packet, Synced, Tick}
 use Rattle.bx_facts.specs.declared.owners.Owners as owners
 use Rattle.bx_facts.specs.declared.register.Register as register
 use Rattle.bx_facts.specs.declared.store.Store as store
@@ -38,11 +37,11 @@ use Rattle.bx_world_standing.specs.Closings.{ClosingStands}
 use Rattle.bx_world_standing.specs.Labels.{LabelsStand}
 use Rattle.bx_world_standing.specs.Parts.{Clocks}
 use Rattle.bx_world_standing.specs.Rights.{IsWithin, Surely}
-use Rattle.bx_world_standing.specs.Standing.{Course, Known, StandsAt, SureOf}
+use Rattle.bx_world_standing.specs.Standing.{Course, Known, StandsAt}
 use Rattle.bx_world_standing.proofs.Owns.{of_before}
 use Rattle.bx_world_stays.proofs.Labels.{labels_keep, same_labels}
 use Rattle.bx_world_stays.proofs.Stays.{only_stays}
-use Rattle.bx_world_volumes.specs.Left.{IsOf, MayShow, Shows, StandsIn, all_sure}
+use Rattle.bx_world_volumes.specs.Left.{MayShow, StandsIn, all_sure}
 use Rattle.bx_world_volumes.proofs.Left.{HasLogs, next_read, registers_leave, stores_leave}
 use Rattle.bx_world_volumes.proofs.Volumes.{AreStoreLaws}
 

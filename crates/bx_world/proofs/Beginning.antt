@@ -5,6 +5,15 @@ use Rattle.bx_base.specs.declared.names.Point.{Point}
 use Rattle.bx_desk.specs.Desks.{AtDesk, empty_desk}
 use Rattle.bx_desk.specs.Nodes.{IsDeskOf}
 use Rattle.bx_desk.proofs.Going.{desk_opened}
+use Rattle.bx_disk.specs.Disks.{Disks}
+use Rattle.bx_facts.specs.declared.owners.Owners as owners
+use Rattle.bx_facts.specs.declared.register.Register as register
+use Rattle.bx_facts.specs.declared.store.Store as store
+use Rattle.bx_post.specs.declared.packets.Letter.{Letter}
+use Rattle.bx_views.specs.declared.engine.Engine as engine
+use Rattle.bx_world_machines.specs.Standing as machines
+use Rattle.bx_world_machines.specs.declared.machines.Machines.{Machines}
+use Rattle.bx_world_standing.specs.Standing.{Course}
 use Rattle.bx_history.specs.Account.{AwaitsNewest}
 use Rattle.bx_history.specs.Parts.{waiting}
 use Rattle.bx_history.specs.Trace.{Entry}
@@ -80,3 +89,8 @@ doubted_none rows slots doubts none = record {
   each = λ session doubt deed is. absurd (let wrong : None ≡ Some doubt = sym (none session) ∙ is.is in cc);
   once = λ session other doubt twin deed act is also same. absurd (let wrong : None ≡ Some doubt = sym (none session) ∙ is.is in cc);
 }
+
+-- with no letters under way
+pub stands_first : {G O S E T : Type 0} (g : register.Ghosts G) (o : owners.Ghosts O) (st : store.Ghosts S) (e : engine.Ghosts E T) (machines_are : Machines G O S E T) (letters : List Letter) (x : Disks) (tree : T) (course : Course) → letters ≡ []
+    → machines.StandsBy g o st e course machines_are [] x tree → machines.StandsBy g o st e course machines_are letters x tree
+stands_first g o st e machines_are letters x tree course none standing = subst (λ (l : List Letter). machines.StandsBy g o st e course machines_are l x tree) (sym none) standing

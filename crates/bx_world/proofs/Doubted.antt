@@ -6,9 +6,9 @@ use Rattle.std.proofs.lemmas.Bool.Decides.{nat_tests}
 use Rattle.bx_cluster.specs.Closing.{lacks_point}
 use Rattle.bx_facts.specs.Chains.{last}
 use Rattle.bx_facts.proofs.Lists.{nothing}
-use Rattle.bx_history.specs.Account.{IsPending, LacksPoint}
+use Rattle.bx_history.specs.Account.{AwaitsNewest, IsPending, LacksPoint}
 use Rattle.bx_history.specs.Parts.{Part, trace_of, waiting}
-use Rattle.bx_history.specs.Placed.{HasReadingSince, Repeat}
+use Rattle.bx_history.specs.Placed.{HasReadingSince, Repeat, Rules}
 use Rattle.bx_history.specs.Trace.{Entry, FitsNewest, IsIn, Taking, has_point, taken_count, taking_of}
 use Rattle.bx_history.proofs.OnePart.{lines_with, took_lines}
 use Rattle.bx_history.proofs.Serving.{Served, is_among, served_pointed}
@@ -41,12 +41,12 @@ use Rattle.bx_world_standing.specs.bx_world_views.specs.Views.{Doubt}
 -- a call that isn't taken in the first lines is taken as by the others
 taken_behind : (lines older : List TraceLine) (number : ℕ) → is_some (taking_of lines number) ≡ false → taking_of (lines ++ older) number ≡ taking_of older number
 taken_behind [] older number lacks = refl
-taken_behind (Took call node client bytes ∷ lines) older number lacks = by (eqb call number) refl lacks
+taken_behind (Took call node client bytes ∷ lines) older number lacks = by (eqb call number) refl lacks (λ none. taken_behind lines older number none)
   where
     by : (b : Bool) → eqb call number ≡ b → is_some (if b then Some (record { call = call; node = node; client = client; bytes = bytes }) else taking_of lines number) ≡ false
-        → taking_of (Took call node client bytes ∷ (lines ++ older)) number ≡ taking_of older number
-    by true same none = absurd cc
-    by false differ none = ap (λ (t : Bool). if t then Some (record { call = call; node = node; client = client; bytes = bytes }) else taking_of (lines ++ older) number) differ ∙ taken_behind lines older number none
+        → (is_some (taking_of lines number) ≡ false → taking_of (lines ++ older) number ≡ taking_of older number) → taking_of (Took call node client bytes ∷ (lines ++ older)) number ≡ taking_of older number
+    by true same none rest = absurd cc
+    by false differ none rest = ap (λ (t : Bool). if t then Some (record { call = call; node = node; client = client; bytes = bytes }) else taking_of (lines ++ older) number) differ ∙ rest none
 taken_behind (Acted point ∷ lines) older number lacks = taken_behind lines older number lacks
 taken_behind (Reply call reply ∷ lines) older number lacks = taken_behind lines older number lacks
 taken_behind (Again node client reply ∷ lines) older number lacks = taken_behind lines older number lacks
@@ -82,7 +82,7 @@ lines_pointed taken all again number = by again
     by (Some one) = served
 
 -- no call has number 0
-pub none_first : (kept : ℕ) (trace : List TraceLine) (history : List Entry) → FitsNewest kept trace history → taking_of trace 0 ≡ None
+none_first : (kept : ℕ) (trace : List TraceLine) (history : List Entry) → FitsNewest kept trace history → taking_of trace 0 ≡ None
 none_first kept [] history fits = refl
 none_first kept (Took call node client bytes ∷ older) history fits =
     let differ : eqb call 0 ≡ false = (let n = fits.0 in grind (arith, nat_tests, n)) in
@@ -91,6 +91,9 @@ none_first kept (Acted point ∷ older) [] fits = absurd fits
 none_first kept (Acted point ∷ older) (entry ∷ earlier) fits = none_first kept older earlier fits.1
 none_first kept (Reply call reply ∷ older) history fits = none_first kept older history fits.1
 none_first kept (Again node client reply ∷ older) history fits = none_first kept older history fits.1
+
+pub none_in : {Tree : Type 0} (Step : Tree → Entry → Tree → Type 0) (rules : Rules) (first : Tree) (parts : List Part) (history : List Entry) (last : Tree) (waits : ℕ → List Taking) → AwaitsNewest Step rules first parts history last waits → taking_of (trace_of parts) 0 ≡ None
+none_in Step rules first parts history last waits accounts = none_first rules.kept (trace_of parts) history accounts.fits
 
 -- what is said of each is said of one of them
 each_in : {X : Type 0} (P : X → Type 0) (x : X) (l : List X) → IsIn x l → AllByRecursion P l → P x

@@ -34,7 +34,7 @@ use Rattle.bx_world.specs.Led.{AreDesks, AreLeft, Led}
 use Rattle.bx_world.specs.Outcomes.{IsBy, desks_said, nothing, outcome_said}
 use Rattle.bx_world.specs.World.{IsReady, StandsBehind}
 use Rattle.bx_world.specs.declared.world.World.{World}
-use Rattle.bx_world.proofs.Doubted.{IsPartOf, doubted_led, lines_pointed, logged_led, none_first}
+use Rattle.bx_world.proofs.Doubted.{IsPartOf, doubted_led, lines_pointed, logged_led, none_in}
 use Rattle.bx_world.proofs.Leads.{AnswersAt, Comes, accounts_then, answers_at_node, answers_none, counted_then, desks_then, left_then}
 use Rattle.bx_world.proofs.Restarting.{part_told, stops_led}
 use Rattle.bx_world.proofs.Saying.{among_answered, answered_among, lines_told, served_back}
@@ -91,9 +91,9 @@ module _ {G O S E T : Type 0} (g : register.Ghosts G) (o : owners.Ghosts O) (st 
             (accounts_now rounded.next rounded.leads);
         stands = rounded.stands.stands;
         doubted = doubted_led g o st e old new x y first rounded.next parts led (part_with (going arrives reading false) taken (served_back node said) again) said is_part rounded.stands
-            (accounts_now rounded.next rounded.leads).pending (none_first _ _ _ (accounts_now rounded.next rounded.leads).fits) left_now;
+            (accounts_now rounded.next rounded.leads).pending (none_in _ _ _ _ _ _ _ (accounts_now rounded.next rounded.leads)) left_now;
         logged = logged_led g o st e old new x y first rounded.next parts led (part_with (going arrives reading false) taken (served_back node said) again) said is_part rounded.stands
-            (accounts_now rounded.next rounded.leads).pending (none_first _ _ _ (accounts_now rounded.next rounded.leads).fits) left_now;
+            (accounts_now rounded.next rounded.leads).pending (none_in _ _ _ _ _ _ _ (accounts_now rounded.next rounded.leads)) left_now;
         counted = latest ∙ sym (counted_then (e.step old.machines.nodes.engine) (e.at_once old.machines.nodes.engine) first parts led.history led.tree led.accounts arrives reading taken again node Waited written new.machines.nodes.machines.items said comes answers);
         desks = desks;
         left = left_now;

@@ -27,7 +27,7 @@ use Rattle.bx_world.specs.Led.{AreDesks, AreLeft, Led}
 use Rattle.bx_world.specs.Starting.{MayStartNext, Restarts, Starts}
 use Rattle.bx_world.specs.World.{StandsBehind}
 use Rattle.bx_world.specs.declared.world.World.{World}
-use Rattle.bx_world.proofs.Doubted.{doubted_led, logged_led, none_first, part_quiet}
+use Rattle.bx_world.proofs.Doubted.{doubted_led, logged_led, none_in, part_quiet}
 use Rattle.bx_world.proofs.Leading.{desk_on, desks_ended, ending, left_ended, left_started}
 use Rattle.bx_world.proofs.Leads.{patient}
 
@@ -52,8 +52,8 @@ module _ {G O S E T : Type 0} (g : register.Ghosts G) (o : owners.Ghosts O) (st 
     history = led.history;
     accounts = ended ends stops.engine;
     stands = behind.stands;
-    doubted = doubted_led g o st e old new x y first led.tree parts led (ending reading ends) [] (part_quiet old.machines.latest (ending reading ends) refl) behind (ended ends stops.engine).pending (none_first _ _ _ (ended ends stops.engine).fits) left;
-    logged = logged_led g o st e old new x y first led.tree parts led (ending reading ends) [] (part_quiet old.machines.latest (ending reading ends) refl) behind (ended ends stops.engine).pending (none_first _ _ _ (ended ends stops.engine).fits) left;
+    doubted = doubted_led g o st e old new x y first led.tree parts led (ending reading ends) [] (part_quiet old.machines.latest (ending reading ends) refl) behind (ended ends stops.engine).pending (none_in _ _ _ _ _ _ _ (ended ends stops.engine)) left;
+    logged = logged_led g o st e old new x y first led.tree parts led (ending reading ends) [] (part_quiet old.machines.latest (ending reading ends) refl) behind (ended ends stops.engine).pending (none_in _ _ _ _ _ _ _ (ended ends stops.engine)) left;
     counted = stops.latest ∙ led.counted;
     desks = subst (λ (l : List AtDesk). AreDesks l (ending reading ends ∷ parts)) (sym stops.desks) (desks_ended at old.desks.items parts reading ends (λ node. is_so (ends_one at node)) led.desks);
     left = left;
@@ -80,8 +80,8 @@ module _ {G O S E T : Type 0} (g : register.Ghosts G) (o : owners.Ghosts O) (st 
       history = led.history;
       accounts = ended none_ends starts.engine;
       stands = behind.stands;
-      doubted = doubted_led g o st e old new x y first led.tree parts led (ending reading none_ends) [] (part_quiet old.machines.latest (ending reading none_ends) refl) behind (ended none_ends starts.engine).pending (none_first _ _ _ (ended none_ends starts.engine).fits) left;
-      logged = logged_led g o st e old new x y first led.tree parts led (ending reading none_ends) [] (part_quiet old.machines.latest (ending reading none_ends) refl) behind (ended none_ends starts.engine).pending (none_first _ _ _ (ended none_ends starts.engine).fits) left;
+      doubted = doubted_led g o st e old new x y first led.tree parts led (ending reading none_ends) [] (part_quiet old.machines.latest (ending reading none_ends) refl) behind (ended none_ends starts.engine).pending (none_in _ _ _ _ _ _ _ (ended none_ends starts.engine)) left;
+      logged = logged_led g o st e old new x y first led.tree parts led (ending reading none_ends) [] (part_quiet old.machines.latest (ending reading none_ends) refl) behind (ended none_ends starts.engine).pending (none_in _ _ _ _ _ _ _ (ended none_ends starts.engine)) left;
       counted = starts.latest ∙ led.counted;
       desks = subst (λ (l : List AtDesk). AreDesks l (ending reading none_ends ∷ parts)) (sym starts.desks) (λ node desk there. desk_on parts reading none_ends node desk refl (led.desks node desk there));
       left = left;

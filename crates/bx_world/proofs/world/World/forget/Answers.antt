@@ -2,7 +2,7 @@ use Rattle.std.proofs.Common.{[], refl, sym, ap, subst, filter}
 use Rattle.bx_nodes.specs.bx_node_events.proofs.Registered.{HandedLaws}
 use Rattle.bx_post.specs.Posts.{is_waiting}
 use Rattle.bx_world.specs.World.{letters_in}
-use Rattle.bx_world.proofs.Doubted.{doubted_same, logged_same, none_first}
+use Rattle.bx_world.proofs.Doubted.{doubted_same, logged_same, none_in}
 use Rattle.bx_world_standing.specs.Standing.{Course}
 use Rattle.bx_world.proofs.Letters.{letters_fewer, stands_fewer}
 use Rattle.bx_world_machines.specs.Standing as machines
@@ -38,7 +38,7 @@ returns-clause-led g c = λ x first parts led. let behind = returns-clause-stand
   accounts = led.accounts;
   stands = behind.stands;
   doubted = doubted_same parts c.args.self.now.machines.nodes.machines.items led.stands.course behind.stands.course behind.goes led.left led.accounts.pending behind.stands.doubts.once led.doubted;
-  logged = logged_same parts c.args.self.now.machines.nodes.machines.items led.stands.course behind.stands.course behind.goes (none_first _ _ _ led.accounts.fits) led.logged;
+  logged = logged_same parts c.args.self.now.machines.nodes.machines.items led.stands.course behind.stands.course behind.goes (none_in _ _ _ _ _ _ _ led.accounts) led.logged;
   counted = led.counted;
   desks = led.desks;
   left = led.left;

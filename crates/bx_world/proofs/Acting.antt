@@ -1,5 +1,5 @@
 -- An event that isn't refused may be done; and what comes of one by which nothing of the world changes.
-use Rattle.std.proofs.Common.{◌≡◌, ◌∙◌, ◌≤◌, ◌+◌, inl, inr, ℕ, Bool, true, false, List, [], ◌∷◌, Option, None, Some, IsSomeAnd, refl, sym, ap, subst, arith}
+use Rattle.std.proofs.Common.{◌≡◌, ◌∙◌, ◌≤◌, ◌+◌, inl, inr, ℕ, Bool, true, false, List, [], ◌∷◌, Option, None, Some, IsSomeAnd, IfOk, Result, Ok, Err, refl, sym, ap, subst, arith}
 use Rattle.std.specs.Prelude.{not}
 use Rattle.std.proofs.lemmas.List.{append-nil}
 use Rattle.bx_base.specs.declared.names.Actor.{Actor}
@@ -27,7 +27,7 @@ use Rattle.bx_world.specs.Room.{LetRestart}
 use Rattle.bx_world.specs.Starting.{MayStartNext}
 use Rattle.bx_world.specs.World.{seen}
 use Rattle.bx_world.specs.declared.world.World.{World}
-use Rattle.bx_world.proofs.Doubted.{behind_by, doubted_led, logged_led, none_first, part_quiet}
+use Rattle.bx_world.proofs.Doubted.{behind_by, doubted_led, logged_led, none_in, part_quiet}
 use Rattle.bx_world.proofs.Leading.{desk_on, ending}
 use Rattle.bx_world.proofs.Leads.{patient}
 use Rattle.bx_world_events.specs.Causes.{IsThere}
@@ -109,8 +109,8 @@ module _ {G O S E T : Type 0} (g : register.Ghosts G) (o : owners.Ghosts O) (st 
         history = led.history;
         accounts = accounts;
         stands = behind.stands;
-        doubted = doubted_led g o st e world world x x first led.tree parts led part [] quiet behind accounts.pending (none_first _ _ _ accounts.fits) left_still;
-        logged = logged_led g o st e world world x x first led.tree parts led part [] quiet behind accounts.pending (none_first _ _ _ accounts.fits) left_still;
+        doubted = doubted_led g o st e world world x x first led.tree parts led part [] quiet behind accounts.pending (none_in _ _ _ _ _ _ _ accounts) left_still;
+        logged = logged_led g o st e world world x x first led.tree parts led part [] quiet behind accounts.pending (none_in _ _ _ _ _ _ _ accounts) left_still;
         counted = led.counted;
         desks = λ node desk there. desk_on parts None none_ends node desk refl (led.desks node desk there);
         left = left_still;
@@ -139,3 +139,8 @@ call_goes_on g o st e reading node client bytes old new x outcome (inr (inr repe
 -- what a crash leaves where nothing is done
 pub still_leaves : (now : ℕ) (since : ℕ → Image → Type 0) (P : Image → Type 0) → ((image : Image) → since now image → P image) → LeavesOnly now now since since P
 still_leaves now since P each = record { later = omega arith; each = each; nothing_else = λ t image before left. inl left; keeps = λ t image before left. left }
+
+-- what holds of whatever comes of it
+pub each_ok : {A F : Type 0} (P : A → Type 0) (result : Result A F) → ((value : A) → P value) → IfOk result P
+each_ok P (Ok value) each = each value
+each_ok P (Err error) each = tt

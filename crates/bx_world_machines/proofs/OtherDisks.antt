@@ -114,7 +114,7 @@ module _ {G O S E T : Type 0} (g : register.Ghosts G) (o : owners.Ghosts O) (st 
       (λ letter has. has)
 
   -- they stand on other disks
-  pub machines_on : (y : Disks) → StandOn g st machines.nodes.register machines.nodes.store x y its_course → Standing g o st e machines letters y tree
+  abbrev pub machines_on : (y : Disks) → StandOn g st machines.nodes.register machines.nodes.store x y its_course → Standing g o st e machines letters y tree
   machines_on y on = record {
     clocks = standing.clocks;
     course = its_course;

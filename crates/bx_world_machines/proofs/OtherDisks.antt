@@ -109,7 +109,7 @@ module _ {G O S E T : Type 0} (g : register.Ghosts G) (o : owners.Ghosts O) (st 
   abbrev pub its_course : Course
   its_course = lettered standing.course letters
 
-  its_stand : NodesStand g o st (e.stands machines.nodes.engine) (e.step machines.nodes.engine) machines.nodes.register machines.nodes.owners machines.nodes.store x letters standing.clocks (views machines.nodes.machines.items) its_course tree
+  pub its_stand : NodesStand g o st (e.stands machines.nodes.engine) (e.step machines.nodes.engine) machines.nodes.register machines.nodes.owners machines.nodes.store x letters standing.clocks (views machines.nodes.machines.items) its_course tree
   its_stand = lost g o st (e.stands machines.nodes.engine) (e.step machines.nodes.engine) laws machines.nodes.register machines.nodes.owners machines.nodes.store x letters letters standing.clocks (views machines.nodes.machines.items) standing.course tree standing.stands
       (λ letter has. has)
 

@@ -11,3 +11,4 @@ pub mod Saying
 pub mod Leads
 pub mod LedOn
 pub mod LedCalls
+pub mod Acting

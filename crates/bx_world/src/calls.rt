@@ -90,6 +90,7 @@ impl<G: Register, O: Owners, S: Store, E: Engine> World<G, O, S, E> {
         ensures ready { (sizes : List ℕ) → IsReady G.Register O.Owners S.Store E.Engine self.old sizes → OnOk result (IsReady G.Register O.Owners S.Store E.Engine self.new sizes) }
         ensures error { IfErr result (λ error. error ≡ NoMemory) }
         ensures events { OnOk result (self.new.events ≡ self.old.events + 1) }
+        ensures stays { (self.new.machines.boots ≡ self.old.machines.boots) × (S.made self.new.machines.nodes.store ≡ S.made self.old.machines.nodes.store) }
     {
         match hear(alloc, &self.desks[node as usize], client, bytes)? {
             Heard::New(message) => self.take(alloc, reading, node, client, message),
@@ -117,6 +118,7 @@ impl<G: Register, O: Owners, S: Store, E: Engine> World<G, O, S, E> {
         ensures ready { (sizes : List ℕ) → IsReady G.Register O.Owners S.Store E.Engine self.old sizes → OnOk result (IsReady G.Register O.Owners S.Store E.Engine self.new sizes) }
         ensures error { IfErr result (λ error. error ≡ NoMemory) }
         ensures events { OnOk result (self.new.events ≡ self.old.events + 1) }
+        ensures stays { (self.new.machines.boots ≡ self.old.machines.boots) × (S.made self.new.machines.nodes.store ≡ S.made self.old.machines.nodes.store) }
     {
         self.events += 1;
         let number = self.machines.latest() + 1;
@@ -179,6 +181,7 @@ impl<G: Register, O: Owners, S: Store, E: Engine> World<G, O, S, E> {
         ensures ready { (sizes : List ℕ) → IsReady G.Register O.Owners S.Store E.Engine self.old sizes → OnOk result (IsReady G.Register O.Owners S.Store E.Engine self.new sizes) }
         ensures error { IfErr result (λ error. error ≡ NoMemory) }
         ensures events { OnOk result (self.new.events ≡ self.old.events + 1) }
+        ensures stays { (self.new.machines.boots ≡ self.old.machines.boots) × (S.made self.new.machines.nodes.store ≡ S.made self.old.machines.nodes.store) }
     {
         self.events += 1;
         let mut out = Outbox::new(alloc);

@@ -51,6 +51,7 @@ impl<G: Register, O: Owners, S: Store, E: Engine> World<G, O, S, E> {
         ensures stopped { IfOk result (λ outcome. IsSome outcome.stopped → Rose (R.faults rack.old) (R.faults rack.new)) }
         ensures error { IfErr result (λ error. error ≡ NoMemory) }
         ensures events { self.new.events ≡ self.old.events }
+        ensures stays { (self.new.machines.boots ≡ self.old.machines.boots) × (S.made self.new.machines.nodes.store ≡ S.made self.old.machines.nodes.store) }
         ensures later { NoneFalls (R.faults rack.old) (R.faults rack.new) (R.faults_of rack.old) (R.faults_of rack.new) }
         ensures sizes { (R.state rack.new).sizes ≡ (R.state rack.old).sizes }
         ensures keeps_telling { R.tells rack.old → R.tells rack.new }
@@ -80,6 +81,7 @@ impl<G: Register, O: Owners, S: Store, E: Engine> World<G, O, S, E> {
         ensures stopped { IfOk result (λ outcome. IsSome outcome.stopped → Rose (R.faults rack.old) (R.faults rack.new)) }
         ensures error { IfErr result (λ error. error ≡ NoMemory) }
         ensures events { self.new.events ≡ self.old.events }
+        ensures stays { (self.new.machines.boots ≡ self.old.machines.boots) × (S.made self.new.machines.nodes.store ≡ S.made self.old.machines.nodes.store) }
         ensures later { NoneFalls (R.faults rack.old) (R.faults rack.new) (R.faults_of rack.old) (R.faults_of rack.new) }
         ensures sizes { (R.state rack.new).sizes ≡ (R.state rack.old).sizes }
         ensures keeps_telling { R.tells rack.old → R.tells rack.new }
@@ -110,6 +112,7 @@ impl<G: Register, O: Owners, S: Store, E: Engine> World<G, O, S, E> {
         ensures stopped { IfOk result (λ outcome. IsSome outcome.stopped → Rose (R.faults rack.old) (R.faults rack.new)) }
         ensures error { IfErr result (λ error. error ≡ NoMemory) }
         ensures events { self.new.events ≡ self.old.events }
+        ensures stays { (self.new.machines.boots ≡ self.old.machines.boots) × (S.made self.new.machines.nodes.store ≡ S.made self.old.machines.nodes.store) }
         ensures later { NoneFalls (R.faults rack.old) (R.faults rack.new) (R.faults_of rack.old) (R.faults_of rack.new) }
         ensures sizes { (R.state rack.new).sizes ≡ (R.state rack.old).sizes }
         ensures keeps_telling { R.tells rack.old → R.tells rack.new }

@@ -7,6 +7,7 @@ mod events;
 mod packets;
 mod shows;
 mod starts;
+mod steps;
 mod stops;
 mod tells;
 mod world;

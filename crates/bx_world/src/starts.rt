@@ -48,6 +48,7 @@ impl<G: Register, O: Owners, S: Store, E: Engine> World<G, O, S, E> {
             → LeavesOnly (R.moment rack.old) (R.moment rack.new) (R.left_since rack.old) (R.left_since rack.new) (λ image. shown.Shown G.Register O.Owners S.Store E.Engine self.old (R.state rack.old).sizes image first parts) }
         ensures ready { (sizes : List ℕ) → S.is_separate → IsReady G.Register O.Owners S.Store E.Engine self.old sizes → OnOk result (IsReady G.Register O.Owners S.Store E.Engine self.new sizes) }
         ensures boots { self.new.machines.boots ≡ self.old.machines.boots + 1 }
+        ensures made { S.made self.new.machines.nodes.store ≡ S.made self.old.machines.nodes.store }
         ensures stopped { IfOk result (λ outcome. IsSome outcome.stopped → Rose (R.faults rack.old) (R.faults rack.new)) }
         ensures error { IfErr result (λ error. error ≡ NoMemory) }
         ensures events { self.new.events ≡ self.old.events + 1 }

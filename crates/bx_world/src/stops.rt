@@ -27,6 +27,7 @@ impl<G: Register, O: Owners, S: Store, E: Engine> World<G, O, S, E> {
         ensures empties { Empties who self.old.machines.nodes.machines.items self.new.machines.nodes.machines.items }
         ensures desks { self.new.desks.items ≡ desks_without who self.old.desks.items }
         ensures same { (self.new.post ≡ self.old.post) × (self.new.events ≡ self.old.events) × (self.new.machines.latest ≡ self.old.machines.latest) }
+        ensures stays { (self.new.machines.boots ≡ self.old.machines.boots) × (S.made self.new.machines.nodes.store ≡ S.made self.old.machines.nodes.store) }
     {
         self.machines.crash(who);
         clear_at(&mut self.desks, who);

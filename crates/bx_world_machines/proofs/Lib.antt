@@ -1,4 +1,5 @@
 pub mod Acts
+pub mod Allowed
 pub mod AnsweredAtOnce
 pub mod Answering
 pub mod Beginning
@@ -9,6 +10,7 @@ pub mod Emptied
 pub mod Goes
 pub mod Known
 pub mod Nodes
+pub mod OtherDisks
 pub mod Reading
 pub mod Rooms
 pub mod Standing

@@ -42,6 +42,7 @@ impl<G: Register, O: Owners, S: Store, E: Engine> Machines<G, O, S, E> {
         ensures clock { self.new.clock ≡ max self.old.clock reading }
         ensures latest { OnOk result (self.new.latest ≡ call.number) }
         ensures same { (self.new.up ≡ self.old.up) × (self.new.state ≡ self.old.state) × (self.new.boots ≡ self.old.boots) × (self.new.count ≡ self.old.count) × (self.new.devices ≡ self.old.devices) × (self.new.nodes.engine ≡ self.old.nodes.engine) }
+        ensures made { S.made self.new.nodes.store ≡ S.made self.old.nodes.store }
     {
         match self.answer_at_once(call, reading) {
             Ok(AtOnce::Answered(one)) => {
@@ -78,6 +79,7 @@ impl<G: Register, O: Owners, S: Store, E: Engine> Machines<G, O, S, E> {
         ensures clock { self.new.clock ≡ max self.old.clock reading }
         ensures latest { OnOk result (self.new.latest ≡ call.number) }
         ensures same { (self.new.up ≡ self.old.up) × (self.new.state ≡ self.old.state) × (self.new.boots ≡ self.old.boots) × (self.new.count ≡ self.old.count) × (self.new.devices ≡ self.old.devices) × (self.new.nodes.engine ≡ self.old.nodes.engine) }
+        ensures made { S.made self.new.nodes.store ≡ S.made self.old.nodes.store }
     {
         self.read(reading);
         let number = call.number;
@@ -103,6 +105,7 @@ impl<G: Register, O: Owners, S: Store, E: Engine> Machines<G, O, S, E> {
         ensures answers { IfOk result (λ said. Answered (Some reading) (Node node) self.old.nodes.machines.items self.new.nodes.machines.items said.items) }
         ensures clock { self.new.clock ≡ max self.old.clock reading }
         ensures same { (self.new.up ≡ self.old.up) × (self.new.state ≡ self.old.state) × (self.new.boots ≡ self.old.boots) × (self.new.count ≡ self.old.count) × (self.new.devices ≡ self.old.devices) × (self.new.latest ≡ self.old.latest) × (self.new.nodes.engine ≡ self.old.nodes.engine) }
+        ensures made { S.made self.new.nodes.store ≡ S.made self.old.nodes.store }
     {
         self.read(reading);
         turn(&mut self.nodes, node, reading, out)

@@ -63,6 +63,7 @@ impl<G: Register, O: Owners, S: Store, E: Engine> Machines<G, O, S, E> {
         ensures clock { self.new.clock ≡ greatest_with (reading_in input.now) self.old.clock }
         ensures state { (IsErrOf result MemoryFails → ⊥) → self.new.state ≡ greater self.old.state (G.knows self.new.nodes.register at) }
         ensures same { (self.new.boots ≡ self.old.boots) × (self.new.count ≡ self.old.count) × (self.new.devices ≡ self.old.devices) × (self.new.latest ≡ self.old.latest) × (self.new.nodes.engine ≡ self.old.nodes.engine) }
+        ensures made { S.made self.new.nodes.store ≡ S.made self.old.nodes.store }
         ensures rack { Counted R.Rack rack.old rack.new result DiskFails }
     {
         self.read_with(input);

@@ -48,6 +48,7 @@ impl<G: Register, O: Owners, S: Store, E: Engine> Machines<G, O, S, E> {
         ensures clock { self.new.clock ≡ max self.old.clock reading }
         ensures boots { self.new.boots ≡ self.old.boots + 1 }
         ensures same { (self.new.state ≡ self.old.state) × (self.new.count ≡ self.old.count) × (self.new.devices ≡ self.old.devices) × (self.new.latest ≡ self.old.latest) × (self.new.nodes.engine ≡ self.old.nodes.engine) }
+        ensures made { S.made self.new.nodes.store ≡ S.made self.old.nodes.store }
         ensures rack { Counted R.Rack rack.old rack.new result DiskFails }
     {
         self.read(reading);

@@ -22,6 +22,7 @@ impl<G: Register, O: Owners, S: Store, E: Engine> Machines<G, O, S, E> {
         ensures empties { Empties who self.old.nodes.machines.items self.new.nodes.machines.items }
         ensures up { self.new.up.items ≡ up_without who self.old.up.items }
         ensures same { (self.new.clock ≡ self.old.clock) × (self.new.state ≡ self.old.state) × (self.new.boots ≡ self.old.boots) × (self.new.count ≡ self.old.count) × (self.new.devices ≡ self.old.devices) × (self.new.latest ≡ self.old.latest) × (self.new.nodes.engine ≡ self.old.nodes.engine) }
+        ensures made { S.made self.new.nodes.store ≡ S.made self.old.nodes.store }
     {
         self.nodes.crash(who);
         leave_out(&mut self.up, who);

@@ -14,8 +14,9 @@ use Rattle.bx_facts.specs.declared.register.Register as register
 use Rattle.bx_facts.specs.declared.store.Store as store
 use Rattle.bx_facts.specs.Chains.{Chain, HasOwnBoot, last}
 use Rattle.bx_global.specs.declared.state.GlobalState.{GlobalState}
+use Rattle.bx_history.specs.Account.{AwaitsNewest}
 use Rattle.bx_history.specs.Along.{none_ends}
-use Rattle.bx_history.specs.Parts.{Part}
+use Rattle.bx_history.specs.Parts.{Part, waiting}
 use Rattle.bx_history.proofs.OnePart.{some_ended}
 use Rattle.bx_post.specs.Posts.{packet_from}
 use Rattle.bx_post.specs.declared.packets.Packet.{Packet}
@@ -25,9 +26,9 @@ use Rattle.bx_world.specs.Calls.{Arrives}
 use Rattle.bx_world.specs.Led.{AreLeft, Led}
 use Rattle.bx_world.specs.Room.{LetRestart}
 use Rattle.bx_world.specs.Starting.{MayStartNext}
-use Rattle.bx_world.specs.World.{seen}
+use Rattle.bx_world.specs.World.{StandsBehind, seen}
 use Rattle.bx_world.specs.declared.world.World.{World}
-use Rattle.bx_world.proofs.Doubted.{behind_by, doubted_led, logged_led, none_in, part_quiet}
+use Rattle.bx_world.proofs.Doubted.{IsPartOf, behind_by, doubted_led, logged_led, none_in, part_quiet}
 use Rattle.bx_world.proofs.Leading.{desk_on, ending}
 use Rattle.bx_world.proofs.Leads.{patient}
 use Rattle.bx_world_events.specs.Causes.{IsThere}
@@ -91,30 +92,37 @@ module _ {G O S E T : Type 0} (st : store.Ghosts S) (world : World G O S E T) wh
   }
 
 module _ {G O S E T : Type 0} (g : register.Ghosts G) (o : owners.Ghosts O) (st : store.Ghosts S) (e : engine.Ghosts E T) (world : World G O S E T) (x : Disks) (first : T) (parts : List Part) (led : Led g o st e world x first parts) where
-  left_still : AreLeft world.machines.nodes.machines.items (ending None none_ends ∷ parts)
-  left_still = record {
-    waits = led.left.waits;
-    acting = λ node acts is. let was = led.left.acting node acts is in (was.0, inr (refl, was.1));
-  }
-
   -- a part in which nothing happens
   pub led_still : Led g o st e world x first (ending None none_ends ∷ parts)
-  led_still =
-      let part = ending None none_ends in
-      let accounts = some_ended (StepOf (e.step world.machines.nodes.engine)) (rules (e.at_once world.machines.nodes.engine)) (patient (e.at_once world.machines.nodes.engine)) first parts led.history led.tree led.accounts None none_ends in
-      let behind = behind_by g o st e led.stands.course world x led.tree (led.stands, refl) in
-      let quiet = part_quiet world.machines.latest part refl in
-      record {
-        tree = led.tree;
-        history = led.history;
-        accounts = accounts;
-        stands = behind.stands;
-        doubted = doubted_led g o st e world world x x first led.tree parts led part [] quiet behind accounts.pending (none_in _ _ _ _ _ _ _ accounts) left_still;
-        logged = logged_led g o st e world world x x first led.tree parts led part [] quiet behind accounts.pending (none_in _ _ _ _ _ _ _ accounts) left_still;
-        counted = led.counted;
-        desks = λ node desk there. desk_on parts None none_ends node desk refl (led.desks node desk there);
-        left = left_still;
+  led_still = record {
+    tree = led.tree;
+    history = led.history;
+    accounts = accounts;
+    stands = led.stands;
+    doubted = doubted_led g o st e world world x x first led.tree parts led part [] quiet behind accounts.pending (none_in _ _ _ _ _ _ _ accounts) left;
+    logged = logged_led g o st e world world x x first led.tree parts led part [] quiet behind accounts.pending (none_in _ _ _ _ _ _ _ accounts) left;
+    counted = led.counted;
+    desks = λ node desk there. desk_on parts None none_ends node desk refl (led.desks node desk there);
+    left = left;
+  }
+    where
+      part : Part
+      part = ending None none_ends
+
+      accounts : AwaitsNewest (StepOf (e.step world.machines.nodes.engine)) (rules (e.at_once world.machines.nodes.engine)) first (part ∷ parts) led.history led.tree (waiting (part ∷ parts))
+      accounts = some_ended (StepOf (e.step world.machines.nodes.engine)) (rules (e.at_once world.machines.nodes.engine)) (patient (e.at_once world.machines.nodes.engine)) first parts led.history led.tree led.accounts None none_ends
+
+      left : AreLeft world.machines.nodes.machines.items (part ∷ parts)
+      left = record {
+        waits = led.left.waits;
+        acting = λ node acts is. let was = led.left.acting node acts is in (was.0, inr (refl, was.1));
       }
+
+      quiet : IsPartOf world.machines.latest [] part
+      quiet = part_quiet world.machines.latest part refl
+
+      behind : StandsBehind g o st e led.stands.course [] world x led.tree
+      behind = behind_by g o st e led.stands.course world x led.tree (led.stands, refl)
 
   -- a machine that is down may start again, in the boot after all that there were
   pub may_start : LetRestart o st → (who : Actor) → MayStartNext g o st e world who

@@ -1,5 +1,5 @@
-pub mod Allowed
 pub mod Acts
+pub mod Allowed
 pub mod AnsweredAtOnce
 pub mod Answering
 pub mod Beginning

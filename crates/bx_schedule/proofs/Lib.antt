@@ -1,0 +1,10 @@
+mod Acting
+mod Allowing
+mod Crashing
+mod Dues
+mod Going
+mod Lacks
+mod Lining
+mod Sets
+mod Telling
+mod Turning

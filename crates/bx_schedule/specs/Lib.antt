@@ -1,0 +1,5 @@
+pub mod Disks
+pub mod Doing
+pub mod Lacking
+pub mod Places
+pub mod Refusing

@@ -1,5 +1,5 @@
 -- An event that isn't refused may be done; and what comes of one by which nothing of the world changes.
-use Rattle.std.proofs.Common.{◌≡◌, ◌∙◌, ◌≤◌, ◌+◌, inl, inr, ℕ, Bool, true, false, List, [], ◌∷◌, Option, None, Some, IsSomeAnd, refl, sym, ap, subst, arith}
+use Rattle.std.proofs.Common.{◌≡◌, ◌∙◌, ◌≤◌, ◌+◌, inl, inr, ℕ, Bool, true, false, List, [], ◌∷◌, Option, None, Some, IsSomeAnd, IfOk, Result, Ok, Err, refl, sym, ap, subst, arith}
 use Rattle.std.specs.Prelude.{not}
 use Rattle.std.proofs.lemmas.List.{append-nil}
 use Rattle.bx_base.specs.declared.names.Actor.{Actor}
@@ -14,19 +14,21 @@ use Rattle.bx_facts.specs.declared.register.Register as register
 use Rattle.bx_facts.specs.declared.store.Store as store
 use Rattle.bx_facts.specs.Chains.{Chain, HasOwnBoot, last}
 use Rattle.bx_global.specs.declared.state.GlobalState.{GlobalState}
+use Rattle.bx_history.specs.Account.{AwaitsNewest}
 use Rattle.bx_history.specs.Along.{none_ends}
-use Rattle.bx_history.specs.Parts.{Part}
+use Rattle.bx_history.specs.Parts.{Part, waiting}
 use Rattle.bx_history.proofs.OnePart.{some_ended}
 use Rattle.bx_post.specs.Posts.{packet_from}
 use Rattle.bx_post.specs.declared.packets.Packet.{Packet}
 use Rattle.bx_rows.specs.Words.{row_in}
 use Rattle.bx_views.specs.declared.engine.Engine as engine
 use Rattle.bx_world.specs.Calls.{Arrives}
-use Rattle.bx_world.specs.Led.{Led}
+use Rattle.bx_world.specs.Led.{AreLeft, Led}
 use Rattle.bx_world.specs.Room.{LetRestart}
 use Rattle.bx_world.specs.Starting.{MayStartNext}
-use Rattle.bx_world.specs.World.{seen}
+use Rattle.bx_world.specs.World.{StandsBehind, seen}
 use Rattle.bx_world.specs.declared.world.World.{World}
+use Rattle.bx_world.proofs.Doubted.{IsPartOf, behind_by, doubted_led, logged_led, none_in, part_quiet}
 use Rattle.bx_world.proofs.Leading.{desk_on, ending}
 use Rattle.bx_world.proofs.Leads.{patient}
 use Rattle.bx_world_events.specs.Causes.{IsThere}
@@ -95,15 +97,32 @@ module _ {G O S E T : Type 0} (g : register.Ghosts G) (o : owners.Ghosts O) (st 
   led_still = record {
     tree = led.tree;
     history = led.history;
-    accounts = some_ended (StepOf (e.step world.machines.nodes.engine)) (rules (e.at_once world.machines.nodes.engine)) (patient (e.at_once world.machines.nodes.engine)) first parts led.history led.tree led.accounts None none_ends;
+    accounts = accounts;
     stands = led.stands;
+    doubted = doubted_led g o st e world world x x first led.tree parts led part [] quiet behind accounts.pending (none_in _ _ _ _ _ _ _ accounts) left;
+    logged = logged_led g o st e world world x x first led.tree parts led part [] quiet behind accounts.pending (none_in _ _ _ _ _ _ _ accounts) left;
     counted = led.counted;
     desks = λ node desk there. desk_on parts None none_ends node desk refl (led.desks node desk there);
-    left = record {
-      waits = led.left.waits;
-      acting = λ node acts is. let was = led.left.acting node acts is in (was.0, inr (refl, was.1));
-    };
+    left = left;
   }
+    where
+      part : Part
+      part = ending None none_ends
+
+      accounts : AwaitsNewest (StepOf (e.step world.machines.nodes.engine)) (rules (e.at_once world.machines.nodes.engine)) first (part ∷ parts) led.history led.tree (waiting (part ∷ parts))
+      accounts = some_ended (StepOf (e.step world.machines.nodes.engine)) (rules (e.at_once world.machines.nodes.engine)) (patient (e.at_once world.machines.nodes.engine)) first parts led.history led.tree led.accounts None none_ends
+
+      left : AreLeft world.machines.nodes.machines.items (part ∷ parts)
+      left = record {
+        waits = led.left.waits;
+        acting = λ node acts is. let was = led.left.acting node acts is in (was.0, inr (refl, was.1));
+      }
+
+      quiet : IsPartOf world.machines.latest [] part
+      quiet = part_quiet world.machines.latest part refl
+
+      behind : StandsBehind g o st e led.stands.course [] world x led.tree
+      behind = behind_by g o st e led.stands.course world x led.tree (led.stands, refl)
 
   -- a machine that is down may start again, in the boot after all that there were
   pub may_start : LetRestart o st → (who : Actor) → MayStartNext g o st e world who
@@ -128,3 +147,8 @@ call_goes_on g o st e reading node client bytes old new x outcome (inr (inr repe
 -- what a crash leaves where nothing is done
 pub still_leaves : (now : ℕ) (since : ℕ → Image → Type 0) (P : Image → Type 0) → ((image : Image) → since now image → P image) → LeavesOnly now now since since P
 still_leaves now since P each = record { later = omega arith; each = each; nothing_else = λ t image before left. inl left; keeps = λ t image before left. left }
+
+-- what holds of whatever comes of it
+pub each_ok : {A F : Type 0} (P : A → Type 0) (result : Result A F) → ((value : A) → P value) → IfOk result P
+each_ok P (Ok value) each = each value
+each_ok P (Err error) each = tt

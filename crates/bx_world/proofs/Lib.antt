@@ -1,5 +1,6 @@
 pub mod Beginning
 pub mod CallsThen
+pub mod Doubted
 pub mod Ending
 pub mod Leading
 pub mod Letters

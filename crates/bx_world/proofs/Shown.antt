@@ -7,7 +7,6 @@ use Rattle.bx_disk.specs.Disks.{Disks, Image}
 use Rattle.bx_facts.specs.declared.owners.Owners as owners
 use Rattle.bx_facts.specs.declared.register.Register as register
 use Rattle.bx_facts.specs.declared.store.Store as store
-use Rattle.bx_facts.specs.Chains.{last}
 use Rattle.bx_history.specs.Parts.{Part}
 use Rattle.bx_nodes.specs.Standing.{Stand}
 use Rattle.bx_nodes.specs.bx_node_events.proofs.Registered.{HandedLaws}
@@ -16,7 +15,6 @@ use Rattle.bx_post.specs.declared.packets.Letter.{Letter}
 use Rattle.bx_views.specs.declared.engine.Engine as engine
 use Rattle.bx_world.specs.Laws.{shown_from}
 use Rattle.bx_world.specs.Led.{Led}
-use Rattle.bx_world.specs.Doubts.{AreOfTaken}
 use Rattle.bx_world.specs.Shown.{Shown}
 use Rattle.bx_world.specs.declared.world.World.{World}
 use Rattle.bx_world_machines.specs.Standing.{Standing}
@@ -31,12 +29,12 @@ module _ {G O S E T : Type 0} (g : register.Ghosts G) (o : owners.Ghosts O) (st 
     are_clocks = standing.are_clocks;
     stands = subst (λ (l : List Letter). Stand g o st e machines.nodes x l standing.clocks standing.course tree) (sym (ap (λ (l : List Letter). letters ++ l) empty ∙ append-nil letters)) standing.stands;
     told = standing.told;
+    doubts = standing.doubts;
     known = standing.known;
   }
 
   -- An image that a crash may leave inside an event shows the tree, or one after some of the calls in doubt.
-  pub left_shown : HandedLaws g o st → (world : World G O S E T) (x : Disks) (first : T) (parts : List Part) (led : Led g o st e world x first parts)
-      → AreOfTaken parts (last led.stands.course.register.chain).sessions led.stands.course.slots led.stands.course.doubts → (before now : ℕ) (past since : ℕ → Image → Type 0)
+  pub left_shown : HandedLaws g o st → (world : World G O S E T) (x : Disks) (first : T) (parts : List Part) (led : Led g o st e world x first parts) → (before now : ℕ) (past since : ℕ → Image → Type 0)
       → LeavesOnly before now past since (MayShow (g.reads_as (g.made world.machines.nodes.register) x.sizes) (st.made world.machines.nodes.store) x.sizes led.stands.course)
       → LeavesOnly before now past since (λ image. Shown g o st e world x.sizes image first parts)
-  left_shown laws world x first parts led doubted before now past since left = leaves_implies before now past since _ _ left (λ image shows. shown_from g o st e laws world x first parts led doubted image shows)
+  left_shown laws world x first parts led before now past since left = leaves_implies before now past since _ _ left (λ image shows. shown_from g o st e laws world x first parts led image shows)

@@ -21,7 +21,6 @@ use Rattle.bx_nodes.specs.bx_world_volumes.proofs.Volumes.{shown_after}
 use Rattle.bx_nodes.proofs.Moments.{MomentLaws}
 use Rattle.bx_views.specs.Truths.{no_hints}
 use Rattle.bx_views.specs.declared.engine.Engine as engine
-use Rattle.bx_world.specs.Doubts.{AreOfTaken}
 use Rattle.bx_world.specs.Led.{Led}
 use Rattle.bx_world.specs.Room.{HasRoom}
 use Rattle.bx_world.specs.Shown.{ComesAfter, Shown}
@@ -68,10 +67,9 @@ module _ {G O S E T : Type 0} (g : register.Ghosts G) (o : owners.Ghosts O) (st 
   -- ---- what images show
 
   -- An image that shows what the course has shows the tree, or one after some of the calls in doubt.
-  pub shown_from : HandedLaws g o st → (world : World G O S E T) (x : Disks) (first : T) (parts : List Part) (led : Led g o st e world x first parts)
-      → AreOfTaken parts (last led.stands.course.register.chain).sessions led.stands.course.slots led.stands.course.doubts → (image : Image)
+  pub shown_from : HandedLaws g o st → (world : World G O S E T) (x : Disks) (first : T) (parts : List Part) (led : Led g o st e world x first parts) → (image : Image)
       → MayShow (g.reads_as (g.made world.machines.nodes.register) x.sizes) (st.made world.machines.nodes.store) x.sizes led.stands.course image → Shown g o st e world x.sizes image first parts
-  shown_from laws world x first parts led doubted image shows is_of =
+  shown_from laws world x first parts led image shows is_of =
       let nodes = world.machines.nodes in
       let at = led.stands.stands.at in
       let course = led.stands.course in
@@ -82,7 +80,7 @@ module _ {G O S E T : Type 0} (g : register.Ghosts G) (o : owners.Ghosts O) (st 
         rows = (last course.register.chain).sessions;
         slots = course.slots;
         doubts = course.doubts;
-        doubted = doubted;
+        doubted = led.doubted;
         has = image_has (g.reads_as (g.made nodes.register) x.sizes image) (st.made nodes.store) x.sizes image course
             (λ truth. (after : T) × ComesAfter (e.stands nodes.engine) (e.step nodes.engine) (last course.register.chain).sessions course.slots course.doubts led.tree after × e.stands nodes.engine truth no_hints after) at.logs.volume.most_devices
             (shown_after g o st (e.stands nodes.engine) (e.step nodes.engine) nodes.register nodes.owners nodes.store x
@@ -94,10 +92,9 @@ module _ {G O S E T : Type 0} (g : register.Ghosts G) (o : owners.Ghosts O) (st 
       }
 
   -- so does each that a crash of all may leave
-  pub all_shown : HandedLaws g o st → MomentLaws g st → (world : World G O S E T) (x : Disks) (first : T) (parts : List Part) (led : Led g o st e world x first parts)
-      → AreOfTaken parts (last led.stands.course.register.chain).sessions led.stands.course.slots led.stands.course.doubts → (image : Image) → IsImage x image → Shown g o st e world x.sizes image first parts
-  all_shown laws moments world x first parts led doubted image is =
-      shown_from laws world x first parts led doubted image (image_shows g o st e laws world.machines (letters_in world.post) x led.tree led.stands moments image is)
+  pub all_shown : HandedLaws g o st → MomentLaws g st → (world : World G O S E T) (x : Disks) (first : T) (parts : List Part) (led : Led g o st e world x first parts) → (image : Image) → IsImage x image → Shown g o st e world x.sizes image first parts
+  all_shown laws moments world x first parts led image is =
+      shown_from laws world x first parts led image (image_shows g o st e laws world.machines (letters_in world.post) x led.tree led.stands moments image is)
 
   -- ---- disks that change, where no machine does anything
 
@@ -108,6 +105,8 @@ module _ {G O S E T : Type 0} (g : register.Ghosts G) (o : owners.Ghosts O) (st 
       history = led.history;
       accounts = led.accounts;
       stands = machines_on g o st e laws world.machines (letters_in world.post) x led.tree led.stands y on;
+      doubted = led.doubted;
+      logged = led.logged;
       counted = led.counted;
       desks = led.desks;
       left = led.left;

@@ -7,4 +7,5 @@ pub mod Outcomes
 pub mod Room
 pub mod Shown
 pub mod Starting
+pub mod Trees
 pub mod World

@@ -3,6 +3,7 @@
 
 mod begins;
 mod calls;
+mod cluster;
 mod events;
 mod packets;
 mod shows;

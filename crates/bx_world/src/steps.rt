@@ -5,9 +5,7 @@ ghost use Rattle.bx_base.specs.Faults.{Rose};
 ghost use Rattle.bx_calls.specs.Calls.{LeavesOnly};
 ghost use Rattle.bx_cluster.specs.Steps.{Counted, IsMoment, Shown, part_at};
 ghost use Rattle.bx_disk.specs.Counts.{NoneFalls};
-ghost use Rattle.bx_facts.specs.Chains.{last};
 ghost use Rattle.bx_history.specs.Parts.{Part};
-ghost use Rattle.bx_world.specs.Doubts.{AreOfTaken};
 ghost use Rattle.bx_world.specs.Led.{Led};
 ghost use Rattle.bx_world.specs.Room.{HasRoom};
 ghost use Rattle.bx_world.specs.Shown as shown;
@@ -37,7 +35,7 @@ impl<G: Register, O: Owners, S: Store, E: Engine> World<G, O, S, E> {
         requires room { HasRoom G.Register O.Owners S.Store E.Engine self.old (R.state rack.old).sizes }
         ensures shows { IfOk result (λ outcome. Shown event.now outcome.stopped (seen S.Store self.old) (seen S.Store self.new)) }
         ensures led { (first : E.Tree) (parts : List Part) → R.tells rack.old → Led G.Register O.Owners S.Store E.Engine self.old (R.state rack.old) first parts → IfOk result (λ outcome. Led G.Register O.Owners S.Store E.Engine self.new (R.state rack.new) first (part_at event.now outcome ∷ parts)) }
-        ensures any_moment { (first : E.Tree) (parts : List Part) → R.tells rack.old → (led : Led G.Register O.Owners S.Store E.Engine self.old (R.state rack.old) first parts) → AreOfTaken parts (last led.stands.course.register.chain).sessions led.stands.course.slots led.stands.course.doubts
+        ensures any_moment { (first : E.Tree) (parts : List Part) → R.tells rack.old → Led G.Register O.Owners S.Store E.Engine self.old (R.state rack.old) first parts
             → LeavesOnly (R.moment rack.old) (R.moment rack.new) (R.left_since rack.old) (R.left_since rack.new) (λ image. shown.Shown G.Register O.Owners S.Store E.Engine self.old (R.state rack.old).sizes image first parts) }
         ensures room { (sizes : List ℕ) → HasRoom G.Register O.Owners S.Store E.Engine self.old sizes → OnOk result (HasRoom G.Register O.Owners S.Store E.Engine self.new sizes) }
         ensures made { S.made self.new.machines.nodes.store ≡ S.made self.old.machines.nodes.store }

@@ -1,9 +1,13 @@
+pub mod Acts
 pub mod Allowed
 pub mod AnsweredAtOnce
 pub mod Answering
 pub mod Beginning
 pub mod Clocks
 pub mod Disks
+pub mod Doubts
+pub mod Emptied
+pub mod Goes
 pub mod Known
 pub mod Nodes
 pub mod OtherDisks
@@ -11,4 +15,5 @@ pub mod Reading
 pub mod Rooms
 pub mod Standing
 pub mod Starting
+pub mod Used
 pub mod WhoIsUp

@@ -8,7 +8,8 @@ ghost use Rattle.bx_post.specs.declared.packets.Letter.{Letter};
 ghost use Rattle.bx_node_steps.specs.Calls.{IsAnswered};
 ghost use Rattle.bx_world_machines.specs.Answering.{Answered, Called, WaitsFirst};
 ghost use Rattle.bx_world_machines.specs.Machines.{is_up};
-ghost use Rattle.bx_world_machines.specs.Standing.{IsReady, Standing};
+ghost use Rattle.bx_world_machines.specs.Standing.{IsReady, StandsBehind, StandsBy};
+ghost use Rattle.bx_world_standing.specs.Standing.{Course};
 
 use crate::at_once::AtOnce;
 use crate::machines::Machines;
@@ -33,8 +34,8 @@ impl<G: Register, O: Owners, S: Store, E: Engine> Machines<G, O, S, E> {
         requires steady { self.old.clock ≤ reading + 500 }
         requires time { reading ≤ 4294967295999 }
         requires newer { self.old.latest < call.number }
-        ensures stands { (letters : List Letter) (x : Disks) (tree : E.Tree) → Standing G.Register O.Owners S.Store E.Engine self.old (letters ++ out.old) x tree
-            → IfOk result (λ said. Rounded E.Engine self.old.nodes.engine (Standing G.Register O.Owners S.Store E.Engine self.new (letters ++ out.new) x) tree said.items) }
+        ensures stands { (letters : List Letter) (x : Disks) (tree : E.Tree) (c : Course) → StandsBy G.Register O.Owners S.Store E.Engine c self.old (letters ++ out.old) x tree
+            → IfOk result (λ said. Rounded E.Engine self.old.nodes.engine (StandsBehind G.Register O.Owners S.Store E.Engine c said.items self.new (letters ++ out.new) x) tree said.items) }
         ensures ready { (sizes : List ℕ) → IsReady G.Register O.Owners S.Store E.Engine self.old sizes → OnOk result (IsReady G.Register O.Owners S.Store E.Engine self.new sizes) }
         ensures answers { IfOk result (λ said. Called reading node call self.old.nodes.machines.items self.new.nodes.machines.items said.items) }
         ensures at_once { E.at_once self.old.nodes.engine call.message → IfOk result (λ said. IsAnswered said.items call.number) }
@@ -71,8 +72,8 @@ impl<G: Register, O: Owners, S: Store, E: Engine> Machines<G, O, S, E> {
         requires steady { self.old.clock ≤ reading + 500 }
         requires time { reading ≤ 4294967295999 }
         requires newer { self.old.latest < call.number }
-        ensures stands { (letters : List Letter) (x : Disks) (tree : E.Tree) → Standing G.Register O.Owners S.Store E.Engine self.old (letters ++ out.old) x tree
-            → IfOk result (λ said. Rounded E.Engine self.old.nodes.engine (Standing G.Register O.Owners S.Store E.Engine self.new (letters ++ out.new) x) tree said.items) }
+        ensures stands { (letters : List Letter) (x : Disks) (tree : E.Tree) (c : Course) → StandsBy G.Register O.Owners S.Store E.Engine c self.old (letters ++ out.old) x tree
+            → IfOk result (λ said. Rounded E.Engine self.old.nodes.engine (StandsBehind G.Register O.Owners S.Store E.Engine c said.items self.new (letters ++ out.new) x) tree said.items) }
         ensures ready { (sizes : List ℕ) → IsReady G.Register O.Owners S.Store E.Engine self.old sizes → OnOk result (IsReady G.Register O.Owners S.Store E.Engine self.new sizes) }
         ensures answers { IfOk result (λ said. WaitsFirst reading node call self.old.nodes.machines.items self.new.nodes.machines.items said.items) }
         ensures clock { self.new.clock ≡ max self.old.clock reading }
@@ -98,8 +99,8 @@ impl<G: Register, O: Owners, S: Store, E: Engine> Machines<G, O, S, E> {
         requires ready { (sizes : List ℕ) × IsReady G.Register O.Owners S.Store E.Engine self.old sizes }
         requires steady { self.old.clock ≤ reading + 500 }
         requires time { reading ≤ 4294967295999 }
-        ensures stands { (letters : List Letter) (x : Disks) (tree : E.Tree) → Standing G.Register O.Owners S.Store E.Engine self.old (letters ++ out.old) x tree
-            → IfOk result (λ said. Rounded E.Engine self.old.nodes.engine (Standing G.Register O.Owners S.Store E.Engine self.new (letters ++ out.new) x) tree said.items) }
+        ensures stands { (letters : List Letter) (x : Disks) (tree : E.Tree) (c : Course) → StandsBy G.Register O.Owners S.Store E.Engine c self.old (letters ++ out.old) x tree
+            → IfOk result (λ said. Rounded E.Engine self.old.nodes.engine (StandsBehind G.Register O.Owners S.Store E.Engine c said.items self.new (letters ++ out.new) x) tree said.items) }
         ensures ready { (sizes : List ℕ) → IsReady G.Register O.Owners S.Store E.Engine self.old sizes → OnOk result (IsReady G.Register O.Owners S.Store E.Engine self.new sizes) }
         ensures answers { IfOk result (λ said. Answered (Some reading) (Node node) self.old.nodes.machines.items self.new.nodes.machines.items said.items) }
         ensures clock { self.new.clock ≡ max self.old.clock reading }

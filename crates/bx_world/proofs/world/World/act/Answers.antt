@@ -144,22 +144,22 @@ pub returns-in-Blank-clause-led : goal.returns-in-Blank-clause-led
 returns-in-Blank-clause-led g c = λ first parts tells led. rw (c.in-Blank.is, c.nothing-in-Blank.ensures) (led_still g.G.Register g.O.Owners g.S.Store g.E.Engine c.args.self.now (g.R.Rack.state c.args.rack.now) first parts led)
 
 pub returns-in-Call-clause-any_moment : goal.returns-in-Call-clause-any_moment
-returns-in-Call-clause-any_moment g c = λ first parts tells led doubted.
+returns-in-Call-clause-any_moment g c = λ first parts tells led.
     let rack = c.args.rack.now in
     still_leaves (g.R.Rack.moment rack) (g.R.Rack.left_since rack) _
-    (λ image left. all_shown g.G.Register g.O.Owners g.S.Store g.E.Engine (laws g) (moments g) c.args.self.now (g.R.Rack.state rack) first parts led doubted image (g.met.R.Rack.only_now rack image tells left))
+    (λ image left. all_shown g.G.Register g.O.Owners g.S.Store g.E.Engine (laws g) (moments g) c.args.self.now (g.R.Rack.state rack) first parts led image (g.met.R.Rack.only_now rack image tells left))
 
 pub returns-in-Crash-clause-any_moment : goal.returns-in-Crash-clause-any_moment
-returns-in-Crash-clause-any_moment g c = λ first parts tells led doubted.
+returns-in-Crash-clause-any_moment g c = λ first parts tells led.
     let rack = c.args.rack.now in
     still_leaves (g.R.Rack.moment rack) (g.R.Rack.left_since rack) _
-    (λ image left. all_shown g.G.Register g.O.Owners g.S.Store g.E.Engine (laws g) (moments g) c.args.self.now (g.R.Rack.state rack) first parts led doubted image (g.met.R.Rack.only_now rack image tells left))
+    (λ image left. all_shown g.G.Register g.O.Owners g.S.Store g.E.Engine (laws g) (moments g) c.args.self.now (g.R.Rack.state rack) first parts led image (g.met.R.Rack.only_now rack image tells left))
 
 pub returns-in-Blank-clause-any_moment : goal.returns-in-Blank-clause-any_moment
-returns-in-Blank-clause-any_moment g c = λ first parts tells led doubted.
+returns-in-Blank-clause-any_moment g c = λ first parts tells led.
     let rack = c.args.rack.now in
     still_leaves (g.R.Rack.moment rack) (g.R.Rack.left_since rack) _
-    (λ image left. all_shown g.G.Register g.O.Owners g.S.Store g.E.Engine (laws g) (moments g) c.args.self.now (g.R.Rack.state rack) first parts led doubted image (g.met.R.Rack.only_now rack image tells left))
+    (λ image left. all_shown g.G.Register g.O.Owners g.S.Store g.E.Engine (laws g) (moments g) c.args.self.now (g.R.Rack.state rack) first parts led image (g.met.R.Rack.only_now rack image tells left))
 
 pub returns-in-Tick-clause-room : goal.returns-in-Tick-clause-room
 returns-in-Tick-clause-room g c = λ sizes room.

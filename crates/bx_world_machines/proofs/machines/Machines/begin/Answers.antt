@@ -2,11 +2,12 @@ use Rattle.std.proofs.Common.{◌≡◌, ◌∙◌, true, refl, sym, ap, subst}
 use Rattle.std.specs.Prelude.{not}
 use Rattle.bx_nodes.specs.bx_node_openings.specs.Opening.{opening_clocks}
 use Rattle.bx_world_machines.specs.Machines.{is_up}
+use Rattle.bx_world_machines.proofs.Doubts.{in_doubt_none}
 use Rattle.bx_world_machines.proofs.Beginning.{all_there, only_there}
 use Rattle.bx_world_machines.proofs.machines.Machines.begin.Goals as goal
 
 pub returns-clause-stands : goal.returns-clause-stands
-returns-clause-stands g c = λ letters x course tree stands told known. (
+returns-clause-stands g c = λ letters x course tree stands told none known. (
   record {
     clocks = opening_clocks;
     course = course;
@@ -17,6 +18,7 @@ returns-clause-stands g c = λ letters x course tree stands told known. (
     };
     stands = stands;
     told = told;
+    doubts = in_doubt_none 0 c.args.nodes.machines.items course none;
     known = known;
   },
   refl,

@@ -13,8 +13,8 @@ use Rattle.bx_history.specs.Parts.{Part, trace_of}
 use Rattle.bx_model.specs.declared.tree.Tree.{Tree}
 use Rattle.bx_opens.specs.Opening.{AreOpenAlone}
 use Rattle.bx_opens.specs.bx_rack_audit.specs.Alone.{StandAlone}
-use Rattle.bx_opens.specs.bx_cluster.bx_world_events.specs.Causes.{IsThere as IsInCluster}
-use Rattle.bx_opens.specs.bx_cluster.bx_world_events.specs.Refusals.{Seen}
+use Rattle.bx_opens.specs.bx_world_events.specs.Causes.{IsThere as IsInCluster}
+use Rattle.bx_opens.specs.bx_world_events.specs.Refusals.{Seen}
 use Rattle.bx_schedule.specs.Lacking.{AreLacking}
 use Rattle.bx_schedule.specs.Placing.{AreOfLines, Done, parts_of, schedule_of}
 use Rattle.bx_script.specs.Schedule.{HasPlace}

@@ -1,7 +1,7 @@
 -- What a line that a cluster refuses is to a replay.
 use Rattle.std.specs.Prelude.{ℕ}
-use Rattle.bx_opens.specs.bx_cluster.bx_world_events.specs.declared.event.EventError.{EventError}
-use Rattle.bx_opens.specs.bx_cluster.bx_world_events.specs.declared.event.EventError.TheVariants as events
+use Rattle.bx_opens.specs.bx_world_events.specs.declared.event.EventError.{EventError}
+use Rattle.bx_opens.specs.bx_world_events.specs.declared.event.EventError.TheVariants as events
 use Rattle.bx_stops.specs.declared.stop.Reason.TheVariants.{NoMachine, ClockBack, NoPacket, Up, Down, NothingToSync, StillNeeded}
 use Rattle.bx_stops.specs.declared.stop.Stop.{Stop}
 use Rattle.bx_stops.specs.declared.stop.Stop.TheVariants.{Refused, OutOfMemory}

@@ -164,6 +164,14 @@ DoesLine (Err stops.WriteFault) After old new = (more : List ℕ) × After (new 
 DoesLine (Err stops.DiskFault) After old new = ⊥
 DoesLine (Err stops.OutOfMemory) After old new = new ≡ old
 
+-- why a line stops short: the faults of the sink, before and now
+abbrev pub HasStepCause : Stop → ℕ → ℕ → ℕ → Type 0
+HasStepCause (stops.Refused line reason) number before now = line ≡ number
+HasStepCause stops.ReadFault number before now = ⊥
+HasStepCause stops.WriteFault number before now = Rose before now
+HasStepCause stops.DiskFault number before now = ⊥
+HasStepCause stops.OutOfMemory number before now = Unit {0}
+
 -- why a line with a number is refused
 abbrev pub IsRefusedFor : Type 0 → Stop → ℕ → Machines → Line → Type 0
 IsRefusedFor MayStop (stops.Refused number reason) wanted machines line = (number ≡ wanted) × IsRefusedLine MayStop reason machines line

@@ -1,0 +1,5 @@
+pub mod Beginning
+pub mod Causes
+pub mod Held
+pub mod NextLines
+pub mod TraceTexts

@@ -1,5 +1,6 @@
 pub mod Beginning
 pub mod Causes
 pub mod Held
+pub mod Naming
 pub mod NextLines
 pub mod TraceTexts

@@ -1,6 +1,6 @@
 -- Which lines of a schedule may come behind others, and why one is refused, as the lines tell it.
 use Rattle.std.specs.Prelude.{◌≡◌, ◌⊎◌, ◌/◌, ◌<◌, ◌≤◌, ◌==◌, ℕ, max, Bool, true, false, List, [], ◌∷◌, length, reverse, Option, Some, None, IfSome, IsSomeAnd}
-use Rattle.std.specs.List.{All}
+use Rattle.std.specs.List.{AllByRecursion}
 use Rattle.bx_base.specs.declared.names.Actor.{Actor}
 use Rattle.bx_base.specs.declared.names.Actor.TheVariants.{Node, Replica, Server, Member}
 use Rattle.bx_history.specs.Along.{AllowedNewest}
@@ -102,7 +102,7 @@ HasMachine machines (Member n) = n / 2 < machines.devices
 
 -- the machines that a line names are there
 abbrev pub IsThere : Machines → Line → Type 0
-IsThere machines line = All (HasMachine machines) (machines_of line)
+IsThere machines line = AllByRecursion (HasMachine machines) (machines_of line)
 
 -- the reading of a line lies at most 500 ms behind the greatest one before it
 abbrev pub IsSteady : Machines → Line → Type 0

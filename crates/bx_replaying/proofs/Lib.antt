@@ -3,4 +3,5 @@ pub mod Causes
 pub mod Held
 pub mod Naming
 pub mod NextLines
+pub mod Refusals
 pub mod TraceTexts

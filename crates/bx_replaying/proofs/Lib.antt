@@ -1,7 +1,9 @@
 pub mod Beginning
 pub mod Causes
+pub mod Doing
 pub mod Held
 pub mod Naming
 pub mod NextLines
 pub mod Refusals
 pub mod TraceTexts
+pub mod Weaker

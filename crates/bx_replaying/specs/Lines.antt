@@ -1,11 +1,12 @@
 -- Which lines of a schedule may come behind others, and why one is refused, as the lines tell it.
-use Rattle.std.specs.Prelude.{◌≡◌, ◌⊎◌, ◌/◌, ◌<◌, ◌≤◌, ◌==◌, ℕ, max, Bool, true, false, List, [], ◌∷◌, length, reverse, Option, Some, None, IfSome, IsSomeAnd}
+use Rattle.std.specs.Prelude.{◌≡◌, ◌⊎◌, ◌/◌, ◌<◌, ◌≤◌, ◌==◌, ℕ, Bool, true, false, List, [], ◌∷◌, length, reverse, Option, Some, None, IfSome, IsSomeAnd}
 use Rattle.std.specs.List.{AllByRecursion}
 use Rattle.bx_base.specs.declared.names.Actor.{Actor}
 use Rattle.bx_base.specs.declared.names.Actor.TheVariants.{Node, Replica, Server, Member}
 use Rattle.bx_history.specs.Along.{AllowedNewest}
 use Rattle.bx_lease.specs.Readings.{IsTooFarBack, back_by}
-use Rattle.bx_schedule.specs.Placing.{is_down_after}
+use Rattle.bx_opens.specs.bx_cluster.specs.Steps.{greatest_with}
+use Rattle.bx_schedule.specs.Placing.{is_down_after, nodes_after}
 use Rattle.bx_script.specs.Schedule.{HasPlace, reading_of}
 use Rattle.bx_script.specs.declared.line.Line.{Line}
 use Rattle.bx_script.specs.declared.line.Line.TheVariants.{Heading, Call, Run, Tick, Deliver, Next, Sync, Hold, Free, Drop, Crash, CrashAll, Restart, RestartAll, Blank}
@@ -68,20 +69,11 @@ pub record Machines : Type 0 where
   pub greatest : ℕ
   pub down : Actor → Bool
 
-abbrev pub greatest_with : Option ℕ → ℕ → ℕ
-greatest_with None greatest = greatest
-greatest_with (Some reading) greatest = max greatest reading
-
 abbrev pub greatest_of : List Line → ℕ
 greatest_of [] = 0
 greatest_of (line ∷ before) = greatest_with (reading_of line) (greatest_of before)
 
--- the heading's counts
-abbrev pub nodes_in : List Line → ℕ
-nodes_in [] = 0
-nodes_in (Heading volume nodes devices areas ∷ before) = nodes
-nodes_in (line ∷ before) = nodes_in before
-
+-- how many devices the heading has
 abbrev pub devices_in : List Line → ℕ
 devices_in [] = 0
 devices_in (Heading volume nodes devices areas ∷ before) = devices
@@ -89,7 +81,7 @@ devices_in (line ∷ before) = devices_in before
 
 -- behind these lines, the newest first
 abbrev pub after_lines : List Line → Machines
-after_lines before = record { nodes = nodes_in before; devices = devices_in before; greatest = greatest_of before; down = is_down_after before }
+after_lines before = record { nodes = nodes_after before; devices = devices_in before; greatest = greatest_of before; down = is_down_after before }
 
 -- the cluster has a machine
 abbrev pub HasMachine : Machines → Actor → Type 0

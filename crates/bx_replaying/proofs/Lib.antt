@@ -1,9 +1,11 @@
+pub mod Allowed
 pub mod Beginning
 pub mod Causes
 pub mod Doing
 pub mod Held
 pub mod Naming
 pub mod NextLines
+pub mod ReadLines
 pub mod Refusals
 pub mod TraceTexts
 pub mod Weaker

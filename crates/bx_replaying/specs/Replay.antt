@@ -16,7 +16,7 @@ use Rattle.bx_opens.specs.bx_rack_audit.specs.Alone.{StandAlone}
 use Rattle.bx_opens.specs.bx_world_events.specs.Causes.{IsThere as IsInCluster}
 use Rattle.bx_opens.specs.bx_world_events.specs.Refusals.{Seen}
 use Rattle.bx_schedule.specs.Lacking.{AreLacking}
-use Rattle.bx_schedule.specs.Placing.{AreOfLines, Done, parts_of, schedule_of}
+use Rattle.bx_schedule.specs.Placing.{AreOfLines, Done, lines_of, parts_of, schedule_of}
 use Rattle.bx_script.specs.Schedule.{HasPlace}
 use Rattle.bx_script.specs.ScheduleLine.{spelling}
 use Rattle.bx_script.specs.TraceText.{InTraceRange, trace_text}
@@ -53,6 +53,21 @@ pub record Stands (MayStop : Type 0) (Led : Tree → List Part → Type 0) (lack
   pub of_lines : AreOfLines MayStop done
   pub in_range : AllByRecursion InTraceRange (trace_of (parts_of done))
   pub output : written ≡ start ++ trace_text (reverse (trace_of (parts_of done)))
+
+-- What was read of a text, and what is left of it: lines that were done, the newest first, behind which a cluster shows what they tell.
+pub record IsRead (MayStop : Type 0) (seen : Seen) (greatest : ℕ) (text rest : List ℕ) (number : ℕ) : Type 0 where
+  pub done : List Line
+  pub reached : Reached MayStop seen greatest done
+  pub read : IsReadTo text (reverse done) rest
+  pub count : number ≡ length done
+
+-- What was read, done and written.
+pub record Going (MayStop : Type 0) (Led : Tree → List Part → Type 0) (lacking : set.FinSet nat_cmp) (seen : Seen) (greatest : ℕ) (text rest : List ℕ) (number : ℕ) (start written : List ℕ) : Type 0 where
+  pub done : List Done
+  pub reached : Reached MayStop seen greatest (lines_of done)
+  pub read : IsReadTo text (schedule_of done) rest
+  pub count : number ≡ length (lines_of done)
+  pub stands : Stands MayStop Led lacking done start written
 
 -- no fault of a sink, and of a bench, is forgotten, and both go on to tell what they told
 pub record GoesOn (sink_told sink_tells : Type 0) (sink_before sink_now : ℕ) (bench_told bench_tells_now : Type 0) (bench_before bench_now : ℕ) : Type 0 where

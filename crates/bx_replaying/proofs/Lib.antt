@@ -1,10 +1,14 @@
+pub mod Accounting
 pub mod Allowed
 pub mod Beginning
 pub mod Causes
+pub mod Closings
 pub mod Doing
+pub mod Headlines
 pub mod Held
 pub mod Naming
 pub mod NextLines
+pub mod OneHistory
 pub mod ReadLines
 pub mod Refusals
 pub mod TraceTexts

@@ -1,11 +1,11 @@
 -- How a replay stands behind one line more.
-use Rattle.std.proofs.Common.{◌≡◌, ◌⊎◌, ◌+◌, ◌/◌, ◌<◌, ◌≤◌, ◌==◌, ℕ, Bool, true, false, List, [], ◌∷◌, ◌++◌, length, Result, Ok, Err, inl, inr, refl, sym, ap, ◌∙◌, subst, arith, append_assoc, take, drop}
+use Rattle.std.proofs.Common.{◌≡◌, ◌⊎◌, ◌+◌, ◌/◌, ◌<◌, ◌≤◌, ◌==◌, ℕ, Bool, true, false, List, [], ◌∷◌, ◌++◌, length, Result, Ok, Err, inl, inr, refl, sym, ap, ◌∙◌, subst, arith, append_assoc, take}
 use Rattle.std.specs.Prelude.{max, map, reverse, OnErr, OnOk}
 use Rattle.std.specs.FinSet as set
 use Rattle.std.specs.List.{AllByRecursion}
 use Rattle.std.specs.Ordering.{nat_cmp}
 use Rattle.std.proofs.lemmas.Bool.{ne_eqb}
-use Rattle.std.proofs.lemmas.List.{length-reverse, reverse-append, reverse-reverse, take-append-drop}
+use Rattle.std.proofs.lemmas.List.{length-reverse, reverse-append, reverse-reverse}
 use Rattle.bx_base.specs.Faults.{Rose}
 use Rattle.bx_base.specs.declared.names.Actor.{Actor}
 use Rattle.bx_base.specs.declared.names.Actor.TheVariants.{Node, Replica, Server, Member}
@@ -223,9 +223,6 @@ module _ {C R : Type 0} (seen_of : C → Seen) (led_of : C → Disks → Tree �
         text_is : old.text ≡ [] → new.text ≡ trace_text (lines_by is_done.goes.steps)
         text_is none = is_done.goes.text ∙ ap (λ (w : List ℕ). w ++ trace_text (lines_by is_done.goes.steps)) none
 
-    pub stands_part : old.text ≡ [] → (now : List ℕ) (n : ℕ) → now ≡ written ++ take n new.text → (more : List ℕ) × StandsAfter Now (led_of new.cluster (ra.state after)) new.lacking line done start_text (now ++ more)
-    stands_part cleared now n is = (
-      drop n new.text,
-      stands_all cleared (now ++ drop n new.text)
-          (ap (λ (w : List ℕ). w ++ drop n new.text) is ∙ append_assoc written (take n new.text) (drop n new.text) ∙ ap (λ (w : List ℕ). written ++ w) (take-append-drop n new.text)),
-    )
+    pub stands_part : old.text ≡ [] → (now : List ℕ) (n : ℕ) → now ≡ written ++ take n new.text
+        → (text : List ℕ) × (m : ℕ) × (now ≡ written ++ take m text) × StandsAfter Now (led_of new.cluster (ra.state after)) new.lacking line done start_text (written ++ text)
+    stands_part cleared now n is = (new.text, n, is, stands_all cleared (written ++ new.text) refl)

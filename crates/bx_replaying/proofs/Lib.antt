@@ -4,6 +4,7 @@ pub mod Beginning
 pub mod Causes
 pub mod Closings
 pub mod Doing
+pub mod Goings
 pub mod Headlines
 pub mod Held
 pub mod Naming

@@ -175,7 +175,7 @@ abbrev pub DoesLine : Result (Unit {0}) Stop → (List ℕ → Type 0) → List 
 DoesLine (Ok _) After old new = After new
 DoesLine (Err (stops.Refused number reason)) After old new = new ≡ old
 DoesLine (Err stops.ReadFault) After old new = ⊥
-DoesLine (Err stops.WriteFault) After old new = (more : List ℕ) × After (new ++ more)
+DoesLine (Err stops.WriteFault) After old new = (text : List ℕ) × (n : ℕ) × (new ≡ old ++ take n text) × After (old ++ text)
 DoesLine (Err stops.DiskFault) After old new = ⊥
 DoesLine (Err stops.OutOfMemory) After old new = new ≡ old
 
@@ -222,15 +222,14 @@ pub record IsShownAs (disks : Disks) (lacking : ℕ → Bool) (tree : Tree) (poi
   pub points_are : points ≡ filter (λ point. lacking point.call) opened
   pub in_range : AllByRecursion InTraceRange (map Acted points)
 
--- The end was written, or a part of it.
-abbrev pub Ends : Result (Unit {0}) Stop → Disks → (ℕ → Bool) → List ℕ → List ℕ → Type 0
-Ends (Ok _) disks lacking old new = (tree : Tree) × (points : List Point) × IsShownAs disks lacking tree points × (new ≡ old ++ closing_text (map Acted points) tree)
-Ends (Err stops.WriteFault) disks lacking old new =
-    (tree : Tree) × (points : List Point) × IsShownAs disks lacking tree points × ((more : List ℕ) × (new ++ more ≡ old ++ closing_text (map Acted points) tree) × ((wrote : List ℕ) × (new ≡ old ++ wrote)))
-Ends (Err (stops.Refused line reason)) disks lacking old new = ⊥
-Ends (Err stops.ReadFault) disks lacking old new = ⊥
-Ends (Err stops.DiskFault) disks lacking old new = new ≡ old
-Ends (Err stops.OutOfMemory) disks lacking old new = new ≡ old
+-- The end was written, or a part of it, of the tree that the disks stand for.
+abbrev pub Ends : Result (Unit {0}) Stop → Disks → (ℕ → Bool) → Tree → List ℕ → List ℕ → Type 0
+Ends (Ok _) disks lacking tree old new = (points : List Point) × IsShownAs disks lacking tree points × (new ≡ old ++ closing_text (map Acted points) tree)
+Ends (Err stops.WriteFault) disks lacking tree old new = (points : List Point) × IsShownAs disks lacking tree points × ((n : ℕ) × (new ≡ old ++ take n (closing_text (map Acted points) tree)))
+Ends (Err (stops.Refused line reason)) disks lacking tree old new = ⊥
+Ends (Err stops.ReadFault) disks lacking tree old new = ⊥
+Ends (Err stops.DiskFault) disks lacking tree old new = new ≡ old
+Ends (Err stops.OutOfMemory) disks lacking tree old new = new ≡ old
 
 -- A disk failed; or what was held isn't found, which can't be where the bench tells what it holds.
 abbrev pub IsDiskCause : Type 0 → ℕ → ℕ → Type 0

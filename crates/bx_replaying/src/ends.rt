@@ -1,18 +1,18 @@
 //! How a replay ends.
 
-ghost use Rattle.std.specs.Prelude.{◌≡◌, ◌≤◌, ◌++◌, List, ℕ, IfErr, OnOk, false, filter, map};
-ghost use Rattle.bx_base.specs.Faults.{Rose};
-ghost use Rattle.bx_base.specs.declared.names.Point.{Point};
+ghost use Rattle.std.specs.Prelude.{◌≡◌, ◌≤◌, ◌++◌, ℕ, IfErr, IfOk, OnOk, codes, false, filter, map};
+ghost use Rattle.std.specs.FinSet as set;
+ghost use Rattle.std.specs.List.{AllByRecursion};
+ghost use Rattle.bx_base.specs.Text.{ended};
+ghost use Rattle.bx_disk.specs.Disks.{Disks};
 ghost use Rattle.bx_disk.specs.declared.noise.Noise.TheVariants.{Drop};
-ghost use Rattle.bx_history.specs.Parts.{Part};
+ghost use Rattle.bx_model.specs.Listing.{listing};
 ghost use Rattle.bx_model.specs.declared.tree.Tree.{Tree};
-ghost use Rattle.bx_opens.specs.bx_cluster.specs.Closing.{Closes};
 ghost use Rattle.bx_opens.specs.Opening.{AreOpenAlone};
 ghost use Rattle.bx_opens.specs.bx_rack_audit.specs.Alone.{StandAlone};
-ghost use Rattle.bx_schedule.specs.Lacking.{AreLacking};
 ghost use Rattle.bx_schedule.specs.Places.{place_of};
+ghost use Rattle.bx_script.specs.TraceText.{InTraceRange, trace_text};
 ghost use Rattle.bx_script.specs.declared.trace_line.TraceLine.TheVariants.{Acted};
-ghost use Rattle.std.specs.FinSet as set;
 ghost use Rattle.bx_replaying.specs.Bench.{HoldsAny, all_crashed};
 ghost use Rattle.bx_replaying.specs.Replay.{Ends, HasFinishCause, HasPrintCause, UnlessDisk, UnlessWrite};
 
@@ -35,9 +35,8 @@ pub(crate) fn finish<C: Cluster, K: Sink, B: CrashRack>(
     bench: &mut B,
     out: &mut K,
 ) -> Result<(), Stop>
-    ensures ends { (tree : Tree) (parts : List Part) → K.tells out.old → B.tells bench.old → AreLacking (place_of schedule.now).lacking parts
-        → Closes (C.steps schedule.now.cluster) (C.at_once schedule.now.cluster) (StandAlone (all_crashed (B.state bench.old) Drop)) (AreOpenAlone (all_crashed (B.state bench.old) Drop)) tree parts
-        → Ends result (all_crashed (B.state bench.old) Drop) (set.contains (place_of schedule.now).lacking) (K.written out.old) (K.written out.new) }
+    ensures ends { (tree : Tree) → K.tells out.old → B.tells bench.old → StandAlone (all_crashed (B.state bench.old) Drop) tree
+        → Ends result (all_crashed (B.state bench.old) Drop) (set.contains (place_of schedule.now).lacking) tree (K.written out.old) (K.written out.new) }
     ensures drops { B.tells bench.old → OnOk result (B.state bench.new ≡ all_crashed (B.state bench.old) Drop) }
     ensures dropped { (d s : ℕ) → B.tells bench.old → OnOk result ((B.state bench.new).unsure d s ≡ false) }
     ensures bench_first { UnlessDisk result (B.faults bench.new ≡ B.faults bench.old) }
@@ -59,6 +58,12 @@ fn write_closing<C: Cluster, K: Sink>(
     listed: &Listing,
     out: &mut K,
 ) -> Result<(), Stop>
+    ensures ends { (disks : Disks) (tree : Tree) → K.tells out.old → AreOpenAlone disks listed.now.doubt → listed.now.text ≡ listing tree → StandAlone disks tree
+        → Ends result disks (set.contains (place_of schedule.now).lacking) tree (K.written out.old) (K.written out.new) }
+    ensures cause { IfErr result (λ stop. HasPrintCause stop (K.faults out.old) (K.faults out.new)) }
+    ensures first { UnlessWrite result (K.faults out.new ≡ K.faults out.old) }
+    ensures later { K.faults out.old ≤ K.faults out.new }
+    ensures keeps_telling { K.tells out.old → K.tells out.new }
 {
     let text = closing_of(alloc, schedule, listed)?;
     write_all(out, text.as_slice())?;
@@ -72,13 +77,29 @@ fn closing_of<C: Cluster>(
     schedule: &Schedule<C>,
     listed: &Listing,
 ) -> Result<Vec<u8>, OutOfMemory>
+    ensures text { IfOk result (λ text. text.items ≡ ended (codes "end") ++ trace_text (map Acted (filter (λ point. set.contains (place_of schedule.now).lacking point.call) listed.now.doubt))) }
+    ensures in_range { OnOk result (AllByRecursion InTraceRange (map Acted (filter (λ point. set.contains (place_of schedule.now).lacking point.call) listed.now.doubt))) }
 {
     let mut text = Vec::new(alloc);
     text.extend_from_slice(b"end\n")?;
-    for point in listed.doubt.items() {
-        if schedule.lacks_point(point.call) {
-            TraceLine::Acted(*point).append(&mut text)?;
-        }
-    }
+    put_lacking(schedule, listed.doubt.items(), &mut text)?;
     Ok(text)
+}
+
+/// Puts the lines of those points whose calls lack one behind a text, each with its line feed.
+fn put_lacking<C: Cluster>(
+    schedule: &Schedule<C>,
+    points: &[Point],
+    text: &mut Vec<u8>,
+) -> Result<(), OutOfMemory>
+    ensures text { OnOk result (text.new.items ≡ text.old.items ++ trace_text (map Acted (filter (λ point. set.contains (place_of schedule.now).lacking point.call) points.now))) }
+    ensures in_range { OnOk result (AllByRecursion InTraceRange (map Acted (filter (λ point. set.contains (place_of schedule.now).lacking point.call) points.now))) }
+{
+    if let [point, behind @ ..] = points {
+        if schedule.lacks_point(point.call) {
+            TraceLine::Acted(*point).append(text)?;
+        }
+        put_lacking(schedule, behind, text)?;
+    }
+    Ok(())
 }

@@ -14,9 +14,10 @@ use crate::stops::stop_of;
 use bx_disk::CrashRack;
 use bx_opens::Cluster;
 use bx_outside::{Sink, write_all};
-use bx_schedule::Schedule;
+use bx_schedule::{Schedule, down_by_lines, lines_are_placed, parts_stand_apart};
 use bx_script::Line;
 use bx_stops::Stop;
+use bx_world_events::first_cause_is_told;
 use std::alloc::Global;
 
 /// A line and its number, which counts from 1.
@@ -55,6 +56,10 @@ pub(crate) fn step<C: Cluster, K: Sink, B: CrashRack>(
     ensures keeps_telling { K.tells out.old → K.tells out.new }
     ensures bench { KeepsRack B.Rack bench.old bench.new }
 {
+    first_cause_is_told();
+    lines_are_placed();
+    down_by_lines();
+    parts_stand_apart();
     if let Err(error) = schedule.step(alloc, bench, at.line) {
         return Err(stop_of(at.number, error));
     }

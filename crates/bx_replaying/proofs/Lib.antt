@@ -1,12 +1,15 @@
 pub mod Accounting
 pub mod Allowed
 pub mod Beginning
+pub mod Begun
 pub mod Causes
 pub mod Closings
 pub mod Doing
+pub mod Ending
 pub mod Goings
 pub mod Headlines
 pub mod Held
+pub mod Leavings
 pub mod Naming
 pub mod NextLines
 pub mod OneHistory

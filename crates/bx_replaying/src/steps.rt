@@ -3,6 +3,8 @@
 ghost use Rattle.std.specs.Prelude.{◌≡◌, ◌+◌, ◌<◌, ◌≤◌, List, ℕ, length, IfErr, OnOk, ◌∷◌};
 ghost use Rattle.bx_base.specs.Faults.{Rose};
 ghost use Rattle.bx_driver.specs.Racks.{KeepsRack};
+ghost use Rattle.bx_history.specs.Parts.{Part};
+ghost use Rattle.bx_model.specs.declared.tree.Tree.{Tree};
 ghost use Rattle.bx_schedule.specs.Places.{CanGo, place_of};
 ghost use Rattle.bx_schedule.specs.Placing.{Done, lines_of};
 ghost use Rattle.bx_script.specs.Schedule.{HasPlace};
@@ -50,6 +52,7 @@ pub(crate) fn step<C: Cluster, K: Sink, B: CrashRack>(
         → Reached (Rose start (B.faults bench.old)) (C.seen schedule.old.cluster) (place_of schedule.old).clock (lines_of done)
         → Stands (Rose start (B.faults bench.old)) (C.led schedule.old.cluster (B.state bench.old)) (place_of schedule.old).lacking done begun (K.written out.old)
         → DoesLine result (StandsAfter (Rose start (B.faults bench.new)) (C.led schedule.new.cluster (B.state bench.new)) (place_of schedule.new).lacking at.line.now done begun) (K.written out.old) (K.written out.new) }
+    ensures leads { (tree : Tree) (parts : List Part) → B.tells bench.old → C.led schedule.old.cluster (B.state bench.old) tree parts → OnOk result ((now : List Part) × C.led schedule.new.cluster (B.state bench.new) tree now) }
     ensures cause { IfErr result (λ stop. HasStepCause stop at.number (K.faults out.old) (K.faults out.new)) }
     ensures first { UnlessWrite result (K.faults out.new ≡ K.faults out.old) }
     ensures later { K.faults out.old ≤ K.faults out.new }

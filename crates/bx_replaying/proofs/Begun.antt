@@ -23,8 +23,8 @@ module _ (volume nodes devices areas : ℕ) where
   heading = Heading volume nodes devices areas
 
   -- a cluster in which nothing happened yet shows what the heading tells
-  pub reached_first : (MayStop : Type 0) (shape : Shape) (seen : Seen) (greatest : ℕ) → HasPlace true heading → shape.nodes ≡ nodes → shape.devices ≡ devices → greatest ≡ 0 → IsNew shape seen → Reached MayStop seen greatest (heading ∷ [])
-  reached_first MayStop shape seen greatest place nodes_are devices_are zero new = record {
+  pub reached_first : (shape : Shape) (seen : Seen) (greatest : ℕ) → HasPlace true heading → shape.nodes ≡ nodes → shape.devices ≡ devices → greatest ≡ 0 → IsNew shape seen → Reached ⊥ seen greatest (heading ∷ [])
+  reached_first shape seen greatest place nodes_are devices_are zero new = record {
     headed = omega arith;
     are_done = (record { few = omega arith; in_place = place; there = tt; steady = tt; fit = (tt, tt) }, tt);
     shows = record {
@@ -41,12 +41,12 @@ module _ (volume nodes devices areas : ℕ) where
     heading = heading;
     in_place = place;
     begins = begins;
-    reached = λ MayStop. reached_first MayStop shape seen greatest place nodes_are devices_are zero new;
+    reached = reached_first shape seen greatest place nodes_are devices_are zero new;
   }
 
   -- with what led to it: nothing
-  pub stands_first : (MayStop : Type 0) (Led : Tree → List Part → Type 0) (lacking : set.FinSet nat_cmp) (start : List ℕ) → Led (first_tree volume areas) [] → lacking ≡ set.empty → Stands MayStop Led lacking (record { line = heading; parts = [] } ∷ []) start start
-  stands_first MayStop Led lacking start led none = record {
+  pub stands_first : (Led : Tree → List Part → Type 0) (lacking : set.FinSet nat_cmp) (start : List ℕ) → Led (first_tree volume areas) [] → lacking ≡ set.empty → Stands ⊥ Led lacking (record { line = heading; parts = [] } ∷ []) start start
+  stands_first Led lacking start led none = record {
     led = led;
     lacks = λ call. ap (λ (s : set.FinSet nat_cmp). set.contains s call) none ∙ refl;
     of_lines = (

@@ -15,5 +15,7 @@ pub mod NextLines
 pub mod OneHistory
 pub mod ReadLines
 pub mod Refusals
+pub mod Running
+pub mod Stepping
 pub mod TraceTexts
 pub mod Weaker

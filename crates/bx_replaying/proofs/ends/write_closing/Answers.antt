@@ -15,7 +15,7 @@ returns-in_err-write_all-clause-ends g c = λ disks tree tells opened listed sta
     let p = err_from_is_err_and c.from_residual-in_err-write_all.result c.from_residual-in_err-write_all.ensures.1 in
     let lacks = set.contains (place_of c.args.schedule.now).lacking in
     let part = c.in_err-write_all.ensures.part tells in
-    let is = c.as_slice.ensures ∙ c.in_ok-text.ensures.text in
+    let is = c.as_slice.ensures.value ∙ c.in_ok-text.ensures.text in
     rw (p.1, p.2) (points disks lacks tree c.args.listed.now.doubt opened stands, shown disks lacks tree c.args.listed.now.doubt opened stands c.in_ok-text.ensures.in_range, part.0,
       ended_in_points disks lacks tree c.args.listed.now.doubt opened stands _ _ _ part.0 is (let less = part.1 in omega (arith, less)) part.2)
 
@@ -24,13 +24,13 @@ returns-in_err-write_all-2-clause-ends g c = λ disks tree tells opened listed s
     let p = err_from_is_err_and c.from_residual-in_err-write_all-2.result c.from_residual-in_err-write_all-2.ensures.1 in
     let lacks = set.contains (place_of c.args.schedule.now).lacking in
     let part = c.in_err-write_all-2.ensures.part (c.in_ok-write_all.ensures.keeps_telling tells) in
-    let is = c.as_slice.ensures ∙ c.in_ok-text.ensures.text in
+    let is = c.as_slice.ensures.value ∙ c.in_ok-text.ensures.text in
     rw (p.1, p.2) (points disks lacks tree c.args.listed.now.doubt opened stands, shown disks lacks tree c.args.listed.now.doubt opened stands c.in_ok-text.ensures.in_range, length (front disks lacks tree c.args.listed.now.doubt opened stands) + part.0,
       ended_in_listing disks lacks tree c.args.listed.now.doubt opened stands _ _ _ _ _ part.0 is (c.bytes.ensures ∙ listed) (c.in_ok-write_all.ensures.ok tells) part.2)
 
 pub returns-clause-ends : goal.returns-clause-ends
 returns-clause-ends g c = λ disks tree tells opened listed stands.
     let lacks = set.contains (place_of c.args.schedule.now).lacking in
-    let is = c.as_slice.ensures ∙ c.in_ok-text.ensures.text in
+    let is = c.as_slice.ensures.value ∙ c.in_ok-text.ensures.text in
     (points disks lacks tree c.args.listed.now.doubt opened stands, shown disks lacks tree c.args.listed.now.doubt opened stands c.in_ok-text.ensures.in_range,
       ended_whole disks lacks tree c.args.listed.now.doubt opened stands _ _ _ _ _ is (c.bytes.ensures ∙ listed) (c.in_ok-write_all.ensures.ok tells) (c.in_ok-write_all-2.ensures.ok (c.in_ok-write_all.ensures.keeps_telling tells)))

@@ -25,7 +25,7 @@ module _ (Of : Tree → traces.Entry → Tree → Type 0) (at_once : List ℕ �
     (answers : (bytes : List ℕ) → IsAtOnce bytes → at_once bytes) where
   leads : (first last : Tree) (history : List traces.Entry) → LeadsNewest Of first history last → LeadsNewest Step first history last
   leads first last [] is = is
-  leads first last (entry ∷ earlier) is = (is.0, (leads first is.0 earlier is.1, entered is.0 last entry (acts is.0 last entry is.2)))
+  leads first last (entry ∷ earlier) is = (is.0, leads first is.0 earlier is.1, entered is.0 last entry (acts is.0 last entry is.2))
 
   -- what is taken, and sent again, doesn't go by what is answered at once
   same_taken : (parts : List Part) (arrives : Option Arrival) → taken_by (runs.rules at_once) parts arrives ≡ taken_by rules parts arrives

@@ -1,5 +1,5 @@
 -- The headline: what a trace along a schedule says of the file tree.
-use Rattle.std.specs.Prelude.{◌≡◌, List, [], ◌∷◌, ◌++◌}
+use Rattle.std.specs.Prelude.{◌≡◌, ℕ, List, [], ◌∷◌, ◌++◌}
 use Rattle.std.specs.List.{AllByRecursion}
 use Rattle.bx_history.specs.Legal.{Leads}
 use Rattle.bx_history.specs.Placed.{Rules}

@@ -117,13 +117,13 @@ module _ (Of : Tree → traces.Entry → Tree → Type 0) (at_once : List ℕ �
     slot : ℕ
     below : slot < slots
     of : Doubt
-    is : doubts slot ≡ Some of
+    stands_there : doubts slot ≡ Some of
     at : of.point ≡ point
 
   all_of_more : (doubts : ℕ → Option Doubt) (slots : ℕ) (points : List Point) → AllByRecursion (IsOneOf doubts slots) points → AllByRecursion (IsOneOf doubts (suc slots)) points
   all_of_more doubts slots [] all = tt
   all_of_more doubts slots (point ∷ points) all =
-      (record { slot = all.0.slot; below = (let less = all.0.below in omega (arith, less)); of = all.0.of; is = all.0.is; at = all.0.at }, all_of_more doubts slots points all.1)
+      (record { slot = all.0.slot; below = (let less = all.0.below in omega (arith, less)); of = all.0.of; stands_there = all.0.stands_there; at = all.0.at }, all_of_more doubts slots points all.1)
 
   module _ (account : runs.Account Of at_once (opening_of (schedule_of done)) (parts_of done)) (doubts : ℕ → Option Doubt)
       (doubted : (slot : ℕ) (doubt : Doubt) → doubts slot ≡ Some doubt → IsDoubted (parts_of done) doubt)
@@ -147,16 +147,16 @@ module _ (Of : Tree → traces.Entry → Tree → Type 0) (at_once : List ℕ �
             rw (told.open_is) (record {
               closes = closes_more Step rules opening parts earlier middle next told.of.call told.of.point told.acts.reply so_far.closes was.lacks was.of (others earlier so_far.each)
                   (subst (λ (n : ℕ). HasReadingSince n told.of.point.moment parts) (sym was.of) was.since) (entered middle next _ (acts middle next _ told.acts.step));
-              each = all_push (IsOneOf doubts (suc slot)) earlier told.of.point (all_of_more doubts slot earlier so_far.each) (record { slot = slot; below = omega arith; of = told.of; is = told.is; at = refl });
+              each = all_push (IsOneOf doubts (suc slot)) earlier told.of.point (all_of_more doubts slot earlier so_far.each) (record { slot = slot; below = omega arith; of = told.of; stands_there = told.is; at = refl });
             })
           where
             -- a call in doubt in another slot is another call
             apart : (point : Point) → IsOneOf doubts slot point → point.call ≢ told.of.point.call
             apart point one same =
                 let mine = doubted slot told.of told.is in
-                let other = doubted one.slot one.of one.is in
+                let other = doubted one.slot one.of one.stands_there in
                 let number : one.of.call.call ≡ told.of.call.call = sym other.of ∙ ap (λ (p : Point). p.call) one.at ∙ same ∙ mine.of in
-                let one_slot : one.slot ≡ slot = once slot one.slot told.of one.of told.is one.is number in
+                let one_slot : one.slot ≡ slot = once slot one.slot told.of one.of told.is one.stands_there number in
                 let less = one.below in
                 omega (arith, less, one_slot)
 

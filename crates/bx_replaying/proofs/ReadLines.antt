@@ -123,7 +123,7 @@ module _ (MayStop : Type 0) where
       refused_at seen greatest text rest number so_far Grammar (here.0 ∷ here.1) here.2 (outside so_far.done number here.0 here.1 so_far.reached.headed so_far.count here.3)
 
   -- a line in the grammar is turned away
-  turned_away : (done : List Line) (line : Line) (reason : Reason) → 0 < length done → length done < 4294967295 → HasPlace false line → IsRefusedLine MayStop reason (after_lines done) line
+  pub turned_away : (done : List Line) (line : Line) (reason : Reason) → 0 < length done → length done < 4294967295 → HasPlace false line → IsRefusedLine MayStop reason (after_lines done) line
       → IsTurnedAway MayStop (reverse done) (spelling line) reason
   turned_away done line reason some few place why = record {
     few = omega (arith, few, length-reverse done);
@@ -133,7 +133,7 @@ module _ (MayStop : Type 0) where
     why = rw (reverse-reverse done) why;
   }
 
-  line_refused_at : (done : List Line) (line : Line) (others : List (List ℕ)) (reason : Reason) → 0 < length done → length done < 4294967295 → HasPlace false line → IsRefusedLine MayStop reason (after_lines done) line
+  pub line_refused_at : (done : List Line) (line : Line) (others : List (List ℕ)) (reason : Reason) → 0 < length done → length done < 4294967295 → HasPlace false line → IsRefusedLine MayStop reason (after_lines done) line
       → IsRefusedAt MayStop (reverse done) (spelling line ∷ others) reason
   line_refused_at done line others Grammar some few place why = absurd why
   line_refused_at done line others NoMachine some few place why = turned_away done line NoMachine some few place why

@@ -43,7 +43,7 @@ less_so : (a b : ℕ) → (((a < b) → ⊥) → ⊥) → a < b
 less_so a b twice = elim (less_or a b) [ inl is ↦ is | inr none ↦ absurd (twice none) ]
 
 true_false : (b : Bool) → b ≡ true → b ≡ false → ⊥
-true_false b yes no = cc
+true_false b up down = cc
 
 not_false : (b : Bool) → (b ≡ false → ⊥) → b ≡ true
 not_false true none = refl
@@ -174,18 +174,18 @@ module _ (MayStop : Type 0) (machines : Machines) (seen : Seen) (clock : ℕ) (s
         (refl, (steady (λ by. before (errors.NoSuchPacket packet) (errors.ClockBack by) first (omega arith)), named.number_of packet first.stands.0))
     event_refused number errors.Up first =
         let none = before errors.Up errors.NoSuchMachine first (omega arith) in
-        (refl, (there none, (steady (λ by. before errors.Up (errors.ClockBack by) first (omega arith)), ups_down none first.stands)))
+        (refl, (there none, steady (λ by. before errors.Up (errors.ClockBack by) first (omega arith)), ups_down none first.stands))
     event_refused number errors.Down first =
         let none = before errors.Down errors.NoSuchMachine first (omega arith) in
-        (refl, (there none, (steady (λ by. before errors.Down (errors.ClockBack by) first (omega arith)), downs_up none first.stands)))
+        (refl, (there none, steady (λ by. before errors.Down (errors.ClockBack by) first (omega arith)), downs_up none first.stands))
     event_refused number errors.NothingToSync first =
         let none = before errors.NothingToSync errors.NoSuchMachine first (omega arith) in
-        (refl, (there none, (steady (λ by. before errors.NothingToSync (errors.ClockBack by) first (omega arith)),
-          (fit none (before errors.NothingToSync errors.Up first (omega arith)) (before errors.NothingToSync errors.Down first (omega arith)), named.sync_of first.stands.0 first.stands.1))))
+        (refl, (there none, steady (λ by. before errors.NothingToSync (errors.ClockBack by) first (omega arith)),
+          fit none (before errors.NothingToSync errors.Up first (omega arith)) (before errors.NothingToSync errors.Down first (omega arith)), named.sync_of first.stands.0 first.stands.1))
     event_refused number errors.StillNeeded first =
         let none = before errors.StillNeeded errors.NoSuchMachine first (omega arith) in
-        (refl, (there none, (steady (λ by. before errors.StillNeeded (errors.ClockBack by) first (omega arith)),
-          (fit none (before errors.StillNeeded errors.Up first (omega arith)) (before errors.StillNeeded errors.Down first (omega arith)), named.blank_of first.stands.0 first.stands.1))))
+        (refl, (there none, steady (λ by. before errors.StillNeeded (errors.ClockBack by) first (omega arith)),
+          fit none (before errors.StillNeeded errors.Up first (omega arith)) (before errors.StillNeeded errors.Down first (omega arith)), named.blank_of first.stands.0 first.stands.1))
     event_refused number errors.OutOfMemory first = tt
 
   -- ---- readings and lanes

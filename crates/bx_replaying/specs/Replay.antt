@@ -133,12 +133,12 @@ HasLineCause stops.OutOfMemory number before now = Unit {0}
 
 -- ---- the heading
 
--- The text begins with a heading, with which a cluster that shows this was begun; no clock was read.
+-- The text begins with a heading, with which a cluster that shows this was begun; no clock was read, and no machine stopped.
 pub record IsBegun (seen : Seen) (greatest : ℕ) (text rest : List ℕ) : Type 0 where
   pub heading : Line
   pub in_place : HasPlace true heading
   pub begins : BeginsWith text (spelling heading) rest
-  pub reached : (MayStop : Type 0) → Reached MayStop seen greatest (heading ∷ [])
+  pub reached : Reached ⊥ seen greatest (heading ∷ [])
 
 -- what a read of the heading gives
 abbrev pub Begins : {A : Type 0} → (A → Seen) → (A → ℕ) → Result A Stop → List ℕ → List ℕ → List ℕ → Type 0
@@ -151,8 +151,8 @@ Begins seen greatest (Err stops.OutOfMemory) text rest left = Unit {0}
 
 -- The heading that the text begins with has no events: with it the cluster stands for what was written before.
 abbrev pub BeginsLed : {A : Type 0} → (A → Tree → List Part → Type 0) → (A → set.FinSet nat_cmp) → Result A Stop → List ℕ → Type 0
-BeginsLed Led lacking (Ok begun) text = (MayStop : Type 0) (heading : Line) (rest start : List ℕ) → HasPlace true heading → BeginsWith text (spelling heading) rest
-    → Stands MayStop (Led begun) (lacking begun) (record { line = heading; parts = [] } ∷ []) start start
+BeginsLed Led lacking (Ok begun) text = (heading : Line) (rest start : List ℕ) → HasPlace true heading → BeginsWith text (spelling heading) rest
+    → Stands ⊥ (Led begun) (lacking begun) (record { line = heading; parts = [] } ∷ []) start start
 BeginsLed Led lacking (Err stop) text = Unit {0}
 
 -- why a replay doesn't begin: the faults of the source and of the bench, before and now

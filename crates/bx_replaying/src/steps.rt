@@ -1,8 +1,10 @@
 //! One line of a schedule.
 
-ghost use Rattle.std.specs.Prelude.{◌≡◌, ◌+◌, ◌<◌, ◌≤◌, List, ℕ, length, IfErr, OnOk, ◌∷◌};
+ghost use Rattle.std.specs.Prelude.{◌≡◌, ◌+◌, ◌<◌, ◌≤◌, List, ℕ, false, length, IfErr, OnOk, ◌∷◌};
 ghost use Rattle.bx_base.specs.Faults.{Rose};
 ghost use Rattle.bx_driver.specs.Racks.{KeepsRack};
+ghost use Rattle.bx_history.specs.Parts.{Part};
+ghost use Rattle.bx_model.specs.declared.tree.Tree.{Tree};
 ghost use Rattle.bx_schedule.specs.Places.{CanGo, place_of};
 ghost use Rattle.bx_schedule.specs.Placing.{Done, lines_of};
 ghost use Rattle.bx_script.specs.Schedule.{HasPlace};
@@ -43,14 +45,15 @@ pub(crate) fn step<C: Cluster, K: Sink, B: CrashRack>(
     ensures goes { OnOk result (CanGo C.seen C.room B.Rack (place_of schedule.new) bench.new) }
     ensures counted { OnOk result (C.events schedule.new.cluster ≤ C.events schedule.old.cluster + 20) }
     ensures reaches { (start : ℕ) (done : List Line) → start ≤ B.faults bench.old → length done < 4294967295 → Reached (Rose start (B.faults bench.old)) (C.seen schedule.old.cluster) (place_of schedule.old).clock done
-        → OnOk result (Reached (Rose start (B.faults bench.new)) (C.seen schedule.new.cluster) (place_of schedule.new).clock (at.line.now ∷ done)) }
+        → OnOk result (Reached (Rose start (B.faults bench.new)) (C.seen schedule.new.cluster) (place_of schedule.new).clock (at.entry.line.now ∷ done)) }
     ensures refused { (start : ℕ) (done : List Line) → start ≤ B.faults bench.old → Reached (Rose start (B.faults bench.old)) (C.seen schedule.old.cluster) (place_of schedule.old).clock done
-        → IfErr result (λ stop. IsRefusedFor (Rose start (B.faults bench.old)) stop at.number (after_lines done) at.line.now) }
+        → IfErr result (λ stop. IsRefusedFor (Rose start (B.faults bench.old)) stop at.entry.number (after_lines done) at.entry.line.now) }
     ensures does { (start : ℕ) (done : List Done) (begun : List ℕ) → K.tells out.old → B.tells bench.old → start ≤ B.faults bench.old
         → Reached (Rose start (B.faults bench.old)) (C.seen schedule.old.cluster) (place_of schedule.old).clock (lines_of done)
         → Stands (Rose start (B.faults bench.old)) (C.led schedule.old.cluster (B.state bench.old)) (place_of schedule.old).lacking done begun (K.written out.old)
-        → DoesLine result (StandsAfter (Rose start (B.faults bench.new)) (C.led schedule.new.cluster (B.state bench.new)) (place_of schedule.new).lacking at.line.now done begun) (K.written out.old) (K.written out.new) }
-    ensures cause { IfErr result (λ stop. HasStepCause stop at.number (K.faults out.old) (K.faults out.new)) }
+        → DoesLine result (StandsAfter (Rose start (B.faults bench.new)) (C.led schedule.new.cluster (B.state bench.new)) (place_of schedule.new).lacking at.entry.line.now done begun) (K.written out.old) (K.written out.new) }
+    ensures leads { (tree : Tree) (parts : List Part) → B.tells bench.old → C.led schedule.old.cluster (B.state bench.old) tree parts → OnOk result ((now : List Part) × C.led schedule.new.cluster (B.state bench.new) tree now) }
+    ensures cause { IfErr result (λ stop. HasStepCause stop at.entry.number (K.faults out.old) (K.faults out.new)) }
     ensures first { UnlessWrite result (K.faults out.new ≡ K.faults out.old) }
     ensures later { K.faults out.old ≤ K.faults out.new }
     ensures keeps_telling { K.tells out.old → K.tells out.new }

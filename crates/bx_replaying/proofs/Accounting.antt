@@ -1,10 +1,9 @@
 -- What a cluster's parts account for, as steps of the file tree.
-use Rattle.std.proofs.Common.{◌≡◌, ℕ, false, List, [], ◌∷◌, Option, Some, None, refl, subst}
-use Rattle.std.specs.List.{AllByRecursion}
-use Rattle.bx_history.specs.Account.{AwaitsNewest, entry_for}
+use Rattle.std.proofs.Common.{◌≡◌, ℕ, List, [], ◌∷◌, Option, Some, None, refl, subst}
+use Rattle.bx_history.specs.Account.{AwaitsNewest}
 use Rattle.bx_history.specs.Legal.{LeadsNewest}
-use Rattle.bx_history.specs.Parts.{Arrival, Part, has_ended, waiting}
-use Rattle.bx_history.specs.Placed.{IsAnsweredAtOnce, IsAnsweredIn, IsImmediateAt, IsPart, PlacedNewest, Repeat, again_by, again_in, taken_by, taken_in}
+use Rattle.bx_history.specs.Parts.{Arrival, Part}
+use Rattle.bx_history.specs.Placed.{IsImmediateAt, IsPart, PlacedNewest, Repeat, again_by, again_in, taken_by, taken_in}
 use Rattle.bx_history.specs.Trace as traces
 use Rattle.bx_history.proofs.Lists.{all_mapped}
 use Rattle.bx_model.specs.declared.tree.Tree.{Tree}

@@ -6,6 +6,7 @@ pub mod Causes
 pub mod Closings
 pub mod Doing
 pub mod Ending
+pub mod Finishing
 pub mod Goings
 pub mod Headlines
 pub mod Held

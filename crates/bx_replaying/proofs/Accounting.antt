@@ -1,10 +1,9 @@
 -- What a cluster's parts account for, as steps of the file tree.
-use Rattle.std.proofs.Common.{◌≡◌, ℕ, false, List, [], ◌∷◌, Option, Some, None, refl, subst}
-use Rattle.std.specs.List.{AllByRecursion}
-use Rattle.bx_history.specs.Account.{AwaitsNewest, entry_for}
+use Rattle.std.proofs.Common.{◌≡◌, ℕ, List, [], ◌∷◌, Option, Some, None, refl, subst}
+use Rattle.bx_history.specs.Account.{AwaitsNewest}
 use Rattle.bx_history.specs.Legal.{LeadsNewest}
-use Rattle.bx_history.specs.Parts.{Arrival, Part, has_ended, waiting}
-use Rattle.bx_history.specs.Placed.{IsAnsweredAtOnce, IsAnsweredIn, IsImmediateAt, IsPart, PlacedNewest, Repeat, again_by, again_in, taken_by, taken_in}
+use Rattle.bx_history.specs.Parts.{Arrival, Part}
+use Rattle.bx_history.specs.Placed.{IsImmediateAt, IsPart, PlacedNewest, Repeat, again_by, again_in, taken_by, taken_in}
 use Rattle.bx_history.specs.Trace as traces
 use Rattle.bx_history.proofs.Lists.{all_mapped}
 use Rattle.bx_model.specs.declared.tree.Tree.{Tree}
@@ -25,7 +24,7 @@ module _ (Of : Tree → traces.Entry → Tree → Type 0) (at_once : List ℕ �
     (answers : (bytes : List ℕ) → IsAtOnce bytes → at_once bytes) where
   leads : (first last : Tree) (history : List traces.Entry) → LeadsNewest Of first history last → LeadsNewest Step first history last
   leads first last [] is = is
-  leads first last (entry ∷ earlier) is = (is.0, (leads first is.0 earlier is.1, entered is.0 last entry (acts is.0 last entry is.2)))
+  leads first last (entry ∷ earlier) is = (is.0, leads first is.0 earlier is.1, entered is.0 last entry (acts is.0 last entry is.2))
 
   -- what is taken, and sent again, doesn't go by what is answered at once
   same_taken : (parts : List Part) (arrives : Option Arrival) → taken_by (runs.rules at_once) parts arrives ≡ taken_by rules parts arrives

@@ -48,7 +48,7 @@ module _ (volume nodes devices areas : ℕ) where
   pub stands_first : (Led : Tree → List Part → Type 0) (lacking : set.FinSet nat_cmp) (start : List ℕ) → Led (first_tree volume areas) [] → lacking ≡ set.empty → Stands ⊥ Led lacking (record { line = heading; parts = [] } ∷ []) start start
   stands_first Led lacking start led none = record {
     led = led;
-    lacks = λ call. ap (λ (s : set.FinSet nat_cmp). set.contains s call) none ∙ refl;
+    lacks = λ call. ap (λ (s : set.FinSet nat_cmp). set.contains s call) none ∙ set.contains-empty nat_cmp call;
     of_lines = (
       record {
         each = tt;

@@ -99,9 +99,9 @@ headline_of MayStop done points history last next is accounts closes in_range =
     }
 
 module _ (Of : Tree → traces.Entry → Tree → Type 0) (at_once : List ℕ → Type 0) (acts : (tree next : Tree) (entry : traces.Entry) → Of tree entry next → runs.StepOf engine.Step tree entry next)
-    (answers : (bytes : List ℕ) → IsAtOnce bytes → at_once bytes) (MayStop : Type 0) (done : List Done) (is : IsOfLines MayStop done) where
-  abbrev first : Tree
-  first = opening_of (schedule_of done)
+    (answers : (bytes : List ℕ) → IsAtOnce bytes → at_once bytes) (MayStop : Type 0) (done : List Done) (stood : IsOfLines MayStop done) where
+  abbrev opening : Tree
+  opening = opening_of (schedule_of done)
 
   abbrev parts : List Part
   parts = parts_of done
@@ -109,8 +109,8 @@ module _ (Of : Tree → traces.Entry → Tree → Type 0) (at_once : List ℕ �
   -- the trace alone
   pub headline : (account : runs.Account Of at_once (opening_of (schedule_of done)) (parts_of done)) → Headline MayStop (schedule_of done) (reverse (trace_of (parts_of done))) [] account.last
   headline account =
-      let accounts = typed_account Of at_once acts answers first account.last parts account.history (waiting parts) account.accounts in
-      headline_of MayStop done [] account.history account.last account.last is accounts (closes_none Step rules first parts account.history account.last (waiting parts) accounts) tt
+      let accounts = typed_account Of at_once acts answers opening account.last parts account.history (waiting parts) account.accounts in
+      headline_of MayStop done [] account.history account.last account.last stood accounts (closes_none Step rules opening parts account.history account.last (waiting parts) accounts) tt
 
   -- a point that is told is that of a call in doubt in one of the first so many slots
   record IsOneOf (doubts : ℕ → Option Doubt) (slots : ℕ) (point : Point) : Type 0 where
@@ -128,16 +128,16 @@ module _ (Of : Tree → traces.Entry → Tree → Type 0) (at_once : List ℕ �
   module _ (account : runs.Account Of at_once (opening_of (schedule_of done)) (parts_of done)) (doubts : ℕ → Option Doubt)
       (doubted : (slot : ℕ) (doubt : Doubt) → doubts slot ≡ Some doubt → IsDoubted (parts_of done) doubt)
       (once : (slot other : ℕ) (doubt twin : Doubt) → doubts slot ≡ Some doubt → doubts other ≡ Some twin → twin.call.call ≡ doubt.call.call → other ≡ slot) where
-    abbrev accounts : AwaitsNewest Step rules first parts account.history account.last (waiting parts)
-    accounts = typed_account Of at_once acts answers first account.last parts account.history (waiting parts) account.accounts
+    abbrev accounts : AwaitsNewest Step rules opening parts account.history account.last (waiting parts)
+    accounts = typed_account Of at_once acts answers opening account.last parts account.history (waiting parts) account.accounts
 
     -- what is told at the end, by the calls in doubt in the first so many slots
     record ClosesSlots (slots : ℕ) (next : Tree) (opened : List Point) : Type 0 where
-      closes : IsClosed Step rules first parts opened next
+      closes : IsClosed Step rules opening parts opened next
       each : AllByRecursion (IsOneOf doubts slots) opened
 
     closing : (slots : ℕ) (next : Tree) (opened : List Point) → Tells Of doubts slots account.last next opened → ClosesSlots slots next opened
-    closing zero next opened told = rw (told.0, told.1) (record { closes = closes_none Step rules first parts account.history account.last (waiting parts) accounts; each = tt })
+    closing zero next opened told = rw (told.0, told.1) (record { closes = closes_none Step rules opening parts account.history account.last (waiting parts) accounts; each = tt })
     closing (suc slot) next opened (middle, earlier, before, now) = by (closing slot middle earlier before) now
       where
         by : ClosesSlots slot middle earlier → (((next ≡ middle) × (opened ≡ earlier)) ⊎ HasActed Of middle (doubts slot) next earlier opened) → ClosesSlots (suc slot) next opened
@@ -145,7 +145,7 @@ module _ (Of : Tree → traces.Entry → Tree → Type 0) (at_once : List ℕ �
         by so_far (inr told) =
             let was = doubted slot told.of told.is in
             rw (told.open_is) (record {
-              closes = closes_more Step rules first parts earlier middle next told.of.call told.of.point told.acts.reply so_far.closes was.lacks was.of (others earlier so_far.each)
+              closes = closes_more Step rules opening parts earlier middle next told.of.call told.of.point told.acts.reply so_far.closes was.lacks was.of (others earlier so_far.each)
                   (subst (λ (n : ℕ). HasReadingSince n told.of.point.moment parts) (sym was.of) was.since) (entered middle next _ (acts middle next _ told.acts.step));
               each = all_push (IsOneOf doubts (suc slot)) earlier told.of.point (all_of_more doubts slot earlier so_far.each) (record { slot = slot; below = omega arith; of = told.of; stands_there = told.is; at = refl });
             })
@@ -167,7 +167,7 @@ module _ (Of : Tree → traces.Entry → Tree → Type 0) (at_once : List ℕ �
     -- with what is told at the end
     pub headline_told : (slots : ℕ) (next : Tree) (opened : List Point) → Tells Of doubts slots account.last next opened → AllByRecursion InTraceRange (map Acted opened)
         → Headline MayStop (schedule_of done) (reverse (trace_of (parts_of done))) (map Acted opened) next
-    headline_told slots next opened told in_range = headline_of MayStop done opened account.history account.last next is accounts (closing slots next opened told).closes in_range
+    headline_told slots next opened told in_range = headline_of MayStop done opened account.history account.last next stood accounts (closing slots next opened told).closes in_range
 
 -- before the first line
 pub no_headline : (MayStop : Type 0) → Headline MayStop [] [] [] (first_tree 0 1)

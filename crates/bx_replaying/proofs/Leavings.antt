@@ -1,5 +1,5 @@
 -- What a replay leaves, by what stopped it.
-use Rattle.std.proofs.Common.{◌≡◌, ℕ, ◌+◌, ◌<◌, ◌≤◌, ◌==◌, Bool, List, [], ◌∷◌, ◌++◌, length, ap, Result, Ok, Err, inl, inr, take}
+use Rattle.std.proofs.Common.{◌≡◌, ℕ, ◌+◌, ◌<◌, ◌≤◌, ◌==◌, Bool, false, List, [], ◌∷◌, ◌++◌, length, ap, Result, Ok, Err, inl, inr, take}
 use Rattle.std.specs.Prelude.{IfErr, ◌⊎◌, map}
 use Rattle.std.specs.FinSet as set
 use Rattle.std.specs.Ordering.{nat_cmp}
@@ -76,7 +76,7 @@ module _ (MayStop Tells : Type 0) (Stands : Tree → List TraceLine → Type 0) 
     finish_stops (stops.Refused n reason) left new before now Held bench_before bench_now cause ends = absurd cause
     finish_stops stops.ReadFault left new before now Held bench_before bench_now cause ends = absurd cause
     finish_stops stops.WriteFault left new before now Held bench_before bench_now cause ends =
-        λ tells. (let it = ends tells in stops_unfinished MayStop Led lacking seen greatest text number start old (going tells) (tree tells) it.0 (closes tells it.0 it.1) new it.2 it.3)
+        λ tells. (let it = ends tells in stops_unfinished MayStop Led lacking seen greatest text number start old (going tells) (tree tells) it.0 (closes tells it.0 it.1) new it.2.0 it.2.1)
     finish_stops stops.DiskFault left new before now Held bench_before bench_now cause ends =
         λ tells. rw (ends tells) (stops_broken MayStop Led lacking seen greatest text [] number start old (going tells) (heads tells))
     finish_stops stops.OutOfMemory left new before now Held bench_before bench_now cause ends =

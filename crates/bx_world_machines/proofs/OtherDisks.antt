@@ -109,19 +109,19 @@ module _ {G O S E T : Type 0} (g : register.Ghosts G) (o : owners.Ghosts O) (st 
   abbrev pub its_course : Course
   its_course = lettered standing.course letters
 
-  its_stand : NodesStand g o st (e.stands machines.nodes.engine) (e.step machines.nodes.engine) machines.nodes.register machines.nodes.owners machines.nodes.store x letters standing.clocks (views machines.nodes.machines.items) its_course tree
+  pub its_stand : NodesStand g o st (e.stands machines.nodes.engine) (e.step machines.nodes.engine) machines.nodes.register machines.nodes.owners machines.nodes.store x letters standing.clocks (views machines.nodes.machines.items) its_course tree
   its_stand = lost g o st (e.stands machines.nodes.engine) (e.step machines.nodes.engine) laws machines.nodes.register machines.nodes.owners machines.nodes.store x letters letters standing.clocks (views machines.nodes.machines.items) standing.course tree standing.stands
       (λ letter has. has)
 
   -- they stand on other disks
-  pub machines_on : (y : Disks) → StandOn g st machines.nodes.register machines.nodes.store x y its_course → Standing g o st e machines letters y tree
+  abbrev pub machines_on : (y : Disks) → StandOn g st machines.nodes.register machines.nodes.store x y its_course → Standing g o st e machines letters y tree
   machines_on y on = record {
     clocks = standing.clocks;
     course = its_course;
     are_clocks = standing.are_clocks;
     stands = stands_on g o st (e.stands machines.nodes.engine) (e.step machines.nodes.engine) laws machines.nodes.register machines.nodes.owners machines.nodes.store x y letters standing.clocks (views machines.nodes.machines.items) standing.course tree its_stand on;
     told = standing.told;
-    doubts = standing.doubts;
+    doubts = record { came = standing.doubts.came; over = standing.doubts.over; opening = standing.doubts.opening; once = standing.doubts.once };
     known = standing.known;
   }
 

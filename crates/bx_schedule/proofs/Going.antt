@@ -19,7 +19,7 @@ use Rattle.bx_world_events.specs.declared.event.Event.{Event}
 use Rattle.bx_schedule.specs.Doing.{AreNone}
 use Rattle.bx_schedule.specs.Places.{Acts, Goes, Place, has_stopped, lines_by}
 use Rattle.bx_schedule.proofs.Acting.{keeps_both, keeps_none, rose_before, rose_later}
-use Rattle.bx_schedule.proofs.Telling.{text_more}
+use Rattle.bx_schedule.proofs.Telling.{range_more, text_more}
 
 module _ {C R : Type 0} (seen_of : C → Seen) (led_of : C → Disks → Tree → List Part → Type 0) (ra : racks.Ghosts R) where
   -- nothing was done
@@ -33,6 +33,7 @@ module _ {C R : Type 0} (seen_of : C → Seen) (led_of : C → Disks → Tree �
     leads = λ tree parts tells led. leads tree parts led;
     lacks = λ tree parts tells led were call. ap (λ s. set.contains s call) lacking ∙ were call;
     text = text ∙ sym (append-nil old.text);
+    in_range = tt;
     disks = λ tells. state;
     blamed = λ is. cc;
     keeps = keeps;
@@ -49,6 +50,7 @@ module _ {C R : Type 0} (seen_of : C → Seen) (led_of : C → Disks → Tree �
     lacks = λ tree parts tells led were. two.lacks tree (parts_with one.steps parts) (one.keeps.tells tells) (one.leads tree parts tells led) (one.lacks tree parts tells led were);
     text = two.text ∙ ap (λ (l : List ℕ). l ++ trace_text (reverse (lines_in event two.outcome))) one.text ∙ append_assoc old.text (trace_text (lines_by one.steps)) (trace_text (reverse (lines_in event two.outcome)))
         ∙ ap (λ (l : List ℕ). old.text ++ l) (sym (text_more step one.steps));
+    in_range = range_more step one.steps one.in_range two.in_range;
     disks = λ tells.
         let left = two.disks (one.keeps.tells tells) in
         (seen_of mid.cluster, ra.state between, left.0, one.disks tells, two.goes, left.1, left.2);
@@ -68,7 +70,7 @@ module _ {C R : Type 0} (seen_of : C → Seen) (led_of : C → Disks → Tree �
       → ((steps : List Step) → These (seen_of old.cluster) steps (seen_of new.cluster) → Those (seen_of old.cluster) steps (seen_of new.cluster))
       → Goes seen_of led_of ra These noise old before new after → Goes seen_of led_of ra Those noise old before new after
   goes_as These Those noise old new before after more one =
-      record { steps = one.steps; is = more one.steps one.is; leads = one.leads; lacks = one.lacks; text = one.text; disks = one.disks; blamed = one.blamed; keeps = one.keeps }
+      record { steps = one.steps; is = more one.steps one.is; leads = one.leads; lacks = one.lacks; text = one.text; in_range = one.in_range; disks = one.disks; blamed = one.blamed; keeps = one.keeps }
 
   -- an event alone, behind its reading
   pub goes_alone : (noise : Noise) (event : Event) (old : Place C) (clock : ℕ) (new : Place C) (before after : R)

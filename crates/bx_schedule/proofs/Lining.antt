@@ -287,6 +287,7 @@ module _ {C R : Type 0} (seen_of : C → Seen) (led_of : C → Disks → Tree �
         leads = goes.leads;
         lacks = goes.lacks;
         text = goes.text;
+        in_range = goes.in_range;
         disks = goes.disks;
         blamed = goes.blamed;
         keeps = goes.keeps;

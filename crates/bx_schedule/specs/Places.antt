@@ -1,7 +1,7 @@
 -- How a schedule stands between its events, and what is done from one such place to another.
 use Rattle.std.specs.Prelude.{◌≡◌, ℕ, ◌+◌, ◌≤◌, Bool, true, List, [], ◌∷◌, ◌++◌, reverse, is_some, IsSome, IfSome}
 use Rattle.std.specs.FinSet as set
-use Rattle.std.specs.List.{list_any}
+use Rattle.std.specs.List.{AllByRecursion, list_any}
 use Rattle.std.specs.Ordering.{nat_cmp}
 use Rattle.bx_base.specs.Faults.{Rose}
 use Rattle.bx_cluster.specs.Steps.{lines_in, part_at}
@@ -14,7 +14,7 @@ use Rattle.bx_driver.specs.Racks.{KeepsRack}
 use Rattle.bx_driver.specs.Steps.{IsStep, Step, parts_with}
 use Rattle.bx_history.specs.Parts.{Part, trace_of}
 use Rattle.bx_model.specs.declared.tree.Tree.{Tree}
-use Rattle.bx_script.specs.TraceText.{trace_text}
+use Rattle.bx_script.specs.TraceText.{InTraceRange, trace_text}
 use Rattle.bx_script.specs.declared.trace_line.TraceLine.{TraceLine}
 use Rattle.bx_world_events.specs.Events.{reading_of}
 use Rattle.bx_world_events.specs.Refusals.{Seen}
@@ -88,18 +88,20 @@ module _ {C R : Type 0} (seen_of : C → Seen) (led_of : C → Disks → Tree �
     pub leads : (tree : Tree) (parts : List Part) → ra.tells before → led_of old.cluster (ra.state before) tree parts → led_of new.cluster (ra.state after) tree (part_at event outcome ∷ parts)
     pub lacks : (tree : Tree) (parts : List Part) → ra.tells before → led_of old.cluster (ra.state before) tree parts → AreLacking old.lacking parts → AreLacking new.lacking (part_at event outcome ∷ parts)
     pub text : new.text ≡ old.text ++ trace_text (reverse (lines_in event outcome))
+    pub in_range : AllByRecursion InTraceRange (reverse (lines_in event outcome))
     pub disks : ra.tells before → (left : Disks) × (left.sizes ≡ (ra.state before).sizes) × (ra.state after ≡ moved (seen_of new.cluster) noise event left)
     pub blamed : IsSome outcome.stopped → Rose (ra.faults before) (ra.faults after)
     pub keeps : KeepsRack ra before after
 
   -- Steps that are so were done, each with what was done to the disk of its machine: what led to the cluster and which calls lack their points goes on by their parts, their lines
-  -- of the trace come behind the text, and where one stopped a machine a fault of a disk rose.
+  -- of the trace, which are in range, come behind the text, and where one stopped a machine a fault of a disk rose.
   pub record Goes (Is : Seen → List Step → Seen → Type 0) (noise : Noise) (old : Place C) (before : R) (new : Place C) (after : R) : Type 0 where
     pub steps : List Step
     pub is : Is (seen_of old.cluster) steps (seen_of new.cluster)
     pub leads : (tree : Tree) (parts : List Part) → ra.tells before → led_of old.cluster (ra.state before) tree parts → led_of new.cluster (ra.state after) tree (parts_with steps parts)
     pub lacks : (tree : Tree) (parts : List Part) → ra.tells before → led_of old.cluster (ra.state before) tree parts → AreLacking old.lacking parts → AreLacking new.lacking (parts_with steps parts)
     pub text : new.text ≡ old.text ++ trace_text (lines_by steps)
+    pub in_range : AllByRecursion InTraceRange (lines_by steps)
     pub disks : ra.tells before → AreDisks noise (seen_of new.cluster) steps (ra.state before) (ra.state after)
     pub blamed : has_stopped steps ≡ true → Rose (ra.faults before) (ra.faults after)
     pub keeps : KeepsRack ra before after

@@ -1,10 +1,11 @@
 //! One event of a line.
 
 ghost use Rattle.std.specs.Prelude.{◌≡◌, ◌<◌, ◌++◌, ◌⊎◌, IfErr, None, OnOk, Some, reverse};
+ghost use Rattle.std.specs.List.{AllByRecursion};
 ghost use Rattle.bx_cluster.specs.Steps.{Counted, IsMoment, greatest_with, lines_in};
 ghost use Rattle.bx_driver.specs.Racks.{KeepsRack};
 ghost use Rattle.bx_driver.specs.Steps.{IsOne};
-ghost use Rattle.bx_script.specs.TraceText.{trace_text};
+ghost use Rattle.bx_script.specs.TraceText.{InTraceRange, trace_text};
 ghost use Rattle.bx_world_events.specs.Events.{reading_of};
 ghost use Rattle.bx_world_events.specs.Refusals.{refusal};
 ghost use Rattle.bx_world_events.specs.declared.event.EventError.TheVariants.{OutOfMemory as NoMemory};
@@ -56,6 +57,7 @@ impl<C: Cluster> Schedule<C> {
     /// Puts the lines of an event behind the text.
     fn note(&mut self, alloc: Global, event: &Event, outcome: &Outcome) -> Result<(), OutOfMemory>
         ensures text { OnOk result (self.new.text.items ≡ self.old.text.items ++ trace_text (reverse (lines_in event.now outcome.now))) }
+        ensures in_range { OnOk result (AllByRecursion InTraceRange (reverse (lines_in event.now outcome.now))) }
         ensures lacking { OnOk result (self.new.lacking ≡ lacking_with (lines_in event.now outcome.now) self.old.lacking) }
         ensures same { self.new ≡ record self.old { text = self.new.text; lacking = self.new.lacking } }
     {

@@ -8,6 +8,7 @@ mod disks;
 mod event_of;
 mod events;
 mod lanes;
+mod laws;
 mod lines;
 mod runs;
 mod schedule;
@@ -15,4 +16,5 @@ mod steps;
 mod tells;
 mod turns;
 
+pub use laws::{down_by_lines, each_has_its_turn, lines_are_placed, one_cause, parts_stand_apart};
 pub use schedule::Schedule;

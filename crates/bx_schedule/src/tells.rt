@@ -1,8 +1,9 @@
 //! Lines of the trace that come.
 
 ghost use Rattle.std.specs.Prelude.{◌≡◌, ◌++◌, OnOk, reverse};
+ghost use Rattle.std.specs.List.{AllByRecursion};
 ghost use Rattle.bx_base.specs.Text.{ended};
-ghost use Rattle.bx_script.specs.TraceText.{trace_spelling, trace_text};
+ghost use Rattle.bx_script.specs.TraceText.{InTraceRange, trace_spelling, trace_text};
 ghost use Rattle.bx_schedule.specs.Lacking.{lacking_by, lacking_with};
 
 use crate::calls::Calls;
@@ -17,6 +18,7 @@ pub(crate) fn tell_all(
 ) -> Result<(), OutOfMemory>
     ensures text { OnOk result (text.new.items ≡ text.old.items ++ trace_text lines.now) }
     ensures lacking { OnOk result (lacking.new ≡ lacking_with (reverse lines.now) lacking.old) }
+    ensures in_range { OnOk result (AllByRecursion InTraceRange lines.now) }
 {
     for line in lines {
         tell(text, lacking, line)?;
@@ -28,6 +30,7 @@ pub(crate) fn tell_all(
 fn tell(text: &mut Vec<u8>, lacking: &mut Calls, line: &TraceLine) -> Result<(), OutOfMemory>
     ensures text { OnOk result (text.new.items ≡ text.old.items ++ ended (trace_spelling line.now)) }
     ensures lacking { OnOk result (lacking.new ≡ lacking_by line.now lacking.old) }
+    ensures in_range { InTraceRange line.now }
 {
     line.append(text)?;
     match line {

@@ -17,4 +17,4 @@ returns-clause-acts g c =
     (ap (λ (s : Schedule g.row.C.Denot). s.cluster) c.note.ensures.same) c.requires.allowed c.in-Ok.ensures.shows (λ tree parts tells led. c.in-Ok.ensures.at tree parts tells led)
     (λ tree parts tells led. c.in_ok-move_disk.ensures.led tree parts tells led)
     (λ x tree parts led. let account = g.met.C.Cluster.accounts c.step.new.self x tree parts led in (256, account.history, account.accounts.fits))
-    c.in_ok-note.ensures.text c.in_ok-note.ensures.lacking (λ tells. c.in_ok-move_disk.ensures.moved tells) c.in-Ok.ensures.stopped keeps c.move_disk.ensures.keeps
+    c.in_ok-note.ensures.text c.in_ok-note.ensures.in_range c.in_ok-note.ensures.lacking (λ tells. c.in_ok-move_disk.ensures.moved tells) c.in-Ok.ensures.stopped keeps c.move_disk.ensures.keeps

@@ -1,6 +1,6 @@
 //! Lines that name a lane.
 
-ghost use Rattle.std.specs.Prelude.{◌≡◌, ◌⊎◌, IfErr, IfSome, None, OnOk, ℕ, List};
+ghost use Rattle.std.specs.Prelude.{◌≡◌, ◌⊎◌, IfErr, OnOk, ℕ, List};
 ghost use Rattle.std.specs.FinSet as set;
 ghost use Rattle.bx_driver.specs.Drops.{GoesOn, dropped};
 ghost use Rattle.bx_driver.specs.Lanes.{HasMachines};

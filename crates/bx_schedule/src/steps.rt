@@ -1,8 +1,7 @@
 //! One line of a schedule.
 
 ghost use Rattle.std.specs.Prelude.{◌≡◌, ◌+◌, ◌<◌, ◌≤◌, OnOk, false};
-ghost use Rattle.bx_script.specs.Schedule.{HasPlace, is_heading};
-ghost use Rattle.bx_script.specs.ScheduleLine.{InRange};
+ghost use Rattle.bx_script.specs.Schedule.{HasPlace};
 ghost use Rattle.bx_schedule.specs.Doing.{Ends};
 ghost use Rattle.bx_schedule.specs.Places.{CanGo, cleared, place_of};
 ghost use Rattle.bx_schedule.specs.Refusing.{is_event};

@@ -7,8 +7,8 @@ use Rattle.bx_world_openings.proofs.Firsts.{all_up}
 use Rattle.bx_world_openings.proofs.Restarting.{let_restart}
 use Rattle.bx_world_openings.proofs.begins.begin_boxes.Goals as goal
 
-pub begin-requires-2-clause-first : goal.begin-requires-2-clause-first
-begin-requires-2-clause-first g c = c.in_ok-machines.ensures.begins.3
+pub begin-requires-2 : goal.begin-requires-2
+begin-requires-2 g c = record { first = c.in_ok-machines.ensures.begins.3 }
 
 pub returns-clause-led : goal.returns-clause-led
 returns-clause-led g c = λ tells.

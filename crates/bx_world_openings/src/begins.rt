@@ -90,14 +90,7 @@ pub fn begin_boxes<R: Rack>(
     ensures later { R.faults rack.old ≤ R.faults rack.new }
     ensures keeps_telling { R.tells rack.old → R.tells rack.new }
 {
-    let parts = ClusterParts::begin(
-        alloc,
-        rack,
-        volume,
-        shape.nodes,
-        shape.devices,
-        shape.areas,
-    )?;
+    let parts = ClusterParts::begin(alloc, rack, volume, shape.nodes, shape.devices, shape.areas)?;
     let machines = machines_of(alloc, parts, volume, shape)?;
     let world = World::begin(alloc, machines)?;
     Ok(world)

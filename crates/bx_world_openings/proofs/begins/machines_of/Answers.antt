@@ -18,8 +18,7 @@ returns-clause-stands c = λ x held new rests.
     let laws = c.what_nodes_begin_with.ensures in
     let tree = first_tree c.args.volume shape.areas in
     let began = laws.stands x s held opening_truth tree (seen c.in_ok-machines.machines.items) none_logged new (rw c.requires.made.0 rests) laws.opening c.in_ok-machines.ensures.seen in
-    let course = opening_course s held none_logged opening_truth in
-    (
+    let course = opening_course s held none_logged opening_truth in (
       course,
       c.in_ok-all.ensures.stands [] x course tree (rw (parts.0, parts.1, parts.2, parts.3, c.new-nodes.ensures.machines) began) (none_told c.new-nodes.result.machines.items) (λ session. refl) c.requires.state,
       λ session. refl,

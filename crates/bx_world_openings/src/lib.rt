@@ -1,0 +1,6 @@
+//! The cluster of a new volume: its disks made anew, and over them a world of machines that agree by three replicas, own blocks by lock servers, and mirror devices.
+#![tactic(auto)]
+
+mod begins;
+
+pub use begins::begin_boxes;

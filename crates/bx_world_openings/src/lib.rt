@@ -2,5 +2,7 @@
 #![tactic(auto)]
 
 mod begins;
+mod opens;
 
 pub use begins::begin_boxes;
+pub use opens::BoxWorlds;

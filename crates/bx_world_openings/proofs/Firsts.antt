@@ -2,8 +2,8 @@
 use Rattle.std.proofs.Common.{◌≡◌, ℕ, ◌+◌, ◌*◌, ◌<◌, ◌≤◌, false, List, [], Option, Some, None, IfSome, IsSomeAnd, ◌∙◌, ap, arith}
 use Rattle.std.specs.Prelude.{not, slice_get, slice_index}
 use Rattle.std.proofs.lemmas.Bool.Decides.{nat_tests}
-use Rattle.bx_base.specs.declared.names.Actor.{Actor}
 use Rattle.bx_base.specs.declared.names.Actor.TheVariants.{Member, Node, Replica, Server}
+use Rattle.bx_base.specs.declared.names.Actor.{Actor}
 use Rattle.bx_cluster_parts.specs.Made.{made_by}
 use Rattle.bx_facts.proofs.Lists.{nothing}
 use Rattle.bx_facts.specs.Writes.{store_room}

@@ -1,8 +1,8 @@
 -- The calls that touch no block are those that the engine answers at once.
 use Rattle.std.proofs.Common.{◌≡◌, ◌⊎◌, inl, inr, ⊎_elim, ℕ, List, refl, sym, ◌∙◌, subst, arith}
-use Rattle.bx_engine.specs.Calls.{HasNoFile, IsAtOnceCall, IsOfMount}
-use Rattle.bx_model.specs.declared.call.Args.{Args}
+use Rattle.bx_closings.specs.bx_engine.specs.Calls.{HasNoFile, IsAtOnceCall, IsOfMount}
 use Rattle.bx_model.specs.declared.call.Args.TheVariants as args
+use Rattle.bx_model.specs.declared.call.Args.{Args}
 use Rattle.bx_model.specs.declared.call.Call.{Call}
 use Rattle.bx_nfs.proofs.Asking.{asked}
 use Rattle.bx_nfs.specs.Asked.{AsksPath, HasOwnArgs, IsAsked, IsNfs}

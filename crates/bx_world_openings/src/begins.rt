@@ -2,6 +2,10 @@
 
 ghost use Rattle.std.specs.Prelude.{◌≡◌, ◌≤◌, ℕ, [], List, None, IfOk, IsErrOf, OnOk};
 ghost use Rattle.bx_base.specs.Faults.{Rose};
+ghost use Rattle.bx_closings.specs.bx_opens.specs.Opening.{IsNew, IsShape, first_tree};
+ghost use Rattle.bx_closings.specs.bx_world.specs.Room.{HasRoom};
+ghost use Rattle.bx_closings.specs.bx_world.specs.Trees.{LedFrom};
+ghost use Rattle.bx_closings.specs.bx_world.specs.World.{seen};
 ghost use Rattle.bx_cluster_parts.specs.Made.{made_by};
 ghost use Rattle.bx_disk.specs.Disks.{Disks, Image};
 ghost use Rattle.bx_disk.specs.declared.fault.RackError.TheVariants.{Fault, OutOfMemory as NoMemory};
@@ -10,28 +14,24 @@ ghost use Rattle.bx_global.specs.Opening.{opening_state};
 ghost use Rattle.bx_node_calls.specs.Waits.{NoneWaits};
 ghost use Rattle.bx_nodes.specs.bx_node_openings.specs.Opening.{AreNew};
 ghost use Rattle.bx_nodes.specs.bx_node_openings.specs.Resting.{VolumeRests};
-ghost use Rattle.bx_opens.specs.Opening.{IsNew, IsShape, first_tree};
 ghost use Rattle.bx_truth.specs.Opening.{opening_truth};
-ghost use Rattle.bx_world.specs.Room.{HasRoom};
-ghost use Rattle.bx_world.specs.Trees.{LedFrom};
-ghost use Rattle.bx_world.specs.World.{seen};
 ghost use Rattle.bx_world_machines.specs.Machines.{first_up};
 ghost use Rattle.bx_world_machines.specs.Standing as standing;
 ghost use Rattle.bx_world_standing.specs.Standing.{Course};
 
 use bx_base::OutOfMemory;
+use bx_closings::devices::Devices;
+use bx_closings::engine::BoxFs;
+use bx_closings::locks::Locks;
+use bx_closings::opens::Shape;
+use bx_closings::paxos_cluster::Paxos;
+use bx_closings::world::World;
 use bx_cluster_parts::ClusterParts;
-use bx_devices::Devices;
 use bx_disk::{Rack, RackError};
-use bx_engine::BoxFs;
 use bx_facts::{Owners, Register, Store};
-use bx_locks::Locks;
 use bx_nodes::node_openings::what_nodes_begin_with;
 use bx_nodes::{Nodes, first_machines};
-use bx_opens::Shape;
-use bx_paxos_cluster::Paxos;
 use bx_views::Engine;
-use bx_world::World;
 use bx_world_machines::Machines;
 use std::alloc::Global;
 

@@ -1,13 +1,13 @@
 //! Worlds of file trees as what a replay and a server begin with.
 
 use crate::begins::begin_boxes;
-use bx_devices::Devices;
+use bx_closings::devices::Devices;
+use bx_closings::engine::BoxFs;
+use bx_closings::locks::Locks;
+use bx_closings::opens::{Opens, Shape};
+use bx_closings::paxos_cluster::Paxos;
+use bx_closings::world::World;
 use bx_disk::{Rack, RackError};
-use bx_engine::BoxFs;
-use bx_locks::Locks;
-use bx_opens::{Opens, Shape};
-use bx_paxos_cluster::Paxos;
-use bx_world::World;
 use std::alloc::Global;
 
 /// What makes worlds in which three replicas agree, lock servers own blocks, devices are mirrored, and the engine is that of file trees.

@@ -1,8 +1,8 @@
 use Rattle.std.proofs.Common.{◌≡◌, ◌≤◌, ap, arith}
+use Rattle.bx_closings.specs.bx_devices.specs.contracts.store.DevicesStore.TheImpl as devices
+use Rattle.bx_closings.specs.bx_world.specs.World.{seen}
 use Rattle.bx_cluster_parts.specs.Made.{made_by}
 use Rattle.bx_facts.specs.Writes.{Made}
-use Rattle.bx_devices.specs.contracts.store.DevicesStore.TheImpl as devices
-use Rattle.bx_world.specs.World.{seen}
 use Rattle.bx_world_openings.proofs.Firsts.{all_up}
 use Rattle.bx_world_openings.proofs.Restarting.{let_restart}
 use Rattle.bx_world_openings.proofs.begins.begin_boxes.Goals as goal

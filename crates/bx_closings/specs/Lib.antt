@@ -1,2 +1,10 @@
 pub mod Boxes
 pub mod Doubts
+pub use Rattle.bx_cluster
+pub use Rattle.bx_devices
+pub use Rattle.bx_engine
+pub use Rattle.bx_locks
+pub use Rattle.bx_opens
+pub use Rattle.bx_paxos_cluster
+pub use Rattle.bx_rack_audit
+pub use Rattle.bx_world

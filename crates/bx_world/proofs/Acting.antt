@@ -98,7 +98,7 @@ module _ {G O S E T : Type 0} (g : register.Ghosts G) (o : owners.Ghosts O) (st 
     tree = led.tree;
     history = led.history;
     accounts = accounts;
-    stands = led.stands;
+    stands = behind.stands;
     doubted = doubted_led g o st e world world x x first led.tree parts led part [] quiet behind accounts.pending (none_in _ _ _ _ _ _ _ accounts) left;
     logged = logged_led g o st e world world x x first led.tree parts led part [] quiet behind accounts.pending (none_in _ _ _ _ _ _ _ accounts) left;
     counted = led.counted;

@@ -1,20 +1,19 @@
 -- Records in doubt are of calls that were taken and have no point, and those of logs of none such, by one part more.
-use Rattle.std.proofs.Common.{◌≡◌, ◌⊎◌, ◌∙◌, ⊎_elim, inl, inr, ℕ, suc, ◌+◌, ◌≤◌, Bool, true, false, List, [], ◌∷◌, ◌++◌, eqb, Contains, Option, Some, None, IfSome, IsSomeAnd, is_some, refl, sym, ap, subst, arith}
+use Rattle.std.proofs.Common.{◌≡◌, ◌∙◌, ⊎_elim, inr, ℕ, ◌≤◌, Bool, true, false, List, [], ◌∷◌, ◌++◌, eqb, Option, Some, None, is_some, refl, sym, ap, subst, arith}
 use Rattle.std.specs.Prelude.{◌||◌, ◌&&◌, not, if◌then◌else◌, slice_get}
 use Rattle.std.specs.List.{AllByRecursion}
 use Rattle.std.proofs.lemmas.Bool.Decides.{nat_tests}
 use Rattle.bx_cluster.specs.Closing.{lacks_point}
 use Rattle.bx_facts.specs.Chains.{last}
 use Rattle.bx_facts.proofs.Lists.{nothing}
-use Rattle.bx_history.specs.Account.{AwaitsNewest, IsPending, LacksPoint}
+use Rattle.bx_history.specs.Account.{AwaitsNewest, IsPending}
 use Rattle.bx_history.specs.Parts.{Part, trace_of, waiting}
 use Rattle.bx_history.specs.Placed.{HasReadingSince, Repeat, Rules}
-use Rattle.bx_history.specs.Trace.{Entry, FitsNewest, IsIn, Taking, has_point, taken_count, taking_of}
+use Rattle.bx_history.specs.Trace.{Entry, FitsNewest, IsIn, Taking, has_point, taking_of}
 use Rattle.bx_history.proofs.OnePart.{lines_with, took_lines}
 use Rattle.bx_history.proofs.Serving.{Served, is_among, served_pointed}
-use Rattle.bx_node_calls.specs.Turns.{acting_at}
 use Rattle.bx_node_calls.specs.Waits.{AreTold, Waits}
-use Rattle.bx_node_steps.specs.Calls.{Acting, IsAnswered}
+use Rattle.bx_node_steps.specs.Calls.{IsAnswered}
 use Rattle.bx_node_steps.specs.declared.machine.Machine.{Machine}
 use Rattle.bx_node_tries.specs.declared.round.Said.{Said}
 use Rattle.bx_script.specs.declared.trace_line.TraceLine.{TraceLine}
@@ -33,7 +32,6 @@ use Rattle.bx_facts.specs.declared.store.Store as store
 use Rattle.bx_world.proofs.Beginning.{acts_waits}
 use Rattle.bx_world_machines.specs.Doubts.{AreInDoubt, DoubtsGo, IsOfActing, IsOpenIn}
 use Rattle.bx_world_standing.specs.Standing.{Course}
-use Rattle.bx_world_standing.specs.bx_volume.specs.Records.{Logged}
 use Rattle.bx_world_standing.specs.bx_world_views.specs.Views.{Doubt}
 
 -- ---- lines in front of others

@@ -92,8 +92,8 @@ module _ {G O S E T : Type 0} (g : register.Ghosts G) (o : owners.Ghosts O) (st 
       }
 
   -- so does each that a crash of all may leave
-  pub all_shown : HandedLaws g o st → MomentLaws g st → (world : World G O S E T) (x : Disks) (first : T) (parts : List Part) (led : Led g o st e world x first parts) → (image : Image) → IsImage x image → Shown g o st e world x.sizes image first parts
-  all_shown laws moments world x first parts led image is =
+  pub all_shown : (world : World G O S E T) (x : Disks) (first : T) (parts : List Part) → Led g o st e world x first parts → HandedLaws g o st → MomentLaws g st → (image : Image) → IsImage x image → Shown g o st e world x.sizes image first parts
+  all_shown world x first parts led laws moments image is =
       shown_from laws world x first parts led image (image_shows g o st e laws world.machines (letters_in world.post) x led.tree led.stands moments image is)
 
   -- ---- disks that change, where no machine does anything

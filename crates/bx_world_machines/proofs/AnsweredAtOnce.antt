@@ -1,5 +1,5 @@
 -- A call that touches no block is answered over whatever stands.
-use Rattle.std.proofs.Common.{◌≡◌, ℕ, ◌<◌, List, [], ◌∷◌, ◌++◌, Contains, inl, inr, refl, ⊎_elim, sym, ap, subst, arith}
+use Rattle.std.proofs.Common.{◌≡◌, ℕ, ◌<◌, List, [], ◌∷◌, ◌++◌, inl, inr, refl, ⊎_elim, sym, ap, subst, arith}
 use Rattle.std.specs.Prelude.{reverse}
 use Rattle.std.proofs.lemmas.List.{reverse-append}
 use Rattle.bx_disk.specs.Disks.{Disks}

@@ -3,7 +3,7 @@ use Rattle.std.proofs.Common.{◌≡◌, ◌∙◌, inl, inr, ℕ, Bool, false, 
 use Rattle.std.specs.Prelude.{option_map, slice_get}
 use Rattle.bx_base.specs.declared.names.Actor.{Actor}
 use Rattle.bx_facts.proofs.Lists.{nothing}
-use Rattle.bx_node_steps.specs.Calls.{IsOpening, IsToAct, IsWritten, MayAct, call_written}
+use Rattle.bx_node_steps.specs.Calls.{IsOpening, IsToAct, IsWritten, call_written}
 use Rattle.bx_node_steps.specs.declared.machine.Machine.{Machine}
 use Rattle.bx_node_tries.specs.declared.round.Waiting.{Waiting}
 use Rattle.bx_nodes.specs.Stopping.{Empties, HasNothing}

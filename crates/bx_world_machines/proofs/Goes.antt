@@ -1,5 +1,5 @@
 -- What comes of calls in doubt where a machine hears something, and a node has its turn.
-use Rattle.std.proofs.Common.{◌≡◌, ◌≢◌, ◌⊎◌, ◌∙◌, ⊎_elim, inl, inr, ℕ, false, true, List, [], Contains, Option, Some, None, IfSome, IsSomeAnd, refl, sym, ap, subst, arith}
+use Rattle.std.proofs.Common.{◌≡◌, ◌≢◌, ◌⊎◌, ◌∙◌, ⊎_elim, inl, inr, ℕ, false, true, List, Contains, Option, Some, None, IfSome, IsSomeAnd, refl, sym, ap, subst, arith}
 use Rattle.std.specs.Prelude.{option_map, slice_get}
 use Rattle.bx_base.specs.declared.names.Actor.{Actor}
 use Rattle.bx_base.specs.declared.names.Actor.TheVariants.{Member, Node, Replica, Server}
@@ -12,12 +12,11 @@ use Rattle.bx_facts.specs.Chains.{Chain, LivesIn, last}
 use Rattle.bx_facts.proofs.Lists.{nothing}
 use Rattle.bx_global.specs.bx_rows.specs.Words.{row_in}
 use Rattle.bx_global.specs.bx_rows.specs.declared.session.SessionRow.{SessionRow}
-use Rattle.bx_node_calls.specs.Turns.{acting_at, acting_in, session_at}
+use Rattle.bx_node_calls.specs.Turns.{acting_in, session_at}
 use Rattle.bx_node_calls.specs.Waits.{AreNumbered, Waits}
 use Rattle.bx_node_calls.proofs.Found.{and_some, some_and, which}
-use Rattle.bx_node_machines.specs.Machines as views
 use Rattle.bx_node_machines.specs.Machines.{IsAbout, IsAtWork, IsDoubtIn, IsDoubtOf, IsOfClosing, IsOfRecord, Scene, act_of, number_of}
-use Rattle.bx_node_steps.specs.Calls.{AreApart, CallOf, IsAnswered, IsOpening, IsThat, IsToAct, MayAct, WaitsAt, acting_of, call_of, call_written, is_opening, point_in, under_way}
+use Rattle.bx_node_steps.specs.Calls.{AreApart, CallOf, IsAnswered, IsOpening, IsThat, IsToAct, WaitsAt, acting_of, call_of, call_written, is_opening, point_in}
 use Rattle.bx_node_steps.specs.Seen.{replying, stage_of, view_of}
 use Rattle.bx_node_steps.specs.declared.machine.Machine.{Machine}
 use Rattle.bx_node_steps.specs.declared.machine.Pending.{Pending}
@@ -43,7 +42,7 @@ use Rattle.bx_world_standing.specs.bx_redo.specs.declared.work.Work.{Work}
 use Rattle.bx_world_standing.specs.bx_redo.specs.declared.work.Work.TheVariants as works
 use Rattle.bx_world_standing.specs.bx_world_chains.proofs.Rows.{lives_row}
 use Rattle.bx_world_standing.specs.bx_world_logs.specs.Logs.{Activity, OfLog, idle, opens}
-use Rattle.bx_world_standing.specs.bx_world_views.specs.Views.{Act, Doubt, OfCall, OfTidy}
+use Rattle.bx_world_standing.specs.bx_world_views.specs.Views.{Doubt, OfCall, OfTidy}
 use Rattle.bx_world_standing.proofs.Owns.{own_is}
 
 -- ---- the record that a node writes

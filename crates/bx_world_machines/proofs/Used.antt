@@ -1,8 +1,8 @@
 -- The session under which a node does something, before and then.
-use Rattle.std.proofs.Common.{◌≡◌, ◌∙◌, ℕ, ◌<◌, length, Option, Some, sym, ap}
+use Rattle.std.proofs.Common.{◌≡◌, ◌∙◌, ℕ, ◌<◌, length, Option, Some, ap}
 use Rattle.std.specs.Prelude.{option_map, slice_get}
 use Rattle.bx_facts.specs.declared.owners.Owners as owners
-use Rattle.bx_node_calls.proofs.Coming.{Changed, changed_at}
+use Rattle.bx_node_calls.proofs.Coming.{changed_at}
 use Rattle.bx_node_steps.specs.declared.machine.Machine.{Machine}
 use Rattle.bx_nodes.specs.Standing.{IsUnderOwn, OfBoth}
 use Rattle.bx_nodes.specs.declared.nodes.Nodes.{Nodes}

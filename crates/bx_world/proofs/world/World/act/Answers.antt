@@ -147,19 +147,19 @@ pub returns-in-Call-clause-any_moment : goal.returns-in-Call-clause-any_moment
 returns-in-Call-clause-any_moment g c = λ first parts tells led.
     let rack = c.args.rack.now in
     still_leaves (g.R.Rack.moment rack) (g.R.Rack.left_since rack) _
-    (λ image left. all_shown g.G.Register g.O.Owners g.S.Store g.E.Engine (laws g) (moments g) c.args.self.now (g.R.Rack.state rack) first parts led image (g.met.R.Rack.only_now rack image tells left))
+    (λ image left. all_shown g.G.Register g.O.Owners g.S.Store g.E.Engine c.args.self.now (g.R.Rack.state rack) first parts led (laws g) (moments g) image (g.met.R.Rack.only_now rack image tells left))
 
 pub returns-in-Crash-clause-any_moment : goal.returns-in-Crash-clause-any_moment
 returns-in-Crash-clause-any_moment g c = λ first parts tells led.
     let rack = c.args.rack.now in
     still_leaves (g.R.Rack.moment rack) (g.R.Rack.left_since rack) _
-    (λ image left. all_shown g.G.Register g.O.Owners g.S.Store g.E.Engine (laws g) (moments g) c.args.self.now (g.R.Rack.state rack) first parts led image (g.met.R.Rack.only_now rack image tells left))
+    (λ image left. all_shown g.G.Register g.O.Owners g.S.Store g.E.Engine c.args.self.now (g.R.Rack.state rack) first parts led (laws g) (moments g) image (g.met.R.Rack.only_now rack image tells left))
 
 pub returns-in-Blank-clause-any_moment : goal.returns-in-Blank-clause-any_moment
 returns-in-Blank-clause-any_moment g c = λ first parts tells led.
     let rack = c.args.rack.now in
     still_leaves (g.R.Rack.moment rack) (g.R.Rack.left_since rack) _
-    (λ image left. all_shown g.G.Register g.O.Owners g.S.Store g.E.Engine (laws g) (moments g) c.args.self.now (g.R.Rack.state rack) first parts led image (g.met.R.Rack.only_now rack image tells left))
+    (λ image left. all_shown g.G.Register g.O.Owners g.S.Store g.E.Engine c.args.self.now (g.R.Rack.state rack) first parts led (laws g) (moments g) image (g.met.R.Rack.only_now rack image tells left))
 
 pub returns-in-Tick-clause-room : goal.returns-in-Tick-clause-room
 returns-in-Tick-clause-room g c = λ sizes room.

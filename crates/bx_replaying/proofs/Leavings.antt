@@ -1,0 +1,97 @@
+-- What a replay leaves, by what stopped it.
+use Rattle.std.proofs.Common.{◌≡◌, ℕ, ◌+◌, ◌<◌, ◌≤◌, ◌==◌, Bool, false, List, [], ◌∷◌, ◌++◌, length, ap, Result, Ok, Err, inl, inr, take}
+use Rattle.std.specs.Prelude.{IfErr, ◌⊎◌, map}
+use Rattle.std.specs.FinSet as set
+use Rattle.std.specs.Ordering.{nat_cmp}
+use Rattle.bx_base.specs.Text.{BeginsWith}
+use Rattle.bx_base.specs.declared.names.Point.{Point}
+use Rattle.bx_disk.specs.Disks.{Disks}
+use Rattle.bx_history.specs.Parts.{Part}
+use Rattle.bx_model.specs.declared.tree.Tree.{Tree}
+use Rattle.bx_opens.specs.bx_world_events.specs.Refusals.{Seen}
+use Rattle.bx_schedule.specs.Placing.{Done, lines_of}
+use Rattle.bx_script.specs.Schedule.{HasPlace}
+use Rattle.bx_script.specs.ScheduleLine.{spelling}
+use Rattle.bx_script.specs.declared.line.Line.{Line}
+use Rattle.bx_script.specs.declared.trace_line.TraceLine.{TraceLine}
+use Rattle.bx_script.specs.declared.trace_line.TraceLine.TheVariants.{Acted}
+use Rattle.bx_stops.specs.declared.stop.Stop.{Stop}
+use Rattle.bx_stops.specs.declared.stop.Stop.TheVariants as stops
+use Rattle.bx_replaying.specs.Lines.{after_lines}
+use Rattle.bx_replaying.specs.Outcome.{IsShownBy}
+use Rattle.bx_replaying.specs.Replay.{Begins, DoesLine, Ends, GivesLine, Going, HasBeginCause, HasFinishCause, HasLineCause, HasStepCause, IsRead, IsRefusedFor, IsShownAs, Leaves, Reached, StandsAfter}
+use Rattle.bx_replaying.proofs.Goings.{ClosesSo, Heads, begins_broken, begins_cut, begins_empty, begins_outside, finishes, stops_broken, stops_cut, stops_outside, stops_refused, stops_torn, stops_unfinished}
+use Rattle.bx_replaying.proofs.ReadLines.{all_read, cut_at, cut_first, refused_empty, refused_first, refused_line, refused_outside}
+
+pub begin_stops : (MayStop : Type 0) {A : Type 0} (seen : A → Seen) (greatest : A → ℕ) (Tells : Type 0) (Stands : Tree → List TraceLine → Type 0) (stop : Stop) (text rest left start : List ℕ) (before now bench_before bench_now : ℕ) → HasBeginCause stop before now bench_before bench_now
+    → Begins seen greatest (Err stop) text rest left → Leaves MayStop Tells Stands (Err stop) text left start start
+begin_stops MayStop seen greatest Tells Stands (stops.Refused line reason) text rest left start before now bench_before bench_now cause (inl e) = rw (cause.0, cause.1) (refused_empty MayStop text e, λ _. begins_empty MayStop text start e)
+begin_stops MayStop seen greatest Tells Stands (stops.Refused line reason) text rest left start before now bench_before bench_now cause (inr here) = rw (cause.0, cause.1) (refused_first MayStop text here, λ _. begins_outside MayStop text start here)
+begin_stops MayStop seen greatest Tells Stands stops.ReadFault text rest left start before now bench_before bench_now cause begins =
+    (cut_first MayStop text begins.0 left begins.1 begins.2 begins.3, λ _. begins_cut MayStop text begins.0 left start begins.1 begins.2 begins.3)
+begin_stops MayStop seen greatest Tells Stands stops.WriteFault text rest left start before now bench_before bench_now cause begins = absurd cause
+begin_stops MayStop seen greatest Tells Stands stops.DiskFault text rest left start before now bench_before bench_now cause begins = λ _. begins_broken MayStop text start
+begin_stops MayStop seen greatest Tells Stands stops.OutOfMemory text rest left start before now bench_before bench_now cause begins = λ _. begins_broken MayStop text start
+
+module _ (MayStop Tells : Type 0) (Stands : Tree → List TraceLine → Type 0) (Led : Tree → List Part → Type 0) (heads : Tells → Heads MayStop Led) (lacking : set.FinSet nat_cmp) (seen : Seen) (greatest : ℕ) where
+  pub line_stops : (stop : Stop) (text rest next left start written : List ℕ) (number before now : ℕ)
+      → IsRead MayStop seen greatest text rest number → (Tells → Going MayStop Led lacking seen greatest text rest number start written) → HasLineCause stop (number + 1) before now → GivesLine (Err stop) (number + 1) rest next left
+      → Leaves MayStop Tells Stands (Err stop) text left start written
+  line_stops (stops.Refused line reason) text rest next left start written number before now so_far going cause gives =
+      rw (cause.0, cause.1) (refused_outside MayStop seen greatest text rest number so_far gives, λ tells. stops_outside MayStop Led lacking seen greatest text rest number start written (going tells) (heads tells) gives)
+  line_stops stops.ReadFault text rest next left start written number before now so_far going cause gives = (
+    cut_at MayStop seen greatest text rest gives.0 left number so_far gives.1 gives.2 gives.3,
+    λ tells. stops_cut MayStop Led lacking seen greatest text rest number start written (going tells) (heads tells) gives.0 left gives.1 gives.2 gives.3,
+  )
+  line_stops stops.WriteFault text rest next left start written number before now so_far going cause gives = absurd cause
+  line_stops stops.DiskFault text rest next left start written number before now so_far going cause gives = absurd cause
+  line_stops stops.OutOfMemory text rest next left start written number before now so_far going cause gives =
+      λ tells. stops_broken MayStop Led lacking seen greatest text rest number start written (going tells) (heads tells)
+
+  -- Where a line is refused, or its lines of the trace aren't all written. (What it does is told where it stands so; a cluster shows then what lines tell.)
+  pub step_stops : (stop : Stop) (text rest next left start old new : List ℕ) (number before now : ℕ) (line : Line) (Led_now : Tree → List Part → Type 0) (heads_now : Tells → Heads MayStop Led_now) (lacking_now : set.FinSet nat_cmp) (seen_now : Seen) (greatest_now : ℕ)
+      → (so_far : IsRead MayStop seen greatest text rest number) → (going : Tells → Going MayStop Led lacking seen greatest text rest number start old) → number < 4294967295 → BeginsWith rest (spelling line) next
+      → HasPlace false line → HasStepCause stop (number + 1) before now → ((done : List Line) → Reached MayStop seen greatest done → IsRefusedFor MayStop stop (number + 1) (after_lines done) line)
+      → ((tells : Tells) → DoesLine (Err stop) (λ written. Reached MayStop seen_now greatest_now (line ∷ lines_of (going tells).done) × StandsAfter MayStop Led_now lacking_now line (going tells).done start written) old new)
+      → Leaves MayStop Tells Stands (Err stop) text left start new
+  step_stops (stops.Refused n reason) text rest next left start old new number before now line Led_now heads_now lacking_now seen_now greatest_now so_far going few begins place cause refused does =
+      rw cause (
+        refused_line MayStop seen greatest text rest next number line so_far few begins place reason (refused so_far.done so_far.reached).1,
+        λ tells. rw (does tells) (stops_refused MayStop Led lacking seen greatest text rest number start old (going tells) (heads tells) reason line next few begins place (refused (lines_of (going tells).done) (going tells).reached).1),
+      )
+  step_stops stops.ReadFault text rest next left start old new number before now line Led_now heads_now lacking_now seen_now greatest_now so_far going few begins place cause refused does = absurd cause
+  step_stops stops.WriteFault text rest next left start old new number before now line Led_now heads_now lacking_now seen_now greatest_now so_far going few begins place cause refused does =
+      λ tells. (let it = does tells in
+      stops_torn MayStop Led lacking seen greatest text rest number start old (going tells) MayStop Led_now lacking_now seen_now greatest_now line next new begins it.3.0 (heads_now tells) it.0 it.1 it.2 it.3.1)
+  step_stops stops.DiskFault text rest next left start old new number before now line Led_now heads_now lacking_now seen_now greatest_now so_far going few begins place cause refused does = absurd cause
+  step_stops stops.OutOfMemory text rest next left start old new number before now line Led_now heads_now lacking_now seen_now greatest_now so_far going few begins place cause refused does =
+      λ tells. rw (does tells) (stops_broken MayStop Led lacking seen greatest text rest number start old (going tells) (heads tells))
+
+  -- ---- the end
+
+  module _ (disks : Disks) (lacks : ℕ → Bool) (text start old : List ℕ) (number : ℕ) (so_far : IsRead MayStop seen greatest text [] number) (going : Tells → Going MayStop Led lacking seen greatest text [] number start old)
+      (tree : Tells → Tree) (closes : (tells : Tells) (points : List Point) → IsShownAs disks lacks (tree tells) points → ClosesSo MayStop (going tells).done (tree tells) points) where
+    finish_stops : (stop : Stop) (left new : List ℕ) (before now : ℕ) (Held : Type 0) (bench_before bench_now : ℕ) → HasFinishCause stop before now Held bench_before bench_now → ((tells : Tells) → Ends (Err stop) disks lacks (tree tells) old new)
+        → Leaves MayStop Tells Stands (Err stop) text left start new
+    finish_stops (stops.Refused n reason) left new before now Held bench_before bench_now cause ends = absurd cause
+    finish_stops stops.ReadFault left new before now Held bench_before bench_now cause ends = absurd cause
+    finish_stops stops.WriteFault left new before now Held bench_before bench_now cause ends =
+        λ tells. (let it = ends tells in stops_unfinished MayStop Led lacking seen greatest text number start old (going tells) (tree tells) it.0 (closes tells it.0 it.1) new it.2.0 it.2.1)
+    finish_stops stops.DiskFault left new before now Held bench_before bench_now cause ends =
+        λ tells. rw (ends tells) (stops_broken MayStop Led lacking seen greatest text [] number start old (going tells) (heads tells))
+    finish_stops stops.OutOfMemory left new before now Held bench_before bench_now cause ends =
+        λ tells. rw (ends tells) (stops_broken MayStop Led lacking seen greatest text [] number start old (going tells) (heads tells))
+
+    pub finish_leaves : (r : Result (Unit {0}) Stop) (left new : List ℕ) (before now : ℕ) (Held : Type 0) (bench_before bench_now : ℕ) → left ≡ [] → IfErr r (λ stop. HasFinishCause stop before now Held bench_before bench_now)
+        → ((tells : Tells) → Ends r disks lacks (tree tells) old new) → ((tells : Tells) (points : List Point) → IsShownAs disks lacks (tree tells) points → Stands (tree tells) (map Acted points)) → Leaves MayStop Tells Stands r text left start new
+    finish_leaves (Ok x) left new before now Held bench_before bench_now all cause ends shown =
+        (all_read MayStop seen greatest text number so_far, all,
+        λ tells. (let it = ends tells in finishes MayStop Led lacking seen greatest text number start old (going tells) (tree tells) it.0 (closes tells it.0 it.1) Stands new it.2 (shown tells it.0 it.1)))
+    finish_leaves (Err stop) left new before now Held bench_before bench_now all cause ends shown = finish_stops stop left new before now Held bench_before bench_now cause ends
+
+-- what is shown at the end stands so on the disks
+pub shown_by : (disks : Disks) (lacks : ℕ → Bool) (tree : Tree) (points : List Point) → IsShownAs disks lacks tree points → IsShownBy disks tree (map Acted points)
+shown_by disks lacks tree points is = record {
+  stands = is.stands;
+  closing_open = record { points = is.opened; open_are = is.open_are; of = lacks; lines_are = ap (map Acted) is.points_are };
+}

@@ -1,0 +1,6 @@
+pub mod Bench
+pub mod Headline
+pub mod Lines
+pub mod Outcome
+pub mod Replay
+pub mod Stops

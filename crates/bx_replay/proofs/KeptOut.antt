@@ -7,7 +7,7 @@ use Rattle.bx_lease.specs.Readings.{IsTooFarBack}
 use Rattle.bx_script.specs.declared.line.Line.TheVariants.{Heading, Call, Run, Tick, Deliver, Next, Sync, Hold, Free, Drop, Crash, CrashAll, Restart, RestartAll, Blank}
 use Rattle.bx_script.specs.Schedule.{is_heading, node_of, reading_of}
 use Rattle.bx_stops.specs.declared.stop.Reason.{Reason}
-use Rattle.bx_stops.specs.declared.stop.Reason.TheVariants.{Grammar, NoMachine, ClockBack, NoPacket, Up, Down, NothingToSync, StillNeeded}
+use Rattle.bx_stops.specs.declared.stop.Reason.TheVariants.{Grammar, NoMachine, ClockBack, Down}
 use Rattle.bx_stops.specs.declared.stop.Stop.{Stop}
 use Rattle.bx_stops.specs.declared.stop.Stop.TheVariants as stops
 use Rattle.bx_replay.specs.Headline.{IsHeard, IsSteady, IsThere, Machines, greatest_with, machines_at, nodes_after, up_after}
@@ -20,11 +20,7 @@ pub hears_turned_away : (stop : Stop) (number nodes greatest : ℕ) (up : Bool) 
 hears_turned_away (stops.Refused n Grammar) number nodes greatest up now line kept = absurd kept
 hears_turned_away (stops.Refused n NoMachine) number nodes greatest up now line kept = kept.1
 hears_turned_away (stops.Refused n (ClockBack by)) number nodes greatest up now line kept = (kept.1, kept.2)
-hears_turned_away (stops.Refused n (NoPacket packet)) number nodes greatest up now line kept = absurd kept
-hears_turned_away (stops.Refused n Up) number nodes greatest up now line kept = absurd kept
 hears_turned_away (stops.Refused n Down) number nodes greatest up now line kept = absurd kept
-hears_turned_away (stops.Refused n NothingToSync) number nodes greatest up now line kept = absurd kept
-hears_turned_away (stops.Refused n StillNeeded) number nodes greatest up now line kept = absurd kept
 hears_turned_away stops.ReadFault number nodes greatest up now line kept = absurd kept
 hears_turned_away stops.WriteFault number nodes greatest up now line kept = absurd kept
 hears_turned_away stops.DiskFault number nodes greatest up now line kept = absurd kept
@@ -34,11 +30,7 @@ pub step_turned_away : (stop : Stop) (number nodes greatest before now : ℕ) (l
 step_turned_away (stops.Refused n Grammar) number nodes greatest before now line kept = absurd kept
 step_turned_away (stops.Refused n NoMachine) number nodes greatest before now line kept = kept.0
 step_turned_away (stops.Refused n (ClockBack by)) number nodes greatest before now line kept = kept.0
-step_turned_away (stops.Refused n (NoPacket packet)) number nodes greatest before now line kept = absurd kept
-step_turned_away (stops.Refused n Up) number nodes greatest before now line kept = absurd kept
 step_turned_away (stops.Refused n Down) number nodes greatest before now line kept = absurd kept
-step_turned_away (stops.Refused n NothingToSync) number nodes greatest before now line kept = absurd kept
-step_turned_away (stops.Refused n StillNeeded) number nodes greatest before now line kept = absurd kept
 step_turned_away stops.ReadFault number nodes greatest before now line kept = absurd kept
 step_turned_away stops.WriteFault number nodes greatest before now line kept = absurd kept
 step_turned_away stops.DiskFault number nodes greatest before now line kept = absurd kept
@@ -66,10 +58,6 @@ module _ (nodes greatest : ℕ) (up : Bool) (line : Line) (there : IsThere nodes
   hears_refused (stops.Refused n Grammar) now_up now hears = absurd (let same = hears.0 in cc)
   hears_refused (stops.Refused n NoMachine) now_up now hears = absurd (let same = hears.0 in cc)
   hears_refused (stops.Refused n (ClockBack by)) now_up now hears = absurd (let same = hears.0 in cc)
-  hears_refused (stops.Refused n (NoPacket packet)) now_up now hears = absurd (let same = hears.0 in cc)
-  hears_refused (stops.Refused n Up) now_up now hears = absurd (let same = hears.0 in cc)
-  hears_refused (stops.Refused n NothingToSync) now_up now hears = absurd (let same = hears.0 in cc)
-  hears_refused (stops.Refused n StillNeeded) now_up now hears = absurd (let same = hears.0 in cc)
   hears_refused (stops.Refused n Down) now_up now hears = (there, steady, hears.1, hears.2)
   hears_refused stops.ReadFault now_up now hears = tt
   hears_refused stops.WriteFault now_up now hears = tt
@@ -115,8 +103,4 @@ pub heard_not_refused : (reason : Reason) (machines : Machines) (line : Line) �
 heard_not_refused Grammar machines line heard refused = refused
 heard_not_refused NoMachine machines line heard refused = refused heard.0
 heard_not_refused (ClockBack by) machines line heard refused = steady_back machines.greatest by (reading_of line) heard.1 refused.1
-heard_not_refused (NoPacket number) machines line heard refused = refused
-heard_not_refused Up machines line heard refused = refused
-heard_not_refused NothingToSync machines line heard refused = refused
-heard_not_refused StillNeeded machines line heard refused = refused
 heard_not_refused Down machines line heard refused = up_down machines.up (node_of line) refused.3 heard.2 refused.2

@@ -12,7 +12,7 @@ use Rattle.bx_script.specs.ScheduleLine.{spelling}
 use Rattle.bx_script.specs.Schedule.{HasPlace, BeginsSchedule}
 use Rattle.bx_script.proofs.Spelled.{spelling_lacks_feed}
 use Rattle.bx_stops.specs.declared.stop.Reason.{Reason}
-use Rattle.bx_stops.specs.declared.stop.Reason.TheVariants.{Grammar, NoMachine, ClockBack, NoPacket, Up, Down, NothingToSync, StillNeeded}
+use Rattle.bx_stops.specs.declared.stop.Reason.TheVariants.{Grammar, NoMachine, ClockBack, Down}
 use Rattle.bx_replay.specs.Headline.{IsHeard, IsInPlace, Machines, after_line, after_lines, machines_at, nodes_of}
 use Rattle.bx_replay.specs.Outcome.{AreDone, IsCut, IsFirstRefused, IsReadTo, IsPlayable, IsRefusedAt, IsRefusedLine, IsTurnedAway}
 use Rattle.bx_replay.specs.Replay.{IsRead}
@@ -142,10 +142,6 @@ pub line_refused_at : (machines : Machines) (done : List Line) (number : ℕ) (l
 line_refused_at machines done number line others Grammar some count few are place why = absurd why
 line_refused_at machines done number line others NoMachine some count few are place why = (omega (arith, few, count), turned_away machines done number line NoMachine some count are place why)
 line_refused_at machines done number line others (ClockBack by) some count few are place why = (omega (arith, few, count), turned_away machines done number line (ClockBack by) some count are place why)
-line_refused_at machines done number line others (NoPacket packet) some count few are place why = absurd why
-line_refused_at machines done number line others Up some count few are place why = absurd why
-line_refused_at machines done number line others NothingToSync some count few are place why = absurd why
-line_refused_at machines done number line others StillNeeded some count few are place why = absurd why
 line_refused_at machines done number line others Down some count few are place why = (omega (arith, few, count), turned_away machines done number line Down some count are place why)
 
 abbrev pub refused_line : (machines : Machines) (text rest next : List ℕ) (number : ℕ) (line : Line) → IsRead machines text rest number → number < 4294967295 → BeginsWith rest (spelling line) next

@@ -11,7 +11,7 @@ use Rattle.bx_history.specs.Along.{AllowedNewest}
 use Rattle.bx_model.specs.declared.tree.Tree.{Tree}
 use Rattle.bx_model.specs.Listing.{listing}
 use Rattle.bx_stops.specs.declared.stop.Reason.{Reason}
-use Rattle.bx_stops.specs.declared.stop.Reason.TheVariants.{Grammar, NoMachine, ClockBack, NoPacket, Up, Down, NothingToSync, StillNeeded}
+use Rattle.bx_stops.specs.declared.stop.Reason.TheVariants.{Grammar, NoMachine, ClockBack, Down}
 use Rattle.bx_replay.specs.Headline.{Asks, Headline, IsHeard, IsInPlace, IsSteady, IsThere, Machines, after_lines, nodes_of}
 
 -- A line may be done behind these, the newest of which comes first: there is room for it, it has its place and is one of this stage, and it may
@@ -55,10 +55,6 @@ abbrev pub IsRefusedLine : Reason → Machines → Line → Type 0
 IsRefusedLine Grammar machines line = ⊥
 IsRefusedLine NoMachine machines line = IsThere machines.nodes line → ⊥
 IsRefusedLine (ClockBack by) machines line = IsThere machines.nodes line × IsBackBy machines.greatest (reading_of line) by
-IsRefusedLine (NoPacket number) machines line = ⊥
-IsRefusedLine Up machines line = ⊥
-IsRefusedLine NothingToSync machines line = ⊥
-IsRefusedLine StillNeeded machines line = ⊥
 IsRefusedLine Down machines line = IsThere machines.nodes line × IsSteady machines.greatest line × (machines.up ≡ false) × Asks line
 
 -- the text spells a line that has its place there, and that is refused so
@@ -74,10 +70,6 @@ abbrev pub Refuses : List Line → List ℕ → Reason → Type 0
 Refuses before text Grammar = (4294967295 ≤ length before) ⊎ ((value : Line) → IsInPlace (length before == 0) (nodes_of before) value → text ≢ spelling value)
 Refuses before text NoMachine = (length before < 4294967295) × IsTurnedAway (length before == 0) (after_lines (reverse before)) text NoMachine
 Refuses before text (ClockBack by) = (length before < 4294967295) × IsTurnedAway (length before == 0) (after_lines (reverse before)) text (ClockBack by)
-Refuses before text (NoPacket number) = ⊥
-Refuses before text Up = ⊥
-Refuses before text NothingToSync = ⊥
-Refuses before text StillNeeded = ⊥
 Refuses before text Down = (length before < 4294967295) × IsTurnedAway (length before == 0) (after_lines (reverse before)) text Down
 
 -- Behind the lines that were done, the next one is refused. An empty schedule lacks its first line.
@@ -85,11 +77,7 @@ abbrev pub IsRefusedAt : List Line → List (List ℕ) → Reason → Type 0
 IsRefusedAt done [] Grammar = done ≡ []
 IsRefusedAt done [] NoMachine = ⊥
 IsRefusedAt done [] (ClockBack by) = ⊥
-IsRefusedAt done [] (NoPacket number) = ⊥
-IsRefusedAt done [] Up = ⊥
 IsRefusedAt done [] Down = ⊥
-IsRefusedAt done [] NothingToSync = ⊥
-IsRefusedAt done [] StillNeeded = ⊥
 IsRefusedAt done (line ∷ lines) reason = Refuses done line reason
 
 -- The line with this number is the first that is refused, for this reason.

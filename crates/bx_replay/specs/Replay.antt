@@ -24,7 +24,7 @@ use Rattle.bx_model.specs.declared.tree.Tree.{Tree}
 use Rattle.bx_service.specs.Rounds.{Doubt, Tells, no_doubts}
 use Rattle.bx_service.specs.declared.event.Event.{Event}
 use Rattle.bx_service.specs.declared.event.Event.TheVariants.{Answered, Found}
-use Rattle.bx_stops.specs.declared.stop.Reason.TheVariants.{Grammar, NoMachine, ClockBack, NoPacket, Up, Down, NothingToSync, StillNeeded}
+use Rattle.bx_stops.specs.declared.stop.Reason.TheVariants.{Grammar, NoMachine, ClockBack, Down}
 use Rattle.bx_stops.specs.declared.stop.Stop.{Stop}
 use Rattle.bx_stops.specs.declared.stop.Stop.TheVariants as stops
 use Rattle.bx_replay.specs.Headline.{Asks, rules, opening_of, IsHeard, IsInPlace, IsThere, IsUpFor, Machines, Step, after_line, after_lines, up_after}
@@ -178,11 +178,7 @@ abbrev pub IsKeptOut : Stop → ℕ → ℕ → ℕ → Line → Type 0
 IsKeptOut (stops.Refused line Grammar) number nodes greatest value = ⊥
 IsKeptOut (stops.Refused line NoMachine) number nodes greatest value = (line ≡ number) × (IsThere nodes value → ⊥)
 IsKeptOut (stops.Refused line (ClockBack by)) number nodes greatest value = (line ≡ number) × IsThere nodes value × IsBackBy greatest (reading_of value) by
-IsKeptOut (stops.Refused line (NoPacket packet)) number nodes greatest value = ⊥
-IsKeptOut (stops.Refused line Up) number nodes greatest value = ⊥
 IsKeptOut (stops.Refused line Down) number nodes greatest value = ⊥
-IsKeptOut (stops.Refused line NothingToSync) number nodes greatest value = ⊥
-IsKeptOut (stops.Refused line StillNeeded) number nodes greatest value = ⊥
 IsKeptOut stops.ReadFault number nodes greatest value = ⊥
 IsKeptOut stops.WriteFault number nodes greatest value = ⊥
 IsKeptOut stops.DiskFault number nodes greatest value = ⊥

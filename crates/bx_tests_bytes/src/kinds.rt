@@ -1,110 +1,44 @@
 //! The kinds of bytes.
 
 use crate::{layouts, lines, numbers, packets, pages, states, wire};
-use bx_base::OutOfMemory;
+use anyhow::{Error, anyhow};
 use bx_tests_lines::Line;
 use std::alloc::Global;
 
-/// What bytes are read as.
-#[derive(Clone, Copy)]
-pub(crate) enum Kind {
-    /// A datagram: its call, and a sample of a reply.
-    Datagram,
-    /// Opaque data of at most 8 bytes, and what is behind it.
-    Item,
-    /// Numbers of 16, 32 and 64 bits, and the bytes behind them.
-    Fields,
-    /// A volume, and a file handle.
-    Handle,
-    /// How many devices and areas, and a block's number.
-    Place,
-    /// A disk's label.
-    Label,
-    /// A gate.
-    Gate,
-    /// A block.
-    Block,
-    /// An area's own block.
-    Area,
-    /// An inode.
-    Inode,
-    /// The header of a record.
-    Head,
-    /// A page of a tree.
-    Page,
-    /// The state that the machines agree on.
-    State,
-    /// How many devices, and what a cell holds.
-    Held,
-    /// A change of a state by its numbers, and the state.
-    Change,
-    /// A packet: its kind, how many devices, and its body.
-    Packet,
-    /// A line of a schedule.
-    Schedule,
-    /// The fields of a line of a trace.
-    Trace,
-}
-
-/// The words of the kinds.
-const WORDS: [(&str, Kind); 18] = [
-    ("datagram", Kind::Datagram),
-    ("item", Kind::Item),
-    ("fields", Kind::Fields),
-    ("handle", Kind::Handle),
-    ("place", Kind::Place),
-    ("label", Kind::Label),
-    ("gate", Kind::Gate),
-    ("block", Kind::Block),
-    ("area", Kind::Area),
-    ("inode", Kind::Inode),
-    ("head", Kind::Head),
-    ("page", Kind::Page),
-    ("state", Kind::State),
-    ("held", Kind::Held),
-    ("change", Kind::Change),
-    ("packet", Kind::Packet),
-    ("schedule", Kind::Schedule),
-    ("trace", Kind::Trace),
-];
-
-impl Kind {
-    /// The kind that a word names.
-    pub(crate) fn of(word: &str) -> Option<Kind> {
-        for (name, kind) in WORDS {
-            if word == name {
-                return Some(kind);
-            }
-        }
-        None
+/// Tells what bytes are as the kind that a word names:
+/// - `datagram`: its call, and a sample of a reply
+/// - `item`: opaque data of at most 8 bytes, and what is behind it
+/// - `fields`: numbers of 16, 32 and 64 bits, and the bytes behind them
+/// - `handle`: a volume, and a file handle
+/// - `place`: how many devices and areas, and a block's number
+/// - `label`, `gate`, `block`, `area`, `inode`, `head`, `page`: a disk's label, a gate, a block, an area's own block, an inode, the header of a
+///   record, a page of a tree
+/// - `state`: the state that the machines agree on
+/// - `held`: how many devices, and what a cell holds
+/// - `change`: a change of a state by its numbers, and the state
+/// - `packet`: its kind, how many devices, and its body
+/// - `schedule`, `trace`: a line of a schedule, the fields of a line of a trace
+pub(crate) fn tell(alloc: Global, line: &mut Line, word: &str, bytes: &[u8]) -> Result<(), Error> {
+    match word {
+        "datagram" => wire::datagram(alloc, line, bytes)?,
+        "item" => wire::item(alloc, line, bytes)?,
+        "fields" => numbers::fields(alloc, line, bytes)?,
+        "handle" => numbers::handle(line, bytes),
+        "place" => numbers::place(line, bytes),
+        "label" => layouts::label(line, bytes),
+        "gate" => layouts::gate(line, bytes),
+        "block" => layouts::block(alloc, line, bytes)?,
+        "area" => layouts::area(alloc, line, bytes)?,
+        "inode" => layouts::inode(alloc, line, bytes)?,
+        "head" => layouts::head(alloc, line, bytes)?,
+        "page" => pages::page(alloc, line, bytes)?,
+        "state" => states::state(alloc, line, bytes)?,
+        "held" => states::held(alloc, line, bytes)?,
+        "change" => states::change(alloc, line, bytes)?,
+        "packet" => packets::packet(alloc, line, bytes)?,
+        "schedule" => lines::schedule(alloc, line, bytes)?,
+        "trace" => lines::trace(alloc, line, bytes)?,
+        _ => return Err(anyhow!("no kind")),
     }
-
-    /// Tells what bytes are as this kind.
-    pub(crate) fn tell(
-        self,
-        alloc: Global,
-        line: &mut Line,
-        bytes: &[u8],
-    ) -> Result<(), OutOfMemory> {
-        match self {
-            Kind::Datagram => wire::datagram(alloc, line, bytes),
-            Kind::Item => wire::item(alloc, line, bytes),
-            Kind::Fields => numbers::fields(alloc, line, bytes),
-            Kind::Handle => Ok(numbers::handle(line, bytes)),
-            Kind::Place => Ok(numbers::place(line, bytes)),
-            Kind::Label => Ok(layouts::label(line, bytes)),
-            Kind::Gate => Ok(layouts::gate(line, bytes)),
-            Kind::Block => layouts::block(alloc, line, bytes),
-            Kind::Area => layouts::area(alloc, line, bytes),
-            Kind::Inode => layouts::inode(alloc, line, bytes),
-            Kind::Head => layouts::head(alloc, line, bytes),
-            Kind::Page => pages::page(alloc, line, bytes),
-            Kind::State => states::state(alloc, line, bytes),
-            Kind::Held => states::held(alloc, line, bytes),
-            Kind::Change => states::change(alloc, line, bytes),
-            Kind::Packet => packets::packet(alloc, line, bytes),
-            Kind::Schedule => lines::schedule(alloc, line, bytes),
-            Kind::Trace => lines::trace(alloc, line, bytes),
-        }
-    }
+    Ok(())
 }

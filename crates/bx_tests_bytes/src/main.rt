@@ -16,9 +16,8 @@ mod sample;
 mod states;
 mod wire;
 
-use anyhow::{Error, anyhow};
+use anyhow::Error;
 use bx_tests_lines::{Line, Row, bytes_of, run_files};
-use kinds::Kind;
 use std::alloc::Global;
 
 fn main(rt: HostRuntime) -> Result<(), Error> {
@@ -38,11 +37,8 @@ fn run_all(rt: &impl Print, alloc: Global, text: &str) -> Result<(), Error> {
 /// What a kind and bytes are answered.
 fn answer(alloc: Global, asked: &str) -> Result<String, Error> {
     let (word, spelled) = asked.split_once(' ').unwrap_or((asked, ""));
-    let Some(kind) = Kind::of(word) else {
-        return Err(anyhow!("no kind"));
-    };
     let bytes = bytes_of(alloc, spelled)?;
     let mut line = Line::new(alloc);
-    kind.tell(alloc, &mut line, bytes.as_slice())?;
+    kinds::tell(alloc, &mut line, word, bytes.as_slice())?;
     line.into_text()
 }

@@ -25,12 +25,12 @@ const CASES: [Case; 8] = [
     Case(
         "an old write and a boot that no state named",
         &[],
-        &[Part(1, &OLD_WRITE)],
+        &[Part(1, &STARTED), Part(1, &WRITTEN_OVER), Part(1, &OLD_WRITE)],
     ),
     Case(
         "an old write and a boot that a state named",
         &[],
-        &[Part(1, &NAMED_EARLY)],
+        &[Part(1, &NAMED_EARLY), Part(1, &WRITTEN_OVER), Part(1, &TAKEN_LATE)],
     ),
     Case("a fault in a write", &[8], &[Part(1, &FAULT)]),
     Case(
@@ -55,12 +55,12 @@ const COPIES: [Case; 3] = [
     Case(
         "a write of an earlier epoch",
         &[],
-        &[Part(1, &STALE_COPY), Part(281, &PIECE), Part(1, &STALE)],
+        &[Part(1, &AGAIN), Part(1, &STALE_COPY), Part(281, &PIECE), Part(1, &STALE)],
     ),
     Case(
         "a copy of a sector that is lost",
         &[],
-        &[Part(1, &UNSURE), Part(281, &PIECE), Part(1, &LOST)],
+        &[Part(1, &AGAIN), Part(1, &UNSURE), Part(281, &PIECE), Part(1, &LOST)],
     ),
 ];
 
@@ -167,6 +167,9 @@ const JOINS: [Step; 17] = [
     Shows(IsLong(A, B, 32788)),
 ];
 
+/// A is alone in epoch 2, and B starts again.
+const AGAIN: [Step; 3] = [Knows(1, 2, 0, 0), Stops(B), Starts(B, 1)];
+
 /// A piece of a copy of A is taken and acknowledged, and the next one goes.
 const PIECE: [Step; 3] = [Comes(A, B), Syncs(B), Comes(B, A)];
 
@@ -184,13 +187,17 @@ const JOINED: [Step; 9] = [
 ];
 
 /// A letter of epoch 1 that is late, to a member that started again, in a boot that no row named before.
-const OLD_WRITE: [Step; 27] = [
+const STARTED: [Step; 6] = [
     Writes(0, 5, 17, 4000),
     Comes(N0, B),
     Stops(A),
     Starts(A, 6),
     Ticks(A, 1000, Asks(Shift(1, 0, false, 6))),
     Knows(0, 2, 6, 0),
+];
+
+/// The write is done in epoch 2, and a later one is sure on both members.
+const WRITTEN_OVER: [Step; 14] = [
     Syncs(N0),
     ComesAt(Newest, N0, A, 1000),
     Comes(N0, B),
@@ -205,6 +212,9 @@ const OLD_WRITE: [Step; 27] = [
     Comes(N0, B),
     Syncs(A),
     Syncs(B),
+];
+
+const OLD_WRITE: [Step; 7] = [
     Stops(A),
     Starts(A, 7),
     Knows(0, 1, 0, 0),
@@ -215,7 +225,7 @@ const OLD_WRITE: [Step; 27] = [
 ];
 
 /// Where a state names a boot that A has later, as no state does that a cluster begins with, A takes the old letter then: the later write is lost on A.
-const NAMED_EARLY: [Step; 27] = [
+const NAMED_EARLY: [Step; 7] = [
     Knows(0, 1, 7, 0),
     Writes(0, 5, 17, 4000),
     Comes(N0, B),
@@ -223,20 +233,9 @@ const NAMED_EARLY: [Step; 27] = [
     Shows(Waits(A, false)),
     Ticks(A, 1000, Asks(Shift(1, 0, false, 0))),
     Knows(0, 2, 0, 0),
-    Syncs(N0),
-    ComesAt(Newest, N0, A, 1000),
-    Comes(N0, B),
-    Syncs(A),
-    Syncs(B),
-    Comes(A, N0),
-    Comes(B, N0),
-    Comes(B, N0),
-    Shows(IsDone(0, true)),
-    Writes(0, 5, 34, 4000),
-    ComesAt(Newest, N0, A, 1000),
-    Comes(N0, B),
-    Syncs(A),
-    Syncs(B),
+];
+
+const TAKEN_LATE: [Step; 6] = [
     Shows(Has(3, 5, 34)),
     Stops(A),
     Starts(A, 7),
@@ -280,14 +279,7 @@ const FAULT: [Step; 30] = [
 ];
 
 /// Node 1 knows epoch 2, in which A is alone; then B is copied to.
-const STALE_COPY: [Step; 6] = [
-    Knows(1, 2, 0, 0),
-    Stops(B),
-    Starts(B, 1),
-    Syncs(N1),
-    Knows(3, 3, 0, 1),
-    Syncs(A),
-];
+const STALE_COPY: [Step; 3] = [Syncs(N1), Knows(3, 3, 0, 1), Syncs(A)];
 
 /// Node 0's write is done in epoch 5 by B alone; A takes it too, still in epoch 4. Node 1's later write, sent in epoch 2, is not done there, nor in epoch 4, but
 /// once B has it.
@@ -371,10 +363,7 @@ const COUNTS_NOT: [Step; 10] = [
 ];
 
 /// A takes a write alone, and isn't synced; B joins, and A begins to copy.
-const UNSURE: [Step; 10] = [
-    Knows(1, 2, 0, 0),
-    Stops(B),
-    Starts(B, 1),
+const UNSURE: [Step; 7] = [
     Syncs(N0),
     Writes(0, 5, 85, 4000),
     Comes(N0, A),

@@ -1,10 +1,13 @@
 -- Labels are written where no member is that an audit reads.
-use Rattle.std.proofs.Common.{◌≡◌, ◌≢◌, ℕ, ◌<◌, ◌≤◌, Bool, List, refl, sym, ◌∙◌, subst, arith}
+use Rattle.std.proofs.Common.{◌≡◌, ◌≢◌, ◌⊎◌, ⊎_elim, inl, inr, ℕ, ◌<◌, ◌≤◌, Bool, true, false, List, refl, sym, ◌∙◌, ap, subst, arith}
+use Rattle.std.specs.Prelude.{bytes_eq}
+use Rattle.std.specs.Cmp.Lexicographic.{bytes_decides}
 use Rattle.bx_disk.specs.Disks.{Disks, Image, IsImage}
-use Rattle.bx_calls.specs.Calls.{HasSure, KeepsSure, LeavesOnly}
-use Rattle.bx_calls.specs.Laws.{leaves_implies, leaves_then}
+use Rattle.bx_base.specs.Writing.{padded}
+use Rattle.bx_calls.specs.Calls.{HasSure, KeepsAll, KeepsSure, LeavesOnly}
+use Rattle.bx_calls.specs.Laws.{leaves_implies}
 use Rattle.bx_global.specs.declared.state.GlobalState.{GlobalState}
-use Rattle.bx_layout.specs.Labels.{SpellsLabel}
+use Rattle.bx_layout.specs.Labels.{IsLabel, SpellsLabel, label_text}
 use Rattle.bx_layout.specs.declared.label.Label.{Label}
 use Rattle.bx_facts.specs.Disks.{SameDisks}
 use Rattle.bx_facts.specs.Writes.{HasLabels, IsSourceIn, Made, label_on, member_disk}
@@ -12,10 +15,6 @@ use Rattle.bx_plain_store.specs.Sources.{HasSources, KeepsSources}
 
 pub record LacksLabel (x : Disks) (disk : ℕ) (label : Label) : Type 0 where
   pub none : SpellsLabel label (x.reads disk 0) → ⊥
-
--- what is read isn't the label's text
-pub lacks_label : (x : Disks) (disk : ℕ) (label : Label) (text : List ℕ) → SpellsLabel label text → x.reads disk 0 ≢ text → LacksLabel x disk label
-lacks_label x disk label text is apart = record { none = λ spelled. apart (spelled.parts ∙ sym is.parts) }
 
 apart : (made : Made) (s : GlobalState) (x : Disks) (disk device : ℕ) (second : Bool) → HasLabels made x s → LacksLabel x disk (label_on made disk) → IsSourceIn s device second → member_disk device second ≢ disk
 apart made s x disk device second labels without source same = without.none (subst (λ (d : ℕ). SpellsLabel (label_on made d) (x.reads d 0)) same (labels.reads device second source))
@@ -45,18 +44,6 @@ keeps_same s x y same = record { members = λ device second sector source. same.
 pub has_image : (s : GlobalState) (x : Disks) (image : Image) → IsImage x image → HasSources s x image
 has_image s x image is = record { members = λ device second sector source sure. is.sure (member_disk device second) sector sure; replicas = λ d sector less sure. is.sure d sector sure }
 
-pub had_sources : (s : GlobalState) (x y : Disks) (image : Image) → KeepsSources s x y → HasSources s y image → HasSources s x image
-had_sources s x y image keeps has = record {
-  members = λ device second sector source sure. let k = keeps.members device second sector source in has.members device second sector source (k.sure sure) ∙ k.reads;
-  replicas = λ d sector less sure. let k = keeps.replicas d sector less in has.replicas d sector less (k.sure sure) ∙ k.reads;
-}
-
--- one stretch of time and the next
-pub leaves_next : (before mid now : ℕ) (past between since : ℕ → Image → Type 0) (s : GlobalState) (x y : Disks)
-    → LeavesOnly before mid past between (HasSources s x) → KeepsSources s x y → LeavesOnly mid now between since (HasSources s y) → LeavesOnly before now past since (HasSources s x)
-leaves_next before mid now past between since s x y first keeps next =
-    leaves_then before mid now past between since (HasSources s x) (HasSources s y) first next (λ image has. had_sources s x y image keeps has)
-
 pub leaves_image : (before now : ℕ) (past since : ℕ → Image → Type 0) (s : GlobalState) (x : Disks) → LeavesOnly before now past since (IsImage x) → LeavesOnly before now past since (HasSources s x)
 leaves_image before now past since s x leaves = leaves_implies before now past since (IsImage x) (HasSources s x) leaves (λ image is. has_image s x image is)
 
@@ -65,6 +52,30 @@ pub leaves_written : (before now : ℕ) (past since : ℕ → Image → Type 0) 
 leaves_written before now past since made s x disk count member labels without leaves =
     leaves_implies before now past since (HasSure x disk 0 count) (HasSources s x) leaves (λ image has. has_written made s x disk count image member labels without has)
 
--- reading, and no change
-pub same_state : (s : GlobalState) (x y : Disks) → y ≡ x → KeepsSources s x y
-same_state s x y same = subst (KeepsSources s x) (sym same) (keeps_same s x x (record { each = λ d sector. record { reads = refl; sure = λ was. was } }))
+-- a sector is this label, or isn't
+has_label : (label : Label) (sector : List ℕ) → IsLabel label → SpellsLabel label sector ⊎ (SpellsLabel label sector → ⊥)
+has_label label sector is = by (bytes_eq sector text) refl
+  where
+    text : List ℕ
+    text = padded 512 (label_text label)
+
+    by : (b : Bool) → bytes_eq sector text ≡ b → SpellsLabel label sector ⊎ (SpellsLabel label sector → ⊥)
+    by true same = inl (record { is = is; parts = (bytes_decides sector text).0 same })
+    by false other = inr (λ spelled. absurd (let h = sym other ∙ (bytes_decides sector text).1 spelled.parts in cc))
+
+all_kept : (x y : Disks) (disk : ℕ) → KeepsAll x y disk → SameDisks x y
+all_kept x y disk all = record { each = λ d s. record { reads = ap (λ (reads : ℕ → ℕ → List ℕ). reads d s) all.reads; sure = all.sure d s } }
+
+-- A disk that gets its label where it has another or none: where an audit reads it, it has it.
+pub label_keeps : (made : Made) (s : GlobalState) (x y : Disks) (disk : ℕ) → 3 ≤ disk → IsLabel (label_on made disk) → HasLabels made x s → KeepsSure x y disk 0 1 → (SpellsLabel (label_on made disk) (x.reads disk 0) → KeepsAll x y disk) → KeepsSources s x y
+label_keeps made s x y disk past is labels keeps had = ⊎_elim
+    (λ spelled. keeps_same s x y (all_kept x y disk (had spelled)))
+    (λ (without : SpellsLabel (label_on made disk) (x.reads disk 0) → ⊥). keeps_written made s x y disk 1 past labels (record { none = without }) keeps)
+    (has_label (label_on made disk) (x.reads disk 0) is)
+
+pub label_leaves : (before now : ℕ) (past_since since : ℕ → Image → Type 0) (made : Made) (s : GlobalState) (x : Disks) (disk : ℕ) → 3 ≤ disk → IsLabel (label_on made disk) → HasLabels made x s
+    → LeavesOnly before now past_since since (HasSure x disk 0 1) → (SpellsLabel (label_on made disk) (x.reads disk 0) → LeavesOnly before now past_since since (IsImage x)) → LeavesOnly before now past_since since (HasSources s x)
+label_leaves before now past_since since made s x disk past is labels leaves had = ⊎_elim
+    (λ spelled. leaves_image before now past_since since s x (had spelled))
+    (λ (without : SpellsLabel (label_on made disk) (x.reads disk 0) → ⊥). leaves_written before now past_since since made s x disk 1 past labels (record { none = without }) leaves)
+    (has_label (label_on made disk) (x.reads disk 0) is)

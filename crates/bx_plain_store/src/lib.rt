@@ -3,7 +3,6 @@
 
 mod greatest;
 mod inquiries;
-mod labels;
 mod parts;
 mod reads;
 mod runs;

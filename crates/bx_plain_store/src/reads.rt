@@ -5,16 +5,15 @@ ghost use Rattle.bx_disk.specs.Counts.{NoneRose};
 ghost use Rattle.bx_disk.specs.Kept.{Counted};
 ghost use Rattle.bx_disk.specs.Disks.{IsImage, sector_of};
 ghost use Rattle.bx_calls.specs.Calls.{LeavesOnly};
-ghost use Rattle.bx_calls.specs.Regions.{ReadsAs};
 ghost use Rattle.bx_facts.specs.declared.input.FactError.TheVariants.{Disk as DiskFails, OutOfMemory as MemoryFails};
 ghost use Rattle.bx_facts.specs.Writes.{IsSettled};
 ghost use Rattle.bx_plain_store.specs.Sources.{IsSourceDisk};
 
-use bx_base::{OutOfMemory, Raw};
-use bx_calls::read_sectors;
+use bx_base::Raw;
 use bx_disk::Rack;
 use bx_facts::FactError;
 use bx_global::GlobalState;
+use bx_mirror_disks::read_raw;
 use bx_rows::DeviceRow;
 use std::alloc::Global;
 
@@ -65,27 +64,4 @@ fn source_disk(row: &DeviceRow, device: u32) -> u32
     } else {
         4 + 2 * device
     }
-}
-
-/// The bytes of sectors of a disk.
-fn read_raw<R: Rack>(
-    alloc: Global,
-    rack: &mut R,
-    disk: u32,
-    place: u64,
-    count: u32,
-) -> Result<Raw, FactError>
-    requires disk { disk < length (R.state rack.old).sizes }
-    requires range { place + count ≤ slice_index (R.state rack.old).sizes disk }
-    ensures bytes { R.tells rack.old → IfOk result (λ bytes. ReadsAs (R.state rack.old).reads disk place bytes) }
-    ensures long { IfOk result (λ bytes. length bytes ≡ 512 * count) }
-    ensures stays { R.tells rack.old → R.state rack.new ≡ R.state rack.old }
-    ensures any_moment { R.tells rack.old → LeavesOnly (R.moment rack.old) (R.moment rack.new) (R.left_since rack.old) (R.left_since rack.new) (IsImage (R.state rack.old)) }
-    ensures memory { IsErrOf result MemoryFails → NoneRose (R.faults rack.old) (R.faults rack.new) (R.faults_of rack.old) (R.faults_of rack.new) }
-    ensures rack { Counted R.Rack rack.old rack.new result DiskFails }
-{
-    let size = 512 * count as usize;
-    let mut bytes = vec![in alloc; 0; size].map_err(OutOfMemory::from)?;
-    read_sectors(rack, disk, place, bytes.as_mut_slice())?;
-    Ok(Raw::from(bytes))
 }

@@ -8,7 +8,6 @@ ghost use Rattle.bx_plain_store.specs.Parts.{IsShape, made_of};
 
 use crate::greatest::{heard, later};
 use crate::inquiries::{Inquiry, take_answer};
-use crate::labels::label_member;
 use crate::parts::{copied, find_session, is_there, nothing, put_down, session_at};
 use crate::reads::Ask;
 use crate::sessions::{any_session, meet_session, put_session, sessions_of};
@@ -20,6 +19,7 @@ use bx_disk::Rack;
 use bx_facts::{FactError, Input, Outbox, Store};
 use bx_global::{Change, GlobalState};
 use bx_layout::Label;
+use bx_mirror_disks::label_own;
 use bx_records::Runs;
 use std::alloc::Global;
 
@@ -266,7 +266,7 @@ impl Store for PlainStore {
             devices: self.devices,
             areas: self.areas,
         };
-        label_member(rack, 3 + member, &label)?;
+        label_own(rack, 3 + member, &label)?;
         put_down(&mut self.down, member, false);
         Ok(())
     }

@@ -1,4 +1,5 @@
-use Rattle.std.proofs.Common.{◌≡◌, ℕ, List, ◌+◌, ap, refl, sym, ◌∙◌, subst, arith, false}
+use Rattle.std.proofs.Common.{◌≡◌, ℕ, List, ◌+◌, ap, refl, sym, ◌∙◌, subst, rules, arith, false}
+use Rattle.std.proofs.lemmas.Result.{err_from_is_err_and}
 use Rattle.bx_base.specs.declared.names.Actor.{Actor}
 use Rattle.bx_disk.specs.Disks.{Disks}
 use Rattle.bx_facts.specs.Chains.{last}
@@ -56,7 +57,7 @@ returns-in_err-label_own-clause-keeps_faulted g c = λ past tells keeps may faul
     let made : Made = made_of st.volume st.nodes st.devices st.areas in
     let x : Disks = g.R.Rack.state c.args.rack.now in
     let y : Disks = g.R.Rack.state c.label_own.new.rack in
-    let sure = sure_sources (last past.told.chain) x y c.label_own.ensures.rack.sizes (label_keeps made (last past.told.chain) x y (3 + c.in-Member.member) (omega arith) c.label_own.requires.label keeps.fits.labels (c.label_own.ensures.keeps tells) (c.label_own.ensures.had_label tells)) in
+    let sure = sure_sources (last past.told.chain) x y c.label_own.ensures.rack.sizes (label_keeps made (last past.told.chain) x y (3 + c.in-Member.member) (omega arith) (search rules) keeps.fits.labels (c.label_own.ensures.keeps tells) (c.label_own.ensures.had_label tells)) in
     keeps_failed made st.greatest c.later-self.result st.owns.items st.slots.items x y past c.args.who c.args._boot c.args.reading keeps c.later-self.ensures (labels_kept made x y (last past.told.chain) sure keeps.fits.labels)
 
 pub returns-in_err-label_own-clause-any_moment : goal.returns-in_err-label_own-clause-any_moment
@@ -64,8 +65,8 @@ returns-in_err-label_own-clause-any_moment g c = λ past tells keeps may.
     let st = c.args.self.now in
     let made : Made = made_of st.volume st.nodes st.devices st.areas in
     let x : Disks = g.R.Rack.state c.args.rack.now in
-    leaves_sources _ _ _ _ past.writes past.told.greatest (last past.told.chain) x 
-    (label_leaves _ _ _ _ made (last past.told.chain) x (3 + c.in-Member.member) (omega arith) c.label_own.requires.label keeps.fits.labels (c.label_own.ensures.any_moment tells) (c.label_own.ensures.had_moment tells))
+    leaves_sources _ _ _ _ past.writes past.told.greatest (last past.told.chain) x
+    (label_leaves _ _ _ _ made (last past.told.chain) x (3 + c.in-Member.member) (omega arith) (search rules) keeps.fits.labels (c.label_own.ensures.any_moment tells) (c.label_own.ensures.had_moment tells))
 
 pub returns-in_err-label_own-clause-replicas : goal.returns-in_err-label_own-clause-replicas
 returns-in_err-label_own-clause-replicas g c = λ tells. replicas_both _ _ (replicas_sure _ _ (3 + c.in-Member.member) 0 1 (omega arith) (c.label_own.ensures.keeps tells))
@@ -76,7 +77,7 @@ returns-clause-keeps g c = λ past tells keeps may.
     let made : Made = made_of st.volume st.nodes st.devices st.areas in
     let x : Disks = g.R.Rack.state c.args.rack.now in
     let y : Disks = g.R.Rack.state c.label_own.new.rack in
-    let sure = sure_sources (last past.told.chain) x y c.label_own.ensures.rack.sizes (label_keeps made (last past.told.chain) x y (3 + c.in-Member.member) (omega arith) c.label_own.requires.label keeps.fits.labels (c.label_own.ensures.keeps tells) (c.label_own.ensures.had_label tells)) in
+    let sure = sure_sources (last past.told.chain) x y c.label_own.ensures.rack.sizes (label_keeps made (last past.told.chain) x y (3 + c.in-Member.member) (omega arith) (search rules) keeps.fits.labels (c.label_own.ensures.keeps tells) (c.label_own.ensures.had_label tells)) in
     keeps_restarted made st.greatest c.later-self.result st.owns.items st.slots.items x y past c.args.who c.args._boot c.args.reading keeps c.later-self.ensures (labels_kept made x y (last past.told.chain) sure keeps.fits.labels)
 
 pub returns-clause-any_moment : goal.returns-clause-any_moment
@@ -84,8 +85,8 @@ returns-clause-any_moment g c = λ past tells keeps may.
     let st = c.args.self.now in
     let made : Made = made_of st.volume st.nodes st.devices st.areas in
     let x : Disks = g.R.Rack.state c.args.rack.now in
-    leaves_sources _ _ _ _ past.writes past.told.greatest (last past.told.chain) x 
-    (label_leaves _ _ _ _ made (last past.told.chain) x (3 + c.in-Member.member) (omega arith) c.label_own.requires.label keeps.fits.labels (c.label_own.ensures.any_moment tells) (c.label_own.ensures.had_moment tells))
+    leaves_sources _ _ _ _ past.writes past.told.greatest (last past.told.chain) x
+    (label_leaves _ _ _ _ made (last past.told.chain) x (3 + c.in-Member.member) (omega arith) (search rules) keeps.fits.labels (c.label_own.ensures.any_moment tells) (c.label_own.ensures.had_moment tells))
 
 pub returns-clause-replicas : goal.returns-clause-replicas
 returns-clause-replicas g c = λ tells. replicas_both _ _ (replicas_sure _ _ (3 + c.in-Member.member) 0 1 (omega arith) (c.label_own.ensures.keeps tells))
@@ -96,7 +97,7 @@ returns-clause-settled g c = λ past device sector content tells keeps may only 
     let made : Made = made_of st.volume st.nodes st.devices st.areas in
     let x : Disks = g.R.Rack.state c.args.rack.now in
     let y : Disks = g.R.Rack.state c.label_own.new.rack in
-    let sure = sure_sources (last past.told.chain) x y c.label_own.ensures.rack.sizes (label_keeps made (last past.told.chain) x y (3 + c.in-Member.member) (omega arith) c.label_own.requires.label keeps.fits.labels (c.label_own.ensures.keeps tells) (c.label_own.ensures.had_label tells)) in
+    let sure = sure_sources (last past.told.chain) x y c.label_own.ensures.rack.sizes (label_keeps made (last past.told.chain) x y (3 + c.in-Member.member) (omega arith) (search rules) keeps.fits.labels (c.label_own.ensures.keeps tells) (c.label_own.ensures.had_label tells)) in
     (settled_kept x y (last past.told.chain) device sector content sure is, λ fault. absurd (let h = fault in cc))
 
 pub returns-clause-stands : goal.returns-clause-stands
@@ -105,7 +106,7 @@ returns-clause-stands g c = λ past device sector content index tells keeps may 
     let made : Made = made_of st.volume st.nodes st.devices st.areas in
     let x : Disks = g.R.Rack.state c.args.rack.now in
     let y : Disks = g.R.Rack.state c.label_own.new.rack in
-    let sure = sure_sources (last past.told.chain) x y c.label_own.ensures.rack.sizes (label_keeps made (last past.told.chain) x y (3 + c.in-Member.member) (omega arith) c.label_own.requires.label keeps.fits.labels (c.label_own.ensures.keeps tells) (c.label_own.ensures.had_label tells)) in
+    let sure = sure_sources (last past.told.chain) x y c.label_own.ensures.rack.sizes (label_keeps made (last past.told.chain) x y (3 + c.in-Member.member) (omega arith) (search rules) keeps.fits.labels (c.label_own.ensures.keeps tells) (c.label_own.ensures.had_label tells)) in
     (settled_kept x y (last past.told.chain) device sector content sure is, λ fault. absurd (let h = fault in cc))
 
 pub returns-clause-reads : goal.returns-clause-reads
@@ -114,7 +115,7 @@ returns-clause-reads g c = λ past reader sector content asks tells keeps may ap
     let made : Made = made_of st.volume st.nodes st.devices st.areas in
     let x : Disks = g.R.Rack.state c.args.rack.now in
     let y : Disks = g.R.Rack.state c.label_own.new.rack in
-    let sure = sure_sources (last past.told.chain) x y c.label_own.ensures.rack.sizes (label_keeps made (last past.told.chain) x y (3 + c.in-Member.member) (omega arith) c.label_own.requires.label keeps.fits.labels (c.label_own.ensures.keeps tells) (c.label_own.ensures.had_label tells)) in
+    let sure = sure_sources (last past.told.chain) x y c.label_own.ensures.rack.sizes (label_keeps made (last past.told.chain) x y (3 + c.in-Member.member) (omega arith) (search rules) keeps.fits.labels (c.label_own.ensures.keeps tells) (c.label_own.ensures.had_label tells)) in
     (will_keep _ _ x y (last past.told.chain) (last past.told.chain) sector content (λ a is settled. settled_kept x y (last past.told.chain) a.device sector content sure settled) reads, λ fault. absurd (let h = fault in cc))
 
 pub returns-clause-label : goal.returns-clause-label
@@ -156,3 +157,33 @@ pub returns-clause-synced : goal.returns-clause-synced
 returns-clause-synced g c = λ n sector is tells.
     let same : c.in-Member.member ≡ n = (let h = sym c.in-Member.is ∙ is in cc) in
     subst (λ (m : ℕ). (g.R.Rack.state c.label_own.new.rack).unsure (3 + m) sector ≡ false) same ((c.in_ok-label_own.ensures.synced tells).each sector)
+
+pub returns-in_err-label_own-clause-settled : goal.returns-in_err-label_own-clause-settled
+returns-in_err-label_own-clause-settled g c = λ past device sector content tells keeps may only is.
+    let st = c.args.self.now in
+    let made : Made = made_of st.volume st.nodes st.devices st.areas in
+    let x : Disks = g.R.Rack.state c.args.rack.now in
+    let y : Disks = g.R.Rack.state c.label_own.new.rack in
+    let sure = sure_sources (last past.told.chain) x y c.label_own.ensures.rack.sizes (label_keeps made (last past.told.chain) x y (3 + c.in-Member.member) (omega arith) (search rules) keeps.fits.labels (c.label_own.ensures.keeps tells) (c.label_own.ensures.had_label tells)) in
+    let p = err_from_is_err_and c.from_residual.result c.from_residual.ensures.1 in
+    rw p.1 (tt, λ fault. settled_kept x y (last past.told.chain) device sector content sure is)
+
+pub returns-in_err-label_own-clause-stands : goal.returns-in_err-label_own-clause-stands
+returns-in_err-label_own-clause-stands g c = λ past device sector content index tells keeps may only is.
+    let st = c.args.self.now in
+    let made : Made = made_of st.volume st.nodes st.devices st.areas in
+    let x : Disks = g.R.Rack.state c.args.rack.now in
+    let y : Disks = g.R.Rack.state c.label_own.new.rack in
+    let sure = sure_sources (last past.told.chain) x y c.label_own.ensures.rack.sizes (label_keeps made (last past.told.chain) x y (3 + c.in-Member.member) (omega arith) (search rules) keeps.fits.labels (c.label_own.ensures.keeps tells) (c.label_own.ensures.had_label tells)) in
+    let p = err_from_is_err_and c.from_residual.result c.from_residual.ensures.1 in
+    rw p.1 (tt, λ fault. settled_kept x y (last past.told.chain) device sector content sure is)
+
+pub returns-in_err-label_own-clause-reads : goal.returns-in_err-label_own-clause-reads
+returns-in_err-label_own-clause-reads g c = λ past reader sector content asks tells keeps may apart asked only reads.
+    let st = c.args.self.now in
+    let made : Made = made_of st.volume st.nodes st.devices st.areas in
+    let x : Disks = g.R.Rack.state c.args.rack.now in
+    let y : Disks = g.R.Rack.state c.label_own.new.rack in
+    let sure = sure_sources (last past.told.chain) x y c.label_own.ensures.rack.sizes (label_keeps made (last past.told.chain) x y (3 + c.in-Member.member) (omega arith) (search rules) keeps.fits.labels (c.label_own.ensures.keeps tells) (c.label_own.ensures.had_label tells)) in
+    let p = err_from_is_err_and c.from_residual.result c.from_residual.ensures.1 in
+    rw p.1 (tt, λ fault. will_keep _ _ x y (last past.told.chain) (last past.told.chain) sector content (λ a is settled. settled_kept x y (last past.told.chain) a.device sector content sure settled) reads)

@@ -1,7 +1,8 @@
 -- How a server stands in a turn, and what a part of it does.
 use Rattle.bx_disk.specs.Disks.{Disks}
-use Rattle.bx_world_events.specs.Refusals.{Seen}
-use Rattle.std.specs.Prelude.{◌≡◌, ℕ, ◌<◌, ◌≤◌, List, ◌++◌, Result, Ok, Err, IfErr, ◌⊎◌, true, false}
+use Rattle.bx_world_events.specs.Refusals.{Seen, refusal}
+use Rattle.bx_world_events.specs.declared.event.Event.{Event}
+use Rattle.std.specs.Prelude.{◌≡◌, ℕ, ◌<◌, ◌≤◌, List, ◌++◌, None, Result, Ok, Err, IfErr, ◌⊎◌, true, false}
 use Rattle.bx_base.specs.declared.names.Actor.{Actor}
 use Rattle.bx_cluster.specs.declared.outcome.Outcome.{Outcome}
 use Rattle.bx_disk.specs.Counts.{NoneFalls}
@@ -62,6 +63,12 @@ pub record KeepsRack {R : Type 0} (ra : racks.Ghosts R) (old new : R) : Type 0 w
 -- so many events that start something may still be done
 abbrev pub most_events : ℕ
 most_events = 4611686018427387904
+
+-- An event may be done now: the turn has one left, the event has its reading, and it isn't refused.
+pub record IsNow {C : Type 0} (seen_of : C → Seen) (host : Host C) (event : Event) : Type 0 where
+  pub left : 0 < host.left
+  pub at : IsAt host.reading (seen_of host.cluster) event
+  pub allowed : refusal (seen_of host.cluster) event ≡ None
 
 module _ {C R : Type 0} (seen_of : C → Seen) (room_of : C → List ℕ → Type 0) (led_of : C → Disks → Tree → List Part → Type 0) (ra : racks.Ghosts R) where
   -- It can go on at its reading: it has a node, its disks have numbers, no reading lies beyond, the rack has room, and not too many machines have stopped.

@@ -1,11 +1,9 @@
 //! What a turn sends.
 
-ghost use Rattle.std.specs.Prelude.{◌≡◌, ◌⊎◌, [], ◌∷◌, IfErr, IfOk, IsErrOf};
-ghost use Rattle.bx_base.specs.Faults.{Rose, count_up};
-ghost use Rattle.bx_host.specs.Hearing.{KeepsLink};
-ghost use Rattle.bx_host.specs.Sending.{SendsAll, counted};
+ghost use Rattle.std.specs.Prelude.{◌≡◌, [], ◌∷◌, IfOk};
+ghost use Rattle.bx_base.specs.Faults.{count_up};
+ghost use Rattle.bx_host.specs.Sending.{FailsLink, Sends, counted};
 ghost use Rattle.bx_host.specs.Steps.{datagram_of, datagrams, owed, replies_of};
-ghost use Rattle.bx_host.specs.declared.error.HostError.TheVariants.{Link as LinkFault, OutOfMemory as NoMemory};
 
 use crate::error::HostError;
 use bx_cluster::{Outcome, ReplyOut};
@@ -17,12 +15,9 @@ pub(crate) fn send_all<L: Link>(
     outcomes: &[Outcome],
     sent: u64,
 ) -> Result<u64, HostError>
-    ensures sends { L.tells link.old → SendsAll result (owed outcomes.now) (L.sent link.old) (L.sent link.new) }
-    ensures given { L.tells link.old → L.given link.new ≡ L.given link.old }
+    ensures sends { Sends L.Link link.old link.new (owed outcomes.now) result }
     ensures count { IfOk result (λ now. now ≡ counted sent (owed outcomes.now)) }
-    ensures why { IfErr result (λ error. (error ≡ LinkFault) ⊎ (error ≡ NoMemory)) }
-    ensures cause { IsErrOf result LinkFault → Rose (L.faults link.old) (L.faults link.new) }
-    ensures keeps { KeepsLink L.Link link.old link.new }
+    ensures link { FailsLink L.Link link.old link.new result }
 {
     let mut count = sent;
     for outcome in outcomes {
@@ -33,12 +28,9 @@ pub(crate) fn send_all<L: Link>(
 
 /// Sends the replies of an outcome, and then the kept answer that is sent again; answers the count.
 fn send_outcome<L: Link>(link: &mut L, outcome: &Outcome, sent: u64) -> Result<u64, HostError>
-    ensures sends { L.tells link.old → SendsAll result (datagrams outcome.now) (L.sent link.old) (L.sent link.new) }
-    ensures given { L.tells link.old → L.given link.new ≡ L.given link.old }
+    ensures sends { Sends L.Link link.old link.new (datagrams outcome.now) result }
     ensures count { IfOk result (λ now. now ≡ counted sent (datagrams outcome.now)) }
-    ensures why { IfErr result (λ error. (error ≡ LinkFault) ⊎ (error ≡ NoMemory)) }
-    ensures cause { IsErrOf result LinkFault → Rose (L.faults link.old) (L.faults link.new) }
-    ensures keeps { KeepsLink L.Link link.old link.new }
+    ensures link { FailsLink L.Link link.old link.new result }
 {
     let count = send_replies(link, outcome.replies.items(), sent)?;
     match &outcome.again {
@@ -49,12 +41,9 @@ fn send_outcome<L: Link>(link: &mut L, outcome: &Outcome, sent: u64) -> Result<u
 
 /// Sends replies in their order; answers the count.
 fn send_replies<L: Link>(link: &mut L, replies: &[ReplyOut], sent: u64) -> Result<u64, HostError>
-    ensures sends { L.tells link.old → SendsAll result (replies_of replies.now) (L.sent link.old) (L.sent link.new) }
-    ensures given { L.tells link.old → L.given link.new ≡ L.given link.old }
+    ensures sends { Sends L.Link link.old link.new (replies_of replies.now) result }
     ensures count { IfOk result (λ now. now ≡ counted sent (replies_of replies.now)) }
-    ensures why { IfErr result (λ error. (error ≡ LinkFault) ⊎ (error ≡ NoMemory)) }
-    ensures cause { IsErrOf result LinkFault → Rose (L.faults link.old) (L.faults link.new) }
-    ensures keeps { KeepsLink L.Link link.old link.new }
+    ensures link { FailsLink L.Link link.old link.new result }
 {
     let mut count = sent;
     for reply in replies {
@@ -65,12 +54,9 @@ fn send_replies<L: Link>(link: &mut L, replies: &[ReplyOut], sent: u64) -> Resul
 
 /// Sends a reply to its client; answers the count.
 fn send<L: Link>(link: &mut L, reply: &ReplyOut, sent: u64) -> Result<u64, HostError>
-    ensures sends { L.tells link.old → SendsAll result (datagram_of reply.now ∷ []) (L.sent link.old) (L.sent link.new) }
-    ensures given { L.tells link.old → L.given link.new ≡ L.given link.old }
+    ensures sends { Sends L.Link link.old link.new (datagram_of reply.now ∷ []) result }
     ensures count { IfOk result (λ now. now ≡ count_up sent) }
-    ensures why { IfErr result (λ error. (error ≡ LinkFault) ⊎ (error ≡ NoMemory)) }
-    ensures cause { IsErrOf result LinkFault → Rose (L.faults link.old) (L.faults link.new) }
-    ensures keeps { KeepsLink L.Link link.old link.new }
+    ensures link { FailsLink L.Link link.old link.new result }
 {
     link.send(reply.client, reply.bytes.bytes())?;
     Ok(sent.saturating_add(1))

@@ -1,12 +1,11 @@
 //! One event of a turn.
 
-ghost use Rattle.std.specs.Prelude.{◌≡◌, ◌<◌, ◌++◌, ◌⊎◌, IfErr, IsErrOf, IsSome, None, OnOk, false, true};
+ghost use Rattle.std.specs.Prelude.{◌≡◌, ◌<◌, ◌++◌, ◌⊎◌, IfErr, IsErrOf, IsSome, OnOk, false, true};
 ghost use Rattle.bx_base.specs.Faults.{Rose};
 ghost use Rattle.bx_cluster.specs.Steps.{Counted};
-ghost use Rattle.bx_world_events.specs.Refusals.{refusal};
 ghost use Rattle.bx_host.specs.Lost.{is_lost};
-ghost use Rattle.bx_host.specs.Standing.{CanGo, Goes, IsNoted, most_events};
-ghost use Rattle.bx_host.specs.Steps.{IsAt, brought_in, datagrams, is_silent, owed, stopped_in};
+ghost use Rattle.bx_host.specs.Standing.{CanGo, Goes, IsNoted, IsNow, most_events};
+ghost use Rattle.bx_host.specs.Steps.{brought_in, datagrams, is_silent, owed, stopped_in};
 ghost use Rattle.bx_host.specs.Turns.{IsOne};
 ghost use Rattle.bx_host.specs.declared.error.HostError.TheVariants.{Disk as DiskFault, OutOfMemory as NoMemory};
 
@@ -27,11 +26,9 @@ impl<C: Cluster> Host<C> {
         rack: &mut R,
         event: &Event,
     ) -> Result<(), HostError>
-        requires left { 0 < self.old.left }
-        requires goes { CanGo C.seen C.room C.led R.Rack self.old rack.old }
+        requires now { IsNow C.seen self.old event.now }
         requires few { C.events self.old.cluster < most_events }
-        requires at { IsAt self.old.reading (C.seen self.old.cluster) event.now }
-        requires allowed { refusal (C.seen self.old.cluster) event.now ≡ None }
+        requires goes { CanGo C.seen C.room C.led R.Rack self.old rack.old }
         ensures ends { Goes C.seen C.room C.led R.Rack result (IsOne event.now) (brought_in event.now) self.old rack.old self.new rack.new }
         ensures goes { OnOk result (CanGo C.seen C.room C.led R.Rack self.new rack.new) }
         ensures counted { OnOk result (Counted event.now (C.events self.old.cluster) (C.events self.new.cluster)) }

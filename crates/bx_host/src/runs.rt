@@ -7,8 +7,8 @@ ghost use Rattle.bx_cluster.specs.Steps.{Counted};
 ghost use Rattle.bx_driver.specs.Machines.{HasDiskNumbers};
 ghost use Rattle.bx_world_events.specs.Causes.{IsThere};
 ghost use Rattle.bx_world_events.specs.Refusals.{clock_back, refusal};
-ghost use Rattle.bx_host.specs.Standing.{CanGo, Goes, most_events};
-ghost use Rattle.bx_host.specs.Steps.{IsAt, brought_in};
+ghost use Rattle.bx_host.specs.Standing.{CanGo, Goes, IsNow, most_events};
+ghost use Rattle.bx_host.specs.Steps.{brought_in};
 ghost use Rattle.bx_host.specs.Turns.{IsDueNow, IsOver, IsRun, IsSettled, IsTicked};
 ghost use Rattle.bx_host.specs.declared.error.HostError.TheVariants.{Disk as DiskFault};
 
@@ -59,11 +59,9 @@ impl<C: Cluster> Host<C> {
         rack: &mut R,
         event: &Event,
     ) -> Result<(), HostError>
-        requires left { 0 < self.old.left }
-        requires goes { CanGo C.seen C.room C.led R.Rack self.old rack.old }
+        requires now { IsNow C.seen self.old event.now }
         requires few { C.events self.old.cluster + 1 < most_events }
-        requires at { IsAt self.old.reading (C.seen self.old.cluster) event.now }
-        requires allowed { refusal (C.seen self.old.cluster) event.now ≡ None }
+        requires goes { CanGo C.seen C.room C.led R.Rack self.old rack.old }
         ensures ends { Goes C.seen C.room C.led R.Rack result (IsSettled (λ its. its ≡ event.now) self.old.reading) (brought_in event.now) self.old rack.old self.new rack.new }
         ensures goes { OnOk result (CanGo C.seen C.room C.led R.Rack self.new rack.new) }
         ensures counted { OnOk result (Counted event.now (C.events self.old.cluster) (C.events self.new.cluster)) }

@@ -6,7 +6,7 @@ ghost use Rattle.bx_disk.specs.Disks.{Disks};
 ghost use Rattle.bx_history.specs.Parts.{Part};
 ghost use Rattle.bx_model.specs.declared.tree.Tree.{Tree};
 ghost use Rattle.bx_host.specs.Hearing.{KeepsLink};
-ghost use Rattle.bx_host.specs.Sending.{SendsAll, counted};
+ghost use Rattle.bx_host.specs.Sending.{FailsLink, Sends, counted};
 ghost use Rattle.bx_host.specs.Serves.{BreaksTurn, DoesTurn, KeepsSink, ready_text};
 ghost use Rattle.bx_host.specs.Standing.{CanGo, KeepsRack, most_events};
 ghost use Rattle.bx_host.specs.Steps.{owed};
@@ -89,13 +89,10 @@ impl<C: Cluster> Host<C> {
 
     /// Sends what the turn answers.
     fn answer<L: Link>(&mut self, link: &mut L) -> Result<(), HostError>
-        ensures sends { L.tells link.old → SendsAll result (owed self.old.answers) (L.sent link.old) (L.sent link.new) }
-        ensures given { L.tells link.old → L.given link.new ≡ L.given link.old }
+        ensures sends { Sends L.Link link.old link.new (owed self.old.answers) result }
         ensures count { OnOk result (self.new.sent ≡ counted self.old.sent (owed self.old.answers)) }
         ensures same { self.new ≡ record self.old { sent = self.new.sent } }
-        ensures why { IfErr result (λ error. (error ≡ LinkFault) ⊎ (error ≡ NoMemory)) }
-        ensures cause { IsErrOf result LinkFault → Rose (L.faults link.old) (L.faults link.new) }
-        ensures keeps { KeepsLink L.Link link.old link.new }
+        ensures link { FailsLink L.Link link.old link.new result }
     {
         self.sent = send_all(link, self.answers.items(), self.sent)?;
         Ok(())

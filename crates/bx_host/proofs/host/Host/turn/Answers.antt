@@ -32,7 +32,7 @@ returns-in_err-answer-clause-breaks g c =
     let p = err_from_is_err_and c.from_residual-in_err-answer.result c.from_residual-in_err-answer.ensures.1 in
     let goes = subst (λ h. Goes g.C.Shows.seen g.C.Cluster.room g.C.Cluster.led g.R.Rack {A = Unit {0}} (Ok tt) (AllTicked h.first h.reading) [] h c.args.rack.now c.tick_all.new.self c.tick_all.new.rack) c.begin.ensures c.in_ok-tick_all.ensures.ends in
     let hears = subst (λ h. Hears g.C.Shows.seen g.C.Cluster.room g.C.Cluster.led g.R.Rack g.L.Link {A = Unit {0}} (Ok tt) h c.tick_all.new.rack c.hear.new.self c.hear.new.rack c.args.link.now c.hear.new.link) c.in_ok-tell_ready.ensures.ready c.in_ok-hear.ensures.hears in
-    rw (p.1, p.2) (breaks_sending g.C.Shows.seen g.C.Cluster.room g.C.Cluster.led g.R.Rack g.L.Link g.S.Sink c.args.self.now c.tick_all.new.self c.hear.new.self c.answer.new.self c.args.rack.now c.tick_all.new.rack c.hear.new.rack c.args.link.now c.hear.new.link c.answer.new.link c.args.now _ _ c.in_err-answer.ensures.why goes hears c.answer.ensures.same c.in_err-answer.ensures.sends c.answer.ensures.given)
+    rw (p.1, p.2) (breaks_sending g.C.Shows.seen g.C.Cluster.room g.C.Cluster.led g.R.Rack g.L.Link g.S.Sink c.args.self.now c.tick_all.new.self c.hear.new.self c.answer.new.self c.args.rack.now c.tick_all.new.rack c.hear.new.rack c.args.link.now c.hear.new.link c.answer.new.link c.args.now _ _ c.in_err-answer.ensures.link.why goes hears c.answer.ensures.same c.in_err-answer.ensures.sends.sends c.answer.ensures.sends.given)
 
 pub returns-clause-does : goal.returns-clause-does
 returns-clause-does g c =
@@ -41,4 +41,4 @@ returns-clause-does g c =
     let hears = subst (λ h. Hears g.C.Shows.seen g.C.Cluster.room g.C.Cluster.led g.R.Rack g.L.Link {A = Unit {0}} (Ok tt) h c.tick_all.new.rack c.hear.new.self c.hear.new.rack c.args.link.now c.hear.new.link) told c.in_ok-hear.ensures.hears in
     let answered = c.answer.ensures.same ∙ ap (λ n. record c.hear.new.self { sent = n }) c.in_ok-answer.ensures.count in
     turn_done g.C.Shows.seen g.C.Cluster.room g.C.Cluster.led g.R.Rack g.L.Link g.S.Sink c.args.self.now c.tick_all.new.self c.hear.new.self c.answer.new.self c.end.new.self c.args.rack.now c.tick_all.new.rack c.hear.new.rack c.args.link.now c.hear.new.link c.answer.new.link c.args.out.now c.tell_ready.new.out c.args.now _
-    goes refl (λ tells. c.in_ok-tell_ready.ensures.written tells ∙ ap (λ h. g.S.Sink.written c.args.out.now ++ ready_text c.tick_all.new.self.ready h.ready) told) hears c.in_ok-answer.ensures.sends c.answer.ensures.given answered c.end.ensures.same c.end.ensures.shows c.end.ensures.at
+    goes refl (λ tells. c.in_ok-tell_ready.ensures.written tells ∙ ap (λ h. g.S.Sink.written c.args.out.now ++ ready_text c.tick_all.new.self.ready h.ready) told) hears c.in_ok-answer.ensures.sends.sends c.answer.ensures.sends.given answered c.end.ensures.same c.end.ensures.shows c.end.ensures.at

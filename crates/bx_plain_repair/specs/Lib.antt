@@ -1,5 +1,6 @@
 pub mod Bench
 pub mod HomesOf
+pub mod Kept
 pub mod Left
 pub mod Recovering
 pub mod Resting

@@ -2,12 +2,12 @@
 
 ghost use Rattle.std.specs.Prelude.{◌≡◌, ◌⊎◌, ◌↔◌, ℕ, ◌+◌, ◌<◌, true, false, List, length, IsTrue, IfOk, IfSome, IfNone, OnOk, OnErr, IsErrOf};
 ghost use Rattle.bx_base.specs.Faults.{Rose};
-ghost use Rattle.bx_disk.specs.Counts.{NoneFalls, NoneRose};
-ghost use Rattle.bx_disk.specs.declared.fault.RackError.TheVariants.{Fault, OutOfMemory as NoMemory};
+ghost use Rattle.bx_disk.specs.declared.fault.RackError.TheVariants.{Fault};
 ghost use Rattle.bx_layout.specs.Blocks.{HasParts};
 ghost use Rattle.bx_logs.specs.Newest.{newest_at};
 ghost use Rattle.bx_plain_repair.specs.Bench.{AreLong};
 ghost use Rattle.bx_plain_repair.specs.HomesOf.{AreHomesBelow, HasNone};
+ghost use Rattle.bx_plain_repair.specs.Kept.{KeepsCounts};
 ghost use Rattle.bx_plain_repair.specs.Resting.{Rests, StandsAs, closes_log};
 ghost use Rattle.bx_plain_repair.specs.Spared.{SparesOthers};
 ghost use Rattle.bx_model.specs.declared.tree.Tree.{Tree};
@@ -46,11 +46,7 @@ pub(crate) fn write_homes<R: Rack>(
         → ((at : ℕ) → newest_at newest.now at ≡ newest_in records at) → OnErr result (Rests volume floor tree records (R.state rack.new)) }
     ensures spares { R.tells rack.old → SparesOthers (R.state rack.old) (R.state rack.new) }
     ensures cause { IsErrOf result Fault → Rose (R.faults rack.old) (R.faults rack.new) ⊎ HasNone (newest_at newest.now) }
-    ensures memory { IsErrOf result NoMemory → NoneRose (R.faults rack.old) (R.faults rack.new) (R.faults_of rack.old) (R.faults_of rack.new) }
-    ensures no_fault { OnOk result (NoneRose (R.faults rack.old) (R.faults rack.new) (R.faults_of rack.old) (R.faults_of rack.new)) }
-    ensures later { NoneFalls (R.faults rack.old) (R.faults rack.new) (R.faults_of rack.old) (R.faults_of rack.new) }
-    ensures sizes { (R.state rack.new).sizes ≡ (R.state rack.old).sizes }
-    ensures keeps_telling { R.tells rack.old → R.tells rack.new }
+    ensures rack { KeepsCounts R.Rack rack.old rack.new result }
 {
     let Some(runs) = home_runs(alloc, newest)? else {
         return Err(RackError::Fault);

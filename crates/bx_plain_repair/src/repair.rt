@@ -2,11 +2,11 @@
 
 ghost use Rattle.std.specs.Prelude.{◌≡◌, ◌⊎◌, ℕ, ◌<◌, List, [], length, Option, IfOk, OnOk, OnErr, IsErrOf};
 ghost use Rattle.bx_base.specs.Faults.{Rose};
-ghost use Rattle.bx_disk.specs.Counts.{NoneFalls, NoneRose};
-ghost use Rattle.bx_disk.specs.declared.fault.RackError.TheVariants.{Fault, OutOfMemory as NoMemory};
+ghost use Rattle.bx_disk.specs.declared.fault.RackError.TheVariants.{Fault};
 ghost use Rattle.bx_plain_repair.specs.Bench.{AreLong};
 ghost use Rattle.bx_plain_repair.specs.Left.{Doubt, IsClosed, IsLeft};
 ghost use Rattle.bx_plain_repair.specs.HomesOf.{HasNone};
+ghost use Rattle.bx_plain_repair.specs.Kept.{KeepsCounts};
 ghost use Rattle.bx_plain_repair.specs.Recovering.{Recovers};
 ghost use Rattle.bx_plain_repair.specs.Resting.{Comes, IsOpenLog, Rests, StandsAs, shuts_log};
 ghost use Rattle.bx_plain_repair.specs.Spared.{SparesOthers};
@@ -34,11 +34,7 @@ pub fn recover<R: Rack>(alloc: Global, rack: &mut R, floor: CallNo) -> Result<Re
         → OnErr result (IsLeft volume floor tree doubt (R.state rack.new)) }
     ensures spares { R.tells rack.old → SparesOthers (R.state rack.old) (R.state rack.new) }
     ensures cause { IsErrOf result Fault → Rose (R.faults rack.old) (R.faults rack.new) ⊎ ((volume : ℕ) (tree : Tree) (doubt : Option Doubt) → R.tells rack.old → IsLeft volume floor tree doubt (R.state rack.old) → ⊥) }
-    ensures memory { IsErrOf result NoMemory → NoneRose (R.faults rack.old) (R.faults rack.new) (R.faults_of rack.old) (R.faults_of rack.new) }
-    ensures no_fault { OnOk result (NoneRose (R.faults rack.old) (R.faults rack.new) (R.faults_of rack.old) (R.faults_of rack.new)) }
-    ensures later { NoneFalls (R.faults rack.old) (R.faults rack.new) (R.faults_of rack.old) (R.faults_of rack.new) }
-    ensures sizes { (R.state rack.new).sizes ≡ (R.state rack.old).sizes }
-    ensures keeps_telling { R.tells rack.old → R.tells rack.new }
+    ensures rack { KeepsCounts R.Rack rack.old rack.new result }
 {
     settle_gates(alloc, rack)?;
     go_on(alloc, rack, floor)
@@ -54,11 +50,7 @@ fn go_on<R: Rack>(alloc: Global, rack: &mut R, floor: CallNo) -> Result<Recovery
     ensures spares { R.tells rack.old → SparesOthers (R.state rack.old) (R.state rack.new) }
     ensures cause { IsErrOf result Fault → Rose (R.faults rack.old) (R.faults rack.new)
         ⊎ ((volume : ℕ) (tree : Tree) (doubt : Option Doubt) (records : List Logged) → R.tells rack.old → Comes volume floor tree doubt records (R.state rack.old) → ⊥) }
-    ensures memory { IsErrOf result NoMemory → NoneRose (R.faults rack.old) (R.faults rack.new) (R.faults_of rack.old) (R.faults_of rack.new) }
-    ensures no_fault { OnOk result (NoneRose (R.faults rack.old) (R.faults rack.new) (R.faults_of rack.old) (R.faults_of rack.new)) }
-    ensures later { NoneFalls (R.faults rack.old) (R.faults rack.new) (R.faults_of rack.old) (R.faults_of rack.new) }
-    ensures sizes { (R.state rack.new).sizes ≡ (R.state rack.old).sizes }
-    ensures keeps_telling { R.tells rack.old → R.tells rack.new }
+    ensures rack { KeepsCounts R.Rack rack.old rack.new result }
 {
     let Some(log) = read_open(alloc, rack)? else {
         return Err(RackError::Fault);
@@ -80,11 +72,7 @@ fn answer<R: Rack>(
         → OnErr result (IsLeft volume floor tree doubt (R.state rack.new)) }
     ensures spares { R.tells rack.old → SparesOthers (R.state rack.old) (R.state rack.new) }
     ensures cause { IsErrOf result Fault → Rose (R.faults rack.old) (R.faults rack.new) ⊎ ((records : List Logged) → IsOpenLog records log.now → HasNone (newest_in records)) }
-    ensures memory { IsErrOf result NoMemory → NoneRose (R.faults rack.old) (R.faults rack.new) (R.faults_of rack.old) (R.faults_of rack.new) }
-    ensures no_fault { OnOk result (NoneRose (R.faults rack.old) (R.faults rack.new) (R.faults_of rack.old) (R.faults_of rack.new)) }
-    ensures later { NoneFalls (R.faults rack.old) (R.faults rack.new) (R.faults_of rack.old) (R.faults_of rack.new) }
-    ensures sizes { (R.state rack.new).sizes ≡ (R.state rack.old).sizes }
-    ensures keeps_telling { R.tells rack.old → R.tells rack.new }
+    ensures rack { KeepsCounts R.Rack rack.old rack.new result }
 {
     if let Some(point) = untold(log.points.items(), floor) {
         return Ok(Recovery::Found(point));
@@ -102,11 +90,7 @@ fn close_all<R: Rack>(alloc: Global, rack: &mut R, log: &OpenLog) -> Result<(), 
         → OnErr result (IsLeft volume floor tree doubt (R.state rack.new)) }
     ensures spares { R.tells rack.old → SparesOthers (R.state rack.old) (R.state rack.new) }
     ensures cause { IsErrOf result Fault → Rose (R.faults rack.old) (R.faults rack.new) ⊎ ((records : List Logged) → IsOpenLog records log.now → HasNone (newest_in records)) }
-    ensures memory { IsErrOf result NoMemory → NoneRose (R.faults rack.old) (R.faults rack.new) (R.faults_of rack.old) (R.faults_of rack.new) }
-    ensures no_fault { OnOk result (NoneRose (R.faults rack.old) (R.faults rack.new) (R.faults_of rack.old) (R.faults_of rack.new)) }
-    ensures later { NoneFalls (R.faults rack.old) (R.faults rack.new) (R.faults_of rack.old) (R.faults_of rack.new) }
-    ensures sizes { (R.state rack.new).sizes ≡ (R.state rack.old).sizes }
-    ensures keeps_telling { R.tells rack.old → R.tells rack.new }
+    ensures rack { KeepsCounts R.Rack rack.old rack.new result }
 {
     if log.points.len() == 0 {
         close_others(alloc, rack)?;
@@ -127,11 +111,7 @@ fn close_open<R: Rack>(alloc: Global, rack: &mut R, log: &OpenLog) -> Result<(),
         → OnErr result (IsLeft volume floor tree doubt (R.state rack.new)) }
     ensures spares { R.tells rack.old → SparesOthers (R.state rack.old) (R.state rack.new) }
     ensures cause { IsErrOf result Fault → Rose (R.faults rack.old) (R.faults rack.new) ⊎ ((records : List Logged) → IsOpenLog records log.now → HasNone (newest_in records)) }
-    ensures memory { IsErrOf result NoMemory → NoneRose (R.faults rack.old) (R.faults rack.new) (R.faults_of rack.old) (R.faults_of rack.new) }
-    ensures no_fault { OnOk result (NoneRose (R.faults rack.old) (R.faults rack.new) (R.faults_of rack.old) (R.faults_of rack.new)) }
-    ensures later { NoneFalls (R.faults rack.old) (R.faults rack.new) (R.faults_of rack.old) (R.faults_of rack.new) }
-    ensures sizes { (R.state rack.new).sizes ≡ (R.state rack.old).sizes }
-    ensures keeps_telling { R.tells rack.old → R.tells rack.new }
+    ensures rack { KeepsCounts R.Rack rack.old rack.new result }
 {
     let Some(newest) = log.newest.get(0) else {
         return Err(RackError::Fault);

@@ -47,11 +47,11 @@ returns-in_err-close_others-2-clause-left g c = λ volume floor tree doubt recor
     let z = g.R.Rack.state c.close_others-2.new.rack in
     on_err (IsLeft volume floor tree doubt z) c.from_residual-in_err-close_others-2.result
     (stands_left volume floor tree doubt [] shuts_log z refl (λ point at. at)
-    (c.in_err-close_others-2.ensures.stands volume floor tree (c.close_open.ensures.keeps_telling tells) (c.in_ok-close_open.ensures.closes volume floor tree records tells rests is)))
+    (c.in_err-close_others-2.ensures.stands volume floor tree (c.close_open.ensures.rack.keeps_telling tells) (c.in_ok-close_open.ensures.closes volume floor tree records tells rests is)))
 
 pub returns-clause-closes : goal.returns-clause-closes
 returns-clause-closes g c = λ volume floor tree records tells rests is.
-    c.in_ok-close_others-2.ensures.closes volume floor tree (c.close_open.ensures.keeps_telling tells) (c.in_ok-close_open.ensures.closes volume floor tree records tells rests is)
+    c.in_ok-close_others-2.ensures.closes volume floor tree (c.close_open.ensures.rack.keeps_telling tells) (c.in_ok-close_open.ensures.closes volume floor tree records tells rests is)
 
 -- the other slots and the replicas are left alone
 pub returns-in_err-close_others-clause-spares : goal.returns-in_err-close_others-clause-spares
@@ -64,7 +64,7 @@ pub returns-in_err-close_open-clause-spares : goal.returns-in_err-close_open-cla
 returns-in_err-close_open-clause-spares g c = λ tells. c.close_open.ensures.spares tells
 
 pub returns-in_err-close_others-2-clause-spares : goal.returns-in_err-close_others-2-clause-spares
-returns-in_err-close_others-2-clause-spares g c = λ tells. spares_then (g.R.Rack.state c.args.rack.now) (g.R.Rack.state c.close_open.new.rack) (g.R.Rack.state c.close_others-2.new.rack) (c.close_open.ensures.spares tells) (c.close_others-2.ensures.spares (c.close_open.ensures.keeps_telling tells))
+returns-in_err-close_others-2-clause-spares g c = λ tells. spares_then (g.R.Rack.state c.args.rack.now) (g.R.Rack.state c.close_open.new.rack) (g.R.Rack.state c.close_others-2.new.rack) (c.close_open.ensures.spares tells) (c.close_others-2.ensures.spares (c.close_open.ensures.rack.keeps_telling tells))
 
 pub returns-clause-spares : goal.returns-clause-spares
-returns-clause-spares g c = λ tells. spares_then (g.R.Rack.state c.args.rack.now) (g.R.Rack.state c.close_open.new.rack) (g.R.Rack.state c.close_others-2.new.rack) (c.close_open.ensures.spares tells) (c.close_others-2.ensures.spares (c.close_open.ensures.keeps_telling tells))
+returns-clause-spares g c = λ tells. spares_then (g.R.Rack.state c.args.rack.now) (g.R.Rack.state c.close_open.new.rack) (g.R.Rack.state c.close_others-2.new.rack) (c.close_open.ensures.spares tells) (c.close_others-2.ensures.spares (c.close_open.ensures.rack.keeps_telling tells))

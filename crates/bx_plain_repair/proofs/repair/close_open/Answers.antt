@@ -48,13 +48,13 @@ returns-in_err-close_first-clause-left g c = λ volume floor tree doubt records 
     let homed = c.in_ok-write_homes.ensures.homed volume floor tree records tells rests (read_are c.in-Some.newest.now records c.args.log.now c.in-Some.ensures is) some in
     on_err (IsLeft volume floor tree doubt z) c.from_residual-in_err-close_first.result
     (stands_left volume floor tree doubt records (closes_log (length records)) z refl (λ point at. at)
-    (c.in_err-close_first.ensures.stands volume floor (length records) tree records (c.write_homes.ensures.keeps_telling tells) some homed))
+    (c.in_err-close_first.ensures.stands volume floor (length records) tree records (c.write_homes.ensures.rack.keeps_telling tells) some homed))
 
 pub returns-clause-closes : goal.returns-clause-closes
 returns-clause-closes g c = λ volume floor tree records tells rests is.
     let some = some_of records c.args.log.now c.requires.some is in
     let homed = c.in_ok-write_homes.ensures.homed volume floor tree records tells rests (read_are c.in-Some.newest.now records c.args.log.now c.in-Some.ensures is) some in
-    c.in_ok-close_first.ensures.closes volume floor (length records) tree records (c.write_homes.ensures.keeps_telling tells) some homed
+    c.in_ok-close_first.ensures.closes volume floor (length records) tree records (c.write_homes.ensures.rack.keeps_telling tells) some homed
 
 -- there was nothing to be read
 pub returns-in_default-clause-left : goal.returns-in_default-clause-left
@@ -71,7 +71,7 @@ pub returns-in_err-write_homes-clause-spares : goal.returns-in_err-write_homes-c
 returns-in_err-write_homes-clause-spares g c = λ tells. c.write_homes.ensures.spares tells
 
 pub returns-in_err-close_first-clause-spares : goal.returns-in_err-close_first-clause-spares
-returns-in_err-close_first-clause-spares g c = λ tells. spares_then (g.R.Rack.state c.args.rack.now) (g.R.Rack.state c.write_homes.new.rack) (g.R.Rack.state c.close_first.new.rack) (c.write_homes.ensures.spares tells) (c.close_first.ensures.spares (c.write_homes.ensures.keeps_telling tells))
+returns-in_err-close_first-clause-spares g c = λ tells. spares_then (g.R.Rack.state c.args.rack.now) (g.R.Rack.state c.write_homes.new.rack) (g.R.Rack.state c.close_first.new.rack) (c.write_homes.ensures.spares tells) (c.close_first.ensures.spares (c.write_homes.ensures.rack.keeps_telling tells))
 
 pub returns-clause-spares : goal.returns-clause-spares
-returns-clause-spares g c = λ tells. spares_then (g.R.Rack.state c.args.rack.now) (g.R.Rack.state c.write_homes.new.rack) (g.R.Rack.state c.close_first.new.rack) (c.write_homes.ensures.spares tells) (c.close_first.ensures.spares (c.write_homes.ensures.keeps_telling tells))
+returns-clause-spares g c = λ tells. spares_then (g.R.Rack.state c.args.rack.now) (g.R.Rack.state c.write_homes.new.rack) (g.R.Rack.state c.close_first.new.rack) (c.write_homes.ensures.spares tells) (c.close_first.ensures.spares (c.write_homes.ensures.rack.keeps_telling tells))

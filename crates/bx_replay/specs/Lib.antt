@@ -1,5 +1,6 @@
 pub mod Bench
 pub mod Course
+pub mod Doing
 pub mod Headline
 pub mod Incoming
 pub mod Outcome

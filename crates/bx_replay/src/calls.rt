@@ -1,12 +1,13 @@
 //! What comes of a datagram that arrives at a node.
 
-ghost use Rattle.std.specs.Prelude.{◌≡◌, ◌≤◌, ◌<◌, ◌+◌, ◌^◌, List, ℕ, length, max, IfErr, OnOk, Option, false, true};
+ghost use Rattle.std.specs.Prelude.{◌≡◌, ◌≤◌, ◌<◌, ◌+◌, List, ℕ, length, max, OnOk, Option, false, true};
 ghost use Rattle.bx_disk.specs.Disks.{Disks};
 ghost use Rattle.bx_history.specs.Along.{Done};
 ghost use Rattle.bx_model.specs.declared.tree.Tree.{Tree};
+ghost use Rattle.bx_replay.specs.Doing.{CanTake, EndsOn, GoesOnUp, Takes};
 ghost use Rattle.bx_replay.specs.Headline.{IsInPlace, IsSteady, machines_at};
 ghost use Rattle.bx_replay.specs.Incoming.{IsNewAt, line_at, line_of};
-ghost use Rattle.bx_replay.specs.Replay.{AreWaiting, DoesLine, HasNodes, HasPrintCause, HasStepCause, HearsUp, Stands, StandsAfter, UnlessWrite};
+ghost use Rattle.bx_replay.specs.Replay.{AreWaiting, DoesLine, HasNodes, HasPrintCause, HasStepCause, HearsUp, Stands, StandsAfter};
 ghost use Rattle.bx_rpc.specs.Message.{is_message as is_call};
 ghost use Rattle.bx_service.specs.AtOnce.{IsAtOnce};
 ghost use Rattle.bx_service.specs.Rounds.{Doubt, deed_at, taking_of};
@@ -45,24 +46,12 @@ impl<M: Service> Replay<M> {
         out: &mut K,
     ) -> Result<(), Stop>
         requires there { incoming.node < self.old.nodes }
-        requires nodes { HasNodes self.old.nodes (M.nodes self.old.service) (length self.old.desks.items) }
+        requires can { CanTake M.Service self.old }
         requires moment { incoming.reading ≤ 4294967295999 }
-        requires few { self.old.calls < 2 ^ 32 }
-        requires latest { M.latest self.old.service ≤ self.old.calls }
-        ensures nodes { OnOk result (HasNodes self.new.nodes (M.nodes self.new.service) (length self.new.desks.items) × (self.new.nodes ≡ self.old.nodes)) }
-        ensures latest { OnOk result (M.latest self.new.service ≤ self.new.calls) }
-        ensures ready { (sizes : List ℕ) → M.ready self.old.service sizes → OnOk result (M.ready self.new.service sizes) }
-        ensures does { (greatest : ℕ) (x : Disks) (tree : Tree) (doubts : ℕ → Option Doubt) (done : List Done) (start : List ℕ) → K.tells out.old → M.ready self.old.service x.sizes → M.holds self.old.service x tree doubts → length done < 4294967295
-            → IsInPlace false self.old.nodes (line_of incoming) → IsSteady greatest (line_of incoming)
-            → AreWaiting (M.waits self.old.service) done → Stands tree (machines_at self.old.nodes (M.up self.old.service) greatest) self.old.desks.items doubts self.old.calls done start (K.written out.old)
-            → DoesLine result (StandsAfter (M.holds self.new.service x) (M.waits self.new.service) (machines_at self.new.nodes (M.up self.new.service) (max greatest incoming.reading)) self.new.desks.items self.new.calls (line_of incoming) done start (K.written out.new)) (line_of incoming) done start (K.written out.old) (K.written out.new) }
-        ensures holds { (x : Disks) (tree : Tree) (doubts : ℕ → Option Doubt) → M.ready self.old.service x.sizes → M.holds self.old.service x tree doubts → OnOk result (M.holds self.new.service x tree doubts) }
+        ensures on { GoesOnUp M.Service result self.old self.new }
+        ensures does { Takes M.Service K.Sink result (line_of incoming) incoming.reading self.old out.old self.new out.new }
         ensures hears { HearsUp result (M.up self.old.service) (M.up self.new.service) (line_of incoming) }
-        ensures cause { IfErr result (λ stop. HasStepCause stop number (K.faults out.old) (K.faults out.new)) }
-        ensures first { UnlessWrite result (K.faults out.new ≡ K.faults out.old) }
-        ensures calls { self.new.calls ≤ self.old.calls + 1 }
-        ensures later { K.faults out.old ≤ K.faults out.new }
-        ensures keeps_telling { K.tells out.old → K.tells out.new }
+        ensures out { EndsOn K.Sink (λ stop. HasStepCause stop number) result out.old out.new }
     {
         if !self.service.is_up() {
             return Err(Stop::Refused(number, Reason::Down));
@@ -75,24 +64,11 @@ impl<M: Service> Replay<M> {
     fn hear<K: Sink>(&mut self, alloc: Global, incoming: Incoming, out: &mut K) -> Result<(), Stop>
         requires up { M.up self.old.service ≡ true }
         requires there { incoming.node < self.old.nodes }
-        requires nodes { HasNodes self.old.nodes (M.nodes self.old.service) (length self.old.desks.items) }
+        requires can { CanTake M.Service self.old }
         requires moment { incoming.reading ≤ 4294967295999 }
-        requires few { self.old.calls < 2 ^ 32 }
-        requires latest { M.latest self.old.service ≤ self.old.calls }
-        ensures nodes { OnOk result (HasNodes self.new.nodes (M.nodes self.new.service) (length self.new.desks.items) × (self.new.nodes ≡ self.old.nodes)) }
-        ensures latest { OnOk result (M.latest self.new.service ≤ self.new.calls) }
-        ensures ready { (sizes : List ℕ) → M.ready self.old.service sizes → OnOk result (M.ready self.new.service sizes) }
-        ensures up { OnOk result (M.up self.new.service ≡ true) }
-        ensures hears { (greatest : ℕ) (x : Disks) (tree : Tree) (doubts : ℕ → Option Doubt) (done : List Done) (start : List ℕ) → K.tells out.old → M.ready self.old.service x.sizes → M.holds self.old.service x tree doubts → length done < 4294967295
-            → IsInPlace false self.old.nodes (line_of incoming) → IsSteady greatest (line_of incoming)
-            → AreWaiting (M.waits self.old.service) done → Stands tree (machines_at self.old.nodes (M.up self.old.service) greatest) self.old.desks.items doubts self.old.calls done start (K.written out.old)
-            → DoesLine result (StandsAfter (M.holds self.new.service x) (M.waits self.new.service) (machines_at self.new.nodes (M.up self.new.service) (max greatest incoming.reading)) self.new.desks.items self.new.calls (line_of incoming) done start (K.written out.new)) (line_of incoming) done start (K.written out.old) (K.written out.new) }
-        ensures holds { (x : Disks) (tree : Tree) (doubts : ℕ → Option Doubt) → M.ready self.old.service x.sizes → M.holds self.old.service x tree doubts → OnOk result (M.holds self.new.service x tree doubts) }
-        ensures cause { IfErr result (λ stop. HasPrintCause stop (K.faults out.old) (K.faults out.new)) }
-        ensures first { UnlessWrite result (K.faults out.new ≡ K.faults out.old) }
-        ensures calls { self.new.calls ≤ self.old.calls + 1 }
-        ensures later { K.faults out.old ≤ K.faults out.new }
-        ensures keeps_telling { K.tells out.old → K.tells out.new }
+        ensures on { GoesOnUp M.Service result self.old self.new }
+        ensures hears { Takes M.Service K.Sink result (line_of incoming) incoming.reading self.old out.old self.new out.new }
+        ensures out { EndsOn K.Sink HasPrintCause result out.old out.new }
     {
         let desk = &self.desks[incoming.node as usize];
         let datagram = incoming.datagram.bytes();
@@ -122,24 +98,11 @@ impl<M: Service> Replay<M> {
         requires message { is_call incoming.datagram ≡ true }
         requires new { IsNewAt self.old.desks.items incoming.node incoming.client incoming.datagram }
         requires there { incoming.node < self.old.nodes }
-        requires nodes { HasNodes self.old.nodes (M.nodes self.old.service) (length self.old.desks.items) }
+        requires can { CanTake M.Service self.old }
         requires moment { incoming.reading ≤ 4294967295999 }
-        requires few { self.old.calls < 2 ^ 32 }
-        requires latest { M.latest self.old.service ≤ self.old.calls }
-        ensures nodes { OnOk result (HasNodes self.new.nodes (M.nodes self.new.service) (length self.new.desks.items) × (self.new.nodes ≡ self.old.nodes)) }
-        ensures latest { OnOk result (M.latest self.new.service ≤ self.new.calls) }
-        ensures ready { (sizes : List ℕ) → M.ready self.old.service sizes → OnOk result (M.ready self.new.service sizes) }
-        ensures up { OnOk result (M.up self.new.service ≡ true) }
-        ensures takes { (greatest : ℕ) (x : Disks) (tree : Tree) (doubts : ℕ → Option Doubt) (done : List Done) (start : List ℕ) → K.tells out.old → M.ready self.old.service x.sizes → M.holds self.old.service x tree doubts → length done < 4294967295
-            → IsInPlace false self.old.nodes (line_of incoming) → IsSteady greatest (line_of incoming)
-            → AreWaiting (M.waits self.old.service) done → Stands tree (machines_at self.old.nodes (M.up self.old.service) greatest) self.old.desks.items doubts self.old.calls done start (K.written out.old)
-            → DoesLine result (StandsAfter (M.holds self.new.service x) (M.waits self.new.service) (machines_at self.new.nodes (M.up self.new.service) (max greatest incoming.reading)) self.new.desks.items self.new.calls (line_of incoming) done start (K.written out.new)) (line_of incoming) done start (K.written out.old) (K.written out.new) }
-        ensures holds { (x : Disks) (tree : Tree) (doubts : ℕ → Option Doubt) → M.ready self.old.service x.sizes → M.holds self.old.service x tree doubts → OnOk result (M.holds self.new.service x tree doubts) }
-        ensures cause { IfErr result (λ stop. HasPrintCause stop (K.faults out.old) (K.faults out.new)) }
-        ensures first { UnlessWrite result (K.faults out.new ≡ K.faults out.old) }
-        ensures calls { self.new.calls ≤ self.old.calls + 1 }
-        ensures later { K.faults out.old ≤ K.faults out.new }
-        ensures keeps_telling { K.tells out.old → K.tells out.new }
+        ensures on { GoesOnUp M.Service result self.old self.new }
+        ensures takes { Takes M.Service K.Sink result (line_of incoming) incoming.reading self.old out.old self.new out.new }
+        ensures out { EndsOn K.Sink HasPrintCause result out.old out.new }
     {
         let call = Call {
             number: self.calls + 1,
@@ -165,10 +128,8 @@ impl<M: Service> Replay<M> {
         requires message { is_call call.datagram ≡ true }
         requires new { IsNewAt self.old.desks.items call.node call.client call.datagram }
         requires there { call.node < self.old.nodes }
-        requires nodes { HasNodes self.old.nodes (M.nodes self.old.service) (length self.old.desks.items) }
+        requires can { CanTake M.Service self.old }
         requires number { call.number ≡ self.old.calls + 1 }
-        requires few { self.old.calls < 2 ^ 32 }
-        requires latest { M.latest self.old.service ≤ self.old.calls }
         requires of { acted.point.call ≡ call.number }
         ensures service { self.new.service ≡ self.old.service }
         ensures nodes { OnOk result (HasNodes self.new.nodes (M.nodes self.new.service) (length self.new.desks.items) × (self.new.nodes ≡ self.old.nodes)) }
@@ -177,12 +138,9 @@ impl<M: Service> Replay<M> {
             → IsInPlace false self.old.nodes (line_at reading call) → IsSteady greatest (line_at reading call)
             → AreWaiting (M.waits self.old.service) done → Stands tree (machines_at self.old.nodes (M.up self.old.service) greatest) self.old.desks.items doubts self.old.calls done start (K.written out.old)
             → DoesLine result (StandsAfter (M.holds self.new.service x) (M.waits self.new.service) (machines_at self.new.nodes (M.up self.new.service) (max greatest reading)) self.new.desks.items self.new.calls (line_at reading call) done start (K.written out.new)) (line_at reading call) done start (K.written out.old) (K.written out.new) }
-        ensures cause { IfErr result (λ stop. HasPrintCause stop (K.faults out.old) (K.faults out.new)) }
-        ensures first { UnlessWrite result (K.faults out.new ≡ K.faults out.old) }
         ensures calls { OnOk result (self.new.calls ≡ self.old.calls + 1) }
         ensures most { self.new.calls ≤ self.old.calls + 1 }
-        ensures later { K.faults out.old ≤ K.faults out.new }
-        ensures keeps_telling { K.tells out.old → K.tells out.new }
+        ensures out { EndsOn K.Sink HasPrintCause result out.old out.new }
     {
         let bytes = Raw::of(alloc, call.datagram.bytes())?;
         let kept = Raw::of(alloc, acted.reply.bytes())?;
@@ -213,24 +171,11 @@ impl<M: Service> Replay<M> {
         requires new { IsNewAt self.old.desks.items call.node call.client call.datagram }
         requires late { IsAtOnce call.datagram → ⊥ }
         requires there { call.node < self.old.nodes }
-        requires nodes { HasNodes self.old.nodes (M.nodes self.old.service) (length self.old.desks.items) }
+        requires can { CanTake M.Service self.old }
         requires number { call.number ≡ self.old.calls + 1 }
-        requires few { self.old.calls < 2 ^ 32 }
-        requires latest { M.latest self.old.service ≤ self.old.calls }
-        ensures nodes { OnOk result (HasNodes self.new.nodes (M.nodes self.new.service) (length self.new.desks.items) × (self.new.nodes ≡ self.old.nodes)) }
-        ensures latest { OnOk result (M.latest self.new.service ≤ self.new.calls) }
-        ensures ready { (sizes : List ℕ) → M.ready self.old.service sizes → OnOk result (M.ready self.new.service sizes) }
-        ensures up { OnOk result (M.up self.new.service ≡ true) }
-        ensures waits { (greatest reading : ℕ) (x : Disks) (tree : Tree) (doubts : ℕ → Option Doubt) (done : List Done) (start : List ℕ) → K.tells out.old → M.ready self.old.service x.sizes → M.holds self.old.service x tree doubts → length done < 4294967295
-            → IsInPlace false self.old.nodes (line_at reading call) → IsSteady greatest (line_at reading call)
-            → AreWaiting (M.waits self.old.service) done → Stands tree (machines_at self.old.nodes (M.up self.old.service) greatest) self.old.desks.items doubts self.old.calls done start (K.written out.old)
-            → DoesLine result (StandsAfter (M.holds self.new.service x) (M.waits self.new.service) (machines_at self.new.nodes (M.up self.new.service) (max greatest reading)) self.new.desks.items self.new.calls (line_at reading call) done start (K.written out.new)) (line_at reading call) done start (K.written out.old) (K.written out.new) }
-        ensures holds { (x : Disks) (tree : Tree) (doubts : ℕ → Option Doubt) → M.ready self.old.service x.sizes → M.holds self.old.service x tree doubts → OnOk result (M.holds self.new.service x tree doubts) }
-        ensures cause { IfErr result (λ stop. HasPrintCause stop (K.faults out.old) (K.faults out.new)) }
-        ensures first { UnlessWrite result (K.faults out.new ≡ K.faults out.old) }
-        ensures calls { self.new.calls ≤ self.old.calls + 1 }
-        ensures later { K.faults out.old ≤ K.faults out.new }
-        ensures keeps_telling { K.tells out.old → K.tells out.new }
+        ensures on { GoesOnUp M.Service result self.old self.new }
+        ensures waits { (reading : ℕ) → Takes M.Service K.Sink result (line_at reading call) reading self.old out.old self.new out.new }
+        ensures out { EndsOn K.Sink HasPrintCause result out.old out.new }
     {
         let datagram = Raw::of(alloc, call.datagram.bytes())?;
         self.desks[call.node as usize].take(

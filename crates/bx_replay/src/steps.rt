@@ -1,6 +1,6 @@
 //! What the lines of a schedule do.
 
-ghost use Rattle.std.specs.Prelude.{◌≡◌, ◌≢◌, ◌≤◌, ◌<◌, ◌+◌, ◌^◌, List, ℕ, length, IfErr, OnOk, Option, true, false};
+ghost use Rattle.std.specs.Prelude.{◌≡◌, ◌≢◌, ◌≤◌, ◌<◌, ◌+◌, List, ℕ, length, IfErr, OnOk, Option, true, false};
 ghost use Rattle.bx_base.specs.declared.names.Actor.TheVariants.{Node};
 ghost use Rattle.bx_history.specs.Along.{Done};
 ghost use Rattle.bx_history.specs.Trace.{Taking};
@@ -8,6 +8,7 @@ ghost use Rattle.bx_model.specs.declared.tree.Tree.{Tree};
 ghost use Rattle.bx_script.specs.declared.line.Line.TheVariants.{Tick as TickLine};
 ghost use Rattle.bx_script.specs.Schedule.{reading_of};
 ghost use Rattle.bx_replay.specs.Course.{Moves};
+ghost use Rattle.bx_replay.specs.Doing.{CanTake};
 ghost use Rattle.bx_replay.specs.Headline.{IsInPlace, IsSteady, IsThere, greatest_with, machines_at};
 ghost use Rattle.bx_replay.specs.Replay.{AreWaiting, DoesLine, GoesOn, HasNodes, HasStepCause, Hears, HearsUp, Stands, StandsAfter, UnlessWrite};
 ghost use Rattle.bx_service.specs.Rounds.{Doubt};
@@ -33,9 +34,7 @@ impl<M: Service> Replay<M> {
         out: &mut K,
     ) -> Result<(), Stop>
         requires in_place { IsInPlace false self.old.nodes line }
-        requires nodes { HasNodes self.old.nodes (M.nodes self.old.service) (length self.old.desks.items) }
-        requires few { self.old.calls < 2 ^ 32 }
-        requires latest { M.latest self.old.service ≤ self.old.calls }
+        requires can { CanTake M.Service self.old }
         requires ready { M.ready self.old.service (B.state bench.old).sizes }
 
         ensures does { (tree : Tree) (doubts : ℕ → Option Doubt) (done : List Done) (start : List ℕ) → K.tells out.old → B.tells bench.old → M.holds self.old.service (B.state bench.old) tree doubts → length done < 4294967295
@@ -70,11 +69,9 @@ impl<M: Service> Replay<M> {
         bench: &mut B,
         out: &mut K,
     ) -> Result<(), Stop>
-        requires in_place { IsInPlace false self.old.nodes line }
-        requires nodes { HasNodes self.old.nodes (M.nodes self.old.service) (length self.old.desks.items) }
         requires there { IsThere self.old.nodes line }
-        requires few { self.old.calls < 2 ^ 32 }
-        requires latest { M.latest self.old.service ≤ self.old.calls }
+        requires in_place { IsInPlace false self.old.nodes line }
+        requires can { CanTake M.Service self.old }
         requires ready { M.ready self.old.service (B.state bench.old).sizes }
 
         ensures does { (tree : Tree) (doubts : ℕ → Option Doubt) (greatest : ℕ) (done : List Done) (start : List ℕ) → K.tells out.old → B.tells bench.old → M.holds self.old.service (B.state bench.old) tree doubts → length done < 4294967295

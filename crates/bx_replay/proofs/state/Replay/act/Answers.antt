@@ -15,17 +15,17 @@ returns-in-Call g c =
     record {
       does = λ tree doubts greatest past start sink_tells bench_tells holds room steady are stands.
           rw c.in-Call.is (done.does greatest (g.B.Rack.state c.args.bench.now) tree doubts past start sink_tells c.requires.ready holds room (rw c.in-Call.is at c.requires.in_place) (rw c.in-Call.is at steady) are stands);
-      holds = λ tree doubts bench_tells holds. on_ok_weaker c.call.result (λ held. (tree, doubts, held)) (done.holds (g.B.Rack.state c.args.bench.now) tree doubts c.requires.ready holds);
-      nodes = done.nodes;
-      latest = done.latest;
-      ready = done.ready _ c.requires.ready;
+      holds = λ tree doubts bench_tells holds. on_ok_weaker c.call.result (λ held. (tree, doubts, held)) (done.on.holds (g.B.Rack.state c.args.bench.now) tree doubts c.requires.ready holds);
+      nodes = done.on.nodes;
+      latest = done.on.latest;
+      ready = done.on.ready _ c.requires.ready;
       hears = rw c.in-Call.is done.hears;
       moves = λ tree doubts bench_tells holds. rw c.in-Call.is (on_ok c.call.result (record { disks = refl; works = tt }));
       ticks = λ reading node is idle. absurd (call_no_tick _ reading node _ _ _ _ c.in-Call.is is);
-      cause = done.cause;
-      first = done.first;
-      calls = done.calls;
-      goes_on = record { later = done.later; keeps_telling = done.keeps_telling; bench_later = same_least _ _ refl; bench_tells = λ tells. tells };
+      cause = done.out.cause;
+      first = done.out.first;
+      calls = done.on.calls;
+      goes_on = record { later = done.out.later; keeps_telling = done.out.keeps_telling; bench_later = same_least _ _ refl; bench_tells = λ tells. tells };
     }
 
 pub returns-in-Run : goal.returns-in-Run
@@ -43,7 +43,7 @@ returns-in-Run g c =
           }));
       holds = done.holds;
       nodes = done.nodes;
-      latest = on_ok_weaker c.run.result (λ latest. omega (arith, latest, c.requires.latest, done.calls)) done.latest;
+      latest = on_ok_weaker c.run.result (λ latest. omega (arith, latest, c.requires.can.latest, done.calls)) done.latest;
       ready = done.ready;
       hears = rw c.in-Run.is (hears_line c.run.result _ _ _ _ _ done.cause tt done.up);
       moves = λ tree doubts bench_tells holds. rw c.in-Run.is (on_ok_weaker c.run.result (λ run. record { disks = (done.sizes, done.down); works = run }) done.ends);
@@ -62,7 +62,7 @@ returns-in-CrashAll g c =
           rw c.in-CrashAll.is (done.crashes tree doubts greatest past start _ _ bench_tells holds room (rw c.in-CrashAll.is at c.requires.in_place) are stands);
       holds = λ tree doubts bench_tells holds. on_ok_weaker c.crash.result (λ held. (tree, doubts, held)) (done.holds tree doubts bench_tells holds);
       nodes = done.nodes;
-      latest = on_ok_weaker c.crash.result (λ latest. omega (arith, latest, c.requires.latest, done.calls)) done.latest;
+      latest = on_ok_weaker c.crash.result (λ latest. omega (arith, latest, c.requires.can.latest, done.calls)) done.latest;
       ready = done.ready;
       hears = rw c.in-CrashAll.is (hears_line c.crash.result _ _ _ 0 0 (done.cause 0 0) tt done.up);
       moves = λ tree doubts bench_tells holds. rw c.in-CrashAll.is (on_ok_weaker c.crash.result (λ noise. record { disks = noise; works = tt }) (done.noise bench_tells));
@@ -81,7 +81,7 @@ returns-in-RestartAll g c =
           rw c.in-RestartAll.is (done.restarts tree doubts greatest _ past start sink_tells bench_tells holds room (rw c.in-RestartAll.is at c.requires.in_place) (rw c.in-RestartAll.is at steady) are stands);
       holds = done.holds;
       nodes = done.nodes;
-      latest = on_ok_weaker c.restart.result (λ latest. omega (arith, latest, c.requires.latest, done.calls)) done.latest;
+      latest = on_ok_weaker c.restart.result (λ latest. omega (arith, latest, c.requires.can.latest, done.calls)) done.latest;
       ready = done.ready;
       hears = rw c.in-RestartAll.is (hears_line c.restart.result _ _ _ _ _ done.cause tt done.up);
       moves = λ tree doubts bench_tells holds.
@@ -102,7 +102,7 @@ returns-in-Node g c =
           rw (c.in-Tick.is, c.in-Node.is) (done.does greatest _ (g.B.Rack.state c.args.bench.now) tree doubts past start _ holds room (rw (c.in-Tick.is, c.in-Node.is) at c.requires.in_place) (rw c.in-Tick.is at steady) are stands);
       holds = λ tree doubts bench_tells holds. on_ok c.tick.result (tree, doubts, done.holds (g.B.Rack.state c.args.bench.now) tree doubts holds);
       nodes = done.nodes;
-      latest = on_ok c.tick.result (omega (arith, done.latest, c.requires.latest, done.calls));
+      latest = on_ok c.tick.result (omega (arith, done.latest, c.requires.can.latest, done.calls));
       ready = on_ok c.tick.result (done.ready _ c.requires.ready);
       hears = rw (c.in-Tick.is, c.in-Node.is) (done.hears _);
       moves = λ tree doubts bench_tells holds. rw (c.in-Tick.is, c.in-Node.is) (on_ok c.tick.result (record { disks = refl; works = tt }));

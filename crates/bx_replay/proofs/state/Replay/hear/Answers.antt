@@ -16,7 +16,7 @@ use Rattle.bx_replay.proofs.state.Replay.hear.Goals as goal
 pub returns-then-not-is_message-clause-hears : goal.returns-then-not-is_message-clause-hears
 returns-then-not-is_message-clause-hears g c = λ greatest x tree doubts done start tells ready holds room place steady are stands.
     let none : is_message c.args.incoming.datagram ≡ false = rw c.bytes-datagram.ensures at (sym c.is_message.ensures ∙ c.if-not-is_message.true) in
-    let passed = no_call rules refl refl c.args.incoming.node (parts_of done) c.index-desk.result.now (stands.desks_are c.args.incoming.node c.index-desk.result.now (slice_get_read _ _ _ _ (sym c.requires.nodes.of_desks) c.requires.there c.index-desk.ensures)) c.args.incoming.client c.args.incoming.datagram none in
+    let passed = no_call rules refl refl c.args.incoming.node (parts_of done) c.index-desk.result.now (stands.desks_are c.args.incoming.node c.index-desk.result.now (slice_get_read _ _ _ _ (sym c.requires.can.nodes.of_desks) c.requires.there c.index-desk.ensures)) c.args.incoming.client c.args.incoming.datagram none in
     record {
       tree = tree;
       doubts = doubts;
@@ -30,7 +30,7 @@ pub returns-then-is_waiting-clause-hears : goal.returns-then-is_waiting-clause-h
 returns-then-is_waiting-clause-hears g c = λ greatest x tree doubts done start tells ready holds room place steady are stands.
     let call : is_message c.args.incoming.datagram ≡ true = rw c.bytes-datagram.ensures at (sym c.is_message.ensures ∙ c.if-not-is_message.false) in
     let waits : list_any (is_from c.args.incoming.client c.args.incoming.datagram) c.index-desk.result.now.waits ≡ true = rw c.bytes-datagram.ensures at (sym c.is_waiting.ensures ∙ c.if-is_waiting.true) in
-    let passed = waits_still rules refl refl c.args.incoming.node (parts_of done) c.index-desk.result.now (stands.desks_are c.args.incoming.node c.index-desk.result.now (slice_get_read _ _ _ _ (sym c.requires.nodes.of_desks) c.requires.there c.index-desk.ensures)) c.args.incoming.client c.args.incoming.datagram call waits in
+    let passed = waits_still rules refl refl c.args.incoming.node (parts_of done) c.index-desk.result.now (stands.desks_are c.args.incoming.node c.index-desk.result.now (slice_get_read _ _ _ _ (sym c.requires.can.nodes.of_desks) c.requires.there c.index-desk.ensures)) c.args.incoming.client c.args.incoming.datagram call waits in
     record {
       tree = tree;
       doubts = doubts;
@@ -44,7 +44,7 @@ pub returns-then-is_full-clause-hears : goal.returns-then-is_full-clause-hears
 returns-then-is_full-clause-hears g c = λ greatest x tree doubts done start tells ready holds room place steady are stands.
     let call : is_message c.args.incoming.datagram ≡ true = rw c.bytes-datagram.ensures at (sym c.is_message.ensures ∙ c.if-not-is_message.false) in
     let none : reply_of c.index-desk.result.now.kept c.args.incoming.client c.args.incoming.datagram ≡ None = rw c.bytes-datagram.ensures at (sym c.in_default.ensures.reply) in
-    let passed = crowded rules refl refl c.args.incoming.node (parts_of done) c.index-desk.result.now (stands.desks_are c.args.incoming.node c.index-desk.result.now (slice_get_read _ _ _ _ (sym c.requires.nodes.of_desks) c.requires.there c.index-desk.ensures)) c.args.incoming.client c.args.incoming.datagram call none (sym c.is_full.ensures ∙ c.if-is_full.true) in
+    let passed = crowded rules refl refl c.args.incoming.node (parts_of done) c.index-desk.result.now (stands.desks_are c.args.incoming.node c.index-desk.result.now (slice_get_read _ _ _ _ (sym c.requires.can.nodes.of_desks) c.requires.there c.index-desk.ensures)) c.args.incoming.client c.args.incoming.datagram call none (sym c.is_full.ensures ∙ c.if-is_full.true) in
     record {
       tree = tree;
       doubts = doubts;
@@ -61,7 +61,7 @@ returns-in-Some-clause-hears g c = λ greatest x tree doubts done start tells re
     let waits : list_any (is_from c.args.incoming.client c.args.incoming.datagram) c.index-desk.result.now.waits ≡ false = rw c.bytes-datagram.ensures at (sym c.is_waiting.ensures ∙ c.if-is_waiting.false) in
     let kept : reply_of c.index-desk.result.now.kept c.args.incoming.client c.args.incoming.datagram ≡ Some c.in-Some.reply.now = rw c.bytes-datagram.ensures at (sym c.in-Some.ensures.reply) in
     let same : reply ≡ c.in-Some.reply.now = c.in_ok-of.ensures ∙ c.bytes.ensures in
-    let repeated = was_answered rules refl refl c.args.incoming.node (parts_of done) c.index-desk.result.now (stands.desks_are c.args.incoming.node c.index-desk.result.now (slice_get_read _ _ _ _ (sym c.requires.nodes.of_desks) c.requires.there c.index-desk.ensures)) c.args.incoming.client c.args.incoming.datagram reply call (stands.accounts.split c.args.incoming.node) c.in-Some.ensures.apart waits (rw same kept) in
+    let repeated = was_answered rules refl refl c.args.incoming.node (parts_of done) c.index-desk.result.now (stands.desks_are c.args.incoming.node c.index-desk.result.now (slice_get_read _ _ _ _ (sym c.requires.can.nodes.of_desks) c.requires.there c.index-desk.ensures)) c.args.incoming.client c.args.incoming.datagram reply call (stands.accounts.split c.args.incoming.node) c.in-Some.ensures.apart waits (rw same kept) in
     let printed = c.print_lines.ensures in
     printed_line tree _ _ doubts _ (Call c.args.incoming.reading c.args.incoming.node c.args.incoming.client c.args.incoming.datagram) (Again c.args.incoming.node c.args.incoming.client reply ∷ []) done start c.print_lines.result _ _ _ _ _ _ _ _ stands.output
     printed.cause (printed.prints tells) printed.in_range
@@ -72,7 +72,7 @@ returns-in-Some-clause-hears g c = λ greatest x tree doubts done start tells re
 pub take-requires-clause-new : goal.take-requires-clause-new
 take-requires-clause-new g c = record {
   desk = c.index-desk.result.now;
-  there = slice_get_read _ _ _ _ (sym c.requires.nodes.of_desks) c.requires.there c.index-desk.ensures;
+  there = slice_get_read _ _ _ _ (sym c.requires.can.nodes.of_desks) c.requires.there c.index-desk.ensures;
   not_waiting = rw c.bytes-datagram.ensures at (sym c.is_waiting.ensures ∙ c.if-is_waiting.false);
   none_kept = rw c.bytes-datagram.ensures at (sym c.in_default.ensures.reply);
   room = sym c.is_full.ensures ∙ c.if-is_full.false;

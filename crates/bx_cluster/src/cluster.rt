@@ -1,6 +1,6 @@
 //! Clusters.
 
-ghost use Rattle.std.specs.Prelude.{◌≡◌, ◌≢◌, ◌⊎◌, ◌<◌, ◌∷◌, ℕ, true, filter, List, Option, None, Some, IfErr, IfOk, IsSome, OnOk};
+ghost use Rattle.std.specs.Prelude.{◌≡◌, ◌≢◌, ◌⊎◌, ◌<◌, ◌∷◌, ℕ, true, filter, length, List, Option, None, Some, IfErr, IfOk, IsSome, OnOk};
 ghost use Rattle.bx_base.specs.Faults.{Rose};
 ghost use Rattle.bx_base.specs.declared.names.Actor.{Actor};
 ghost use Rattle.bx_calls.specs.Calls.{LeavesOnly};
@@ -96,6 +96,9 @@ pub trait Cluster: Shows + Drop {
         ensures at { (x : Disks) (tree : Tree) (parts : List Part) → led self.old x tree parts → led self.new x tree parts }
         ensures room { (sizes : List ℕ) → room self.old sizes → room self.new sizes }
         ensures events { events self.new ≡ events self.old };
+
+    /// A rack with room has a disk for each machine that has one.
+    ghost disks: { (w : Self) (sizes : List ℕ) (who : Actor) (disk : ℕ) → room w sizes → IsThere (Self.seen w) who → disk_of who ≡ Some disk → disk < length sizes };
 
     /// What happened is told of by one history, which leads from that tree.
     ghost accounts: { (w : Self) (x : Disks) (tree : Tree) (parts : List Part) → led w x tree parts → Account (steps w) (at_once w) tree parts };

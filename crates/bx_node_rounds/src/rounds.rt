@@ -39,7 +39,8 @@ impl<G: Register, O: Owners, S: Store, E: Engine> Cluster<G, O, S, E> {
             → IfOk result (λ told. Rounded E.Engine self.old.nodes.engine (Standing G.Register O.Owners S.Store E.Engine self.new (R.state rack.new)) tree (all_said told.items)) }
         ensures cleans { (tree : E.Tree) → R.tells rack.old → self.old.count ≡ 1 → Standing G.Register O.Owners S.Store E.Engine self.old (R.state rack.old) tree
             → OnOk result (StandsClean G.Register O.Owners S.Store E.Engine self.old self.new 0 (R.state rack.new)) }
-        ensures parts { SameParts G.Register S.Store self.old self.new }
+        ensures same { (self.new.count ≡ self.old.count) × (self.new.members ≡ self.old.members) × (self.new.latest ≡ self.old.latest) × (self.new.nodes.engine ≡ self.old.nodes.engine) }
+        ensures parts { (G.made self.new.nodes.register ≡ G.made self.old.nodes.register) × (S.made self.new.nodes.store ≡ S.made self.old.nodes.store) }
         ensures sessions { OnOk result ((node : ℕ) → session_at self.new.nodes.machines.items node ≡ session_at self.old.nodes.machines.items node) }
         ensures labels { R.tells rack.old → SameLabels (R.state rack.old) (R.state rack.new) }
         ensures memory { OnErr result (R.faults rack.new ≡ R.faults rack.old) }

@@ -2,7 +2,8 @@
 
 ghost use Rattle.std.specs.Prelude.{◌≡◌, ◌⊎◌, ℕ, ◌<◌, List, [], length, Option, IfOk, OnOk, OnErr, IsErrOf};
 ghost use Rattle.bx_base.specs.Faults.{Rose};
-ghost use Rattle.bx_disk.specs.declared.fault.RackError.TheVariants.{Fault};
+ghost use Rattle.bx_disk.specs.Counts.{NoneFalls, NoneRose};
+ghost use Rattle.bx_disk.specs.declared.fault.RackError.TheVariants.{Fault, OutOfMemory as NoMemory};
 ghost use Rattle.bx_plain_repair.specs.Bench.{AreLong};
 ghost use Rattle.bx_plain_repair.specs.Left.{Doubt, IsClosed, IsLeft};
 ghost use Rattle.bx_plain_repair.specs.HomesOf.{HasNone};
@@ -34,7 +35,11 @@ pub fn recover<R: Rack>(alloc: Global, rack: &mut R, floor: CallNo) -> Result<Re
         → OnErr result (IsLeft volume floor tree doubt (R.state rack.new)) }
     ensures spares { R.tells rack.old → SparesOthers (R.state rack.old) (R.state rack.new) }
     ensures cause { IsErrOf result Fault → Rose (R.faults rack.old) (R.faults rack.new) ⊎ ((volume : ℕ) (tree : Tree) (doubt : Option Doubt) → R.tells rack.old → IsLeft volume floor tree doubt (R.state rack.old) → ⊥) }
-    ensures rack { KeepsCounts R.Rack rack.old rack.new result }
+    ensures memory { IsErrOf result NoMemory → NoneRose (R.faults rack.old) (R.faults rack.new) (R.faults_of rack.old) (R.faults_of rack.new) }
+    ensures no_fault { OnOk result (NoneRose (R.faults rack.old) (R.faults rack.new) (R.faults_of rack.old) (R.faults_of rack.new)) }
+    ensures later { NoneFalls (R.faults rack.old) (R.faults rack.new) (R.faults_of rack.old) (R.faults_of rack.new) }
+    ensures sizes { (R.state rack.new).sizes ≡ (R.state rack.old).sizes }
+    ensures keeps_telling { R.tells rack.old → R.tells rack.new }
 {
     settle_gates(alloc, rack)?;
     go_on(alloc, rack, floor)

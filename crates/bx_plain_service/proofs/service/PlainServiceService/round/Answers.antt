@@ -23,8 +23,8 @@ returns-in-Up-clause-rounds g c = λ tree doubts tells holding.
     let y = g.B.Rack.state c.round.new.rack in
     let rounded = said.stands tree tells holds.stands in
     let says = ⊎_elim
-    (λ well. says_up c.args.moment old new told x y tree rounded.next doubts ready.0 holds rounded.leads rounded.stands (said.labels tells) said.sizes said.parts.engine said.parts.count said.sessions well.0)
-    (λ failed. says_failed c.args.moment old new told x y tree rounded.next doubts ready.0 holds rounded.leads rounded.stands (said.labels tells) said.sizes said.parts.engine said.parts.count said.sessions failed.1 failed.2)
+    (λ well. says_up c.args.moment old new told x y tree rounded.next doubts ready.0 holds rounded.leads rounded.stands (said.labels tells) said.sizes said.same.3 said.same.0 said.sessions well.0)
+    (λ failed. says_failed c.args.moment old new told x y tree rounded.next doubts ready.0 holds rounded.leads rounded.stands (said.labels tells) said.sizes said.same.3 said.same.0 said.sessions failed.1 failed.2)
     said.turns in
     rw c.in-Up.is (if_ok_so _ _ c.events_of.result
     (λ events is. subst (SaysAll (λ t d. IsUpOn new y t d) c.args.moment (up.waits_of old.nodes.machines.items) (up.waits_of new.nodes.machines.items) tree doubts) (sym is) says)
@@ -34,13 +34,13 @@ pub returns-in-Up-clause-ready : goal.returns-in-Up-clause-ready
 returns-in-Up-clause-ready g c =
     let said = c.in_ok-told.ensures in
     let ready = rw c.in-Up.is at c.requires.ready in
-    ok_so _ c.events_of.result (said.ready, shaped_by c.in-Up.cluster c.round.new.self ready.1 said.parts.count said.parts.engine said.parts.register said.parts.store, rw said.sizes ready.2)
+    ok_so _ c.events_of.result (said.ready, shaped_by c.in-Up.cluster c.round.new.self ready.1 said.same.0 said.same.3 said.parts.0 said.parts.1, rw said.sizes ready.2)
 
 pub returns-in-Up-clause-nodes : goal.returns-in-Up-clause-nodes
 returns-in-Up-clause-nodes g c =
     let said = c.in_ok-told.ensures in
     let ready = rw c.in-Up.is at c.requires.ready in
-    rw c.in-Up.is (ok_so _ c.events_of.result (said.ready.nodes.counted ∙ said.parts.count ∙ sym ready.0.nodes.counted))
+    rw c.in-Up.is (ok_so _ c.events_of.result (said.ready.nodes.counted ∙ said.same.0 ∙ sym ready.0.nodes.counted))
 
 pub returns-in-Up-clause-turns : goal.returns-in-Up-clause-turns
 returns-in-Up-clause-turns g c =
@@ -76,7 +76,7 @@ returns-in-Up-clause-cleans g c = λ tree doubts node one tells holding under.
     let holds = rw c.in-Up.is at holding in
     let ready = rw c.in-Up.is at c.requires.ready in
     let length_is = rw c.in-Up.is at one in
-    ok_so _ c.events_of.result (λ over. cleaned old new (g.B.Rack.state c.round.new.rack) node (said.parts.register ∙ ready.1.state ∙ ap (λ (n : ℕ). plain_state n 1) (sym ready.0.nodes.counted ∙ length_is)) length_is (ap (λ (made : _). made.areas) ready.1.made) (said.sessions 0)
+    ok_so _ c.events_of.result (λ over. cleaned old new (g.B.Rack.state c.round.new.rack) node (said.parts.0 ∙ ready.1.state ∙ ap (λ (n : ℕ). plain_state n 1) (sym ready.0.nodes.counted ∙ length_is)) length_is (ap (λ (made : _). made.areas) ready.1.made) (said.sessions 0)
     (said.cleans tree tells (sym ready.0.nodes.counted ∙ length_is) holds.stands) (rw c.in-Up.is at under) over)
 
 -- ---- where no node is up, or the one node is back

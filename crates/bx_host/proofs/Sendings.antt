@@ -1,6 +1,6 @@
 -- Datagrams sent one by one.
-use Rattle.std.proofs.Common.{◌≡◌, ℕ, ◌-◌, ◌^◌, ◌≤◌, List, [], ◌∷◌, ◌++◌, refl, arith, ap, sym, ◌∙◌, subst, append_assoc, Result, Ok, Err}
-use Rattle.std.proofs.lemmas.List.{append-nil, length-append}
+use Rattle.std.proofs.Common.{◌≡◌, ℕ, ◌-◌, ◌^◌, ◌≤◌, List, [], ◌∷◌, ◌++◌, drop, length, refl, arith, ap, sym, ◌∙◌, subst, append_assoc, Result, Ok, Err}
+use Rattle.std.proofs.lemmas.List.{append-nil, drop_all, length-append}
 use Rattle.bx_base.specs.Faults.{count_up}
 use Rattle.bx_cluster.specs.declared.outcome.Outcome.{Outcome}
 use Rattle.bx_cluster.specs.declared.outcome.ReplyOut.{ReplyOut}
@@ -98,3 +98,14 @@ again_sent (Err _) first last old mid new is sends =
 
 pub replies_broken : (first again old new : List Datagram) → (front : List Datagram) × (back : List Datagram) × (first ≡ front ++ back) × (new ≡ old ++ front) → (front : List Datagram) × (back : List Datagram) × (first ++ again ≡ front ++ back) × (new ≡ old ++ front)
 replies_broken first again old new it = (it.0, it.1 ++ again, ap (λ (l : List Datagram). l ++ again) it.2 ∙ append_assoc it.0 it.1 again, it.3)
+
+-- behind the last of the replies all are sent
+pub all_sent : {L : Type 0} (li : links.Ghosts L) (replies : List ReplyOut) (n : ℕ) (old new : L) (before now : ℕ) → length replies ≤ n → SentSome li (replies_of replies) (replies_of (drop n replies)) old new before now → SentSome li (replies_of replies) [] old new before now
+all_sent li replies n old new before now past so = subst (λ (l : List ReplyOut). SentSome li (replies_of replies) (replies_of l) old new before now) (drop_all n replies past) so
+
+-- all are sent, and counted
+pub sent_whole : {L : Type 0} (li : links.Ghosts L) (all : List Datagram) (old new : L) (before now : ℕ) → SentSome li all [] old new before now → li.tells old → li.sent new ≡ li.sent old ++ all
+sent_whole li all old new before now so tells = so.sent tells ∙ ap (λ (l : List Datagram). li.sent old ++ l) (sym (append-nil so.front) ∙ sym so.whole)
+
+pub counted_whole : {L : Type 0} (li : links.Ghosts L) (all : List Datagram) (old new : L) (before now : ℕ) → SentSome li all [] old new before now → now ≡ counted before all
+counted_whole li all old new before now so = so.count ∙ ap (counted before) (sym (append-nil so.front) ∙ sym so.whole)

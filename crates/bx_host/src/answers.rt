@@ -3,7 +3,7 @@
 ghost use Rattle.std.specs.Prelude.{◌≡◌, [], ◌∷◌, IfOk};
 ghost use Rattle.bx_base.specs.Faults.{count_up};
 ghost use Rattle.bx_host.specs.Sending.{FailsLink, Sends, counted};
-ghost use Rattle.bx_host.specs.Steps.{datagram_of, datagrams, owed, replies_of};
+ghost use Rattle.bx_host.specs.Steps.{datagram_of, datagrams, owed};
 
 use crate::error::HostError;
 use bx_cluster::{Outcome, ReplyOut};
@@ -32,24 +32,14 @@ fn send_outcome<L: Link>(link: &mut L, outcome: &Outcome, sent: u64) -> Result<u
     ensures count { IfOk result (λ now. now ≡ counted sent (datagrams outcome.now)) }
     ensures link { FailsLink L.Link link.old link.new result }
 {
-    let count = send_replies(link, outcome.replies.items(), sent)?;
+    let mut count = sent;
+    for reply in outcome.replies.items() {
+        count = send(link, reply, count)?;
+    }
     match &outcome.again {
         Some(reply) => send(link, reply, count),
         None => Ok(count),
     }
-}
-
-/// Sends replies in their order; answers the count.
-fn send_replies<L: Link>(link: &mut L, replies: &[ReplyOut], sent: u64) -> Result<u64, HostError>
-    ensures sends { Sends L.Link link.old link.new (replies_of replies.now) result }
-    ensures count { IfOk result (λ now. now ≡ counted sent (replies_of replies.now)) }
-    ensures link { FailsLink L.Link link.old link.new result }
-{
-    let mut count = sent;
-    for reply in replies {
-        count = send(link, reply, count)?;
-    }
-    Ok(count)
 }
 
 /// Sends a reply to its client; answers the count.

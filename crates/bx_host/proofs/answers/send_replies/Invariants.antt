@@ -1,7 +1,0 @@
-use Rattle.std.proofs.Common.{drop}
-use Rattle.bx_host.specs.Steps.{replies_of}
-use Rattle.bx_host.proofs.Sendings.{SentSome}
-use Rattle.bx_host.proofs.answers.send_replies.Given as goal
-
-abbrev pub invariant-loop-reply : goal.invariant-loop-reply
-invariant-loop-reply g l = SentSome g.L.Link (replies_of l.fn.replies) (replies_of (drop l.reply-index l.replies)) l.fn.link l.link l.fn.sent l.count

@@ -103,9 +103,6 @@ replies_broken first again old new it = (it.0, it.1 ++ again, ap (λ (l : List D
 pub all_sent : {L : Type 0} (li : links.Ghosts L) (replies : List ReplyOut) (n : ℕ) (old new : L) (before now : ℕ) → length replies ≤ n → SentSome li (replies_of replies) (replies_of (drop n replies)) old new before now → SentSome li (replies_of replies) [] old new before now
 all_sent li replies n old new before now past so = subst (λ (l : List ReplyOut). SentSome li (replies_of replies) (replies_of l) old new before now) (drop_all n replies past) so
 
--- all are sent, and counted
+-- all are sent
 pub sent_whole : {L : Type 0} (li : links.Ghosts L) (all : List Datagram) (old new : L) (before now : ℕ) → SentSome li all [] old new before now → li.tells old → li.sent new ≡ li.sent old ++ all
 sent_whole li all old new before now so tells = so.sent tells ∙ ap (λ (l : List Datagram). li.sent old ++ l) (sym (append-nil so.front) ∙ sym so.whole)
-
-pub counted_whole : {L : Type 0} (li : links.Ghosts L) (all : List Datagram) (old new : L) (before now : ℕ) → SentSome li all [] old new before now → now ≡ counted before all
-counted_whole li all old new before now so = so.count ∙ ap (counted before) (sym (append-nil so.front) ∙ sym so.whole)

@@ -102,6 +102,7 @@ impl Acceptor {
         ensures holds { R.tells rack.old → OnOk result (EachSure (R.state rack.new) (HasCell self.new)) }
         ensures sure { R.tells rack.old → OnOk result (IsSynced (R.state rack.new) self.old.replica) }
         ensures disks { R.tells rack.old → Syncs (R.state rack.old) (R.state rack.new) (R.moment rack.old) (R.moment rack.new) (R.left_since rack.old) (R.left_since rack.new) self.old.replica }
+        ensures memory { IsErrOf result MemoryFails → NoneRose (R.faults rack.old) (R.faults rack.new) (R.faults_of rack.old) (R.faults_of rack.new) }
         ensures rack { CountedOn R.Rack rack.old rack.new self.old.replica result DiskFails }
     {
         self.cell = None;

@@ -1,11 +1,12 @@
 //! What an acceptor begins with.
 
 ghost use Rattle.std.specs.Prelude.{◌≡◌, ℕ, ◌+◌, ◌^◌, ◌<◌, ◌≤◌, ◌↔◌, IfNone, IfOk, IfSome, IsErrOf, IsTrue, OnOk, Some, slice_index};
+ghost use Rattle.bx_disk.specs.Counts.{NoneRose};
 ghost use Rattle.bx_disk.specs.Kept.{CountedOn};
 ghost use Rattle.bx_calls.specs.Regions.{IsSynced};
 ghost use Rattle.bx_cell.specs.Cells.{Holds};
 ghost use Rattle.bx_cell.specs.Images.{EachSure};
-ghost use Rattle.bx_facts.specs.declared.input.FactError.TheVariants.{Disk as DiskFails};
+ghost use Rattle.bx_facts.specs.declared.input.FactError.TheVariants.{Disk as DiskFails, OutOfMemory as MemoryFails};
 ghost use Rattle.bx_global.specs.Allowed.{IsAllowed};
 ghost use Rattle.bx_global.specs.Bytes.{IsHeld, held_text};
 ghost use Rattle.bx_acceptor.specs.Disks.{Syncs};
@@ -51,6 +52,7 @@ pub(crate) fn begin<R: Rack>(
     ensures holds { R.tells rack.old → IfOk result (λ x. EachSure (R.state rack.new) (λ image. IfSome x.1 (λ cell. Holds cell image))) }
     ensures sure { R.tells rack.old → OnOk result (IsSynced (R.state rack.new) replica) }
     ensures disks { R.tells rack.old → Syncs (R.state rack.old) (R.state rack.new) (R.moment rack.old) (R.moment rack.new) (R.left_since rack.old) (R.left_since rack.new) replica }
+    ensures memory { IsErrOf result MemoryFails → NoneRose (R.faults rack.old) (R.faults rack.new) (R.faults_of rack.old) (R.faults_of rack.new) }
     ensures rack { CountedOn R.Rack rack.old rack.new replica result DiskFails }
 {
     let found = found(alloc, rack, replica, first.devices.len() as u32)?;
@@ -141,6 +143,7 @@ fn found<R: Rack>(
     ensures holds { R.tells rack.old → IfOk result (λ found. IfSome found (λ x. EachSure (R.state rack.new) (Holds x.0))) }
     ensures sure { R.tells rack.old → OnOk result (IsSynced (R.state rack.new) replica) }
     ensures disks { R.tells rack.old → Syncs (R.state rack.old) (R.state rack.new) (R.moment rack.old) (R.moment rack.new) (R.left_since rack.old) (R.left_since rack.new) replica }
+    ensures memory { IsErrOf result MemoryFails → NoneRose (R.faults rack.old) (R.faults rack.new) (R.faults_of rack.old) (R.faults_of rack.new) }
     ensures rack { CountedOn R.Rack rack.old rack.new replica result DiskFails }
 {
     let cell = match Cell::open(alloc, rack, replica, CELL) {

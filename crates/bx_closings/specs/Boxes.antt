@@ -3,13 +3,11 @@ use Rattle.std.specs.Prelude.{◌≡◌, ℕ, List}
 use Rattle.bx_devices.specs.contracts.store.DevicesStore.TheImpl as devices
 use Rattle.bx_disk.specs.Disks.{Disks}
 use Rattle.bx_engine.specs.contracts.engine.BoxFsEngine.TheImpl as box_fs
-use Rattle.bx_facts.specs.Chains.{last}
 use Rattle.bx_facts.specs.Writes.{Made}
 use Rattle.bx_history.specs.Parts.{Part}
 use Rattle.bx_locks.specs.contracts.owners.LocksOwners.TheImpl as locks
 use Rattle.bx_model.specs.declared.tree.Tree.{Tree}
 use Rattle.bx_paxos_cluster.specs.contracts.register.PaxosRegister.TheImpl as paxos
-use Rattle.bx_world.specs.Doubts.{AreOfTaken, HavePoints}
 use Rattle.bx_world.specs.Led.{Led}
 use Rattle.bx_world.specs.declared.world.World.{World}
 
@@ -31,8 +29,3 @@ answers_at_once world bytes = box_fs.ghosts.at_once world.machines.nodes.engine 
 pub record IsOfVolume (world : Boxes) (tree : Tree) : Type 0 where
   pub volume : (made_in world).volume ≡ tree.volume
   pub areas : (made_in world).areas ≡ tree.areas
-
--- Its logs have records of calls that have their points, and, in doubt, such as are of calls without one.
-pub record TellsOfCalls (world : Boxes) (x : Disks) (first : Tree) (parts : List Part) (led : LedTo world x first parts) : Type 0 where
-  pub doubted : AreOfTaken parts (last led.stands.course.register.chain).sessions led.stands.course.slots led.stands.course.doubts
-  pub logged : HavePoints parts led.stands.course.logs

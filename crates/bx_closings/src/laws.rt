@@ -1,7 +1,7 @@
 //! What the disks of a cluster show.
 
 ghost use Rattle.std.specs.Prelude.{List};
-ghost use Rattle.bx_closings.specs.Boxes.{IsOfVolume, LedTo, TellsOfCalls, answers_at_once};
+ghost use Rattle.bx_closings.specs.Boxes.{IsOfVolume, LedTo, answers_at_once};
 ghost use Rattle.bx_cluster.specs.Closing.{Closes, IsCrashed};
 ghost use Rattle.bx_cluster.specs.Runs.{StepOf};
 ghost use Rattle.bx_disk.specs.Disks.{Disks};
@@ -20,7 +20,7 @@ use bx_world::World;
 /// Once what was unsure is lost, the disks show the tree that a run leads to, or the one after some of the calls in doubt, of which there is one in a log slot at most. By their own cells they
 /// tell the state in which they do. Of the calls that lack a point those have open records which the tree is after, in the order of their slots, and no others.
 pub fn what_disks_show(world: &World<Paxos, Locks, Devices, BoxFs>)
-    ensures { (x y : Disks) (first : Tree) (parts : List Part) (led : LedTo world.now x first parts) → IsOfVolume world.now first → TellsOfCalls world.now x first parts led → IsCrashed x y
+    ensures { (x y : Disks) (first : Tree) (parts : List Part) → LedTo world.now x first parts → IsOfVolume world.now first → IsCrashed x y
         → Closes (StepOf Step) (answers_at_once world.now) (StandAlone y) (AreOpenAlone y) first parts }
 {
     let _world = world;

@@ -7,3 +7,8 @@ mod outcome;
 pub use bx_world_events::{Event, EventError, Shows};
 pub use cluster::Cluster;
 pub use outcome::{Outcome, ReplyOut};
+
+/// The trees that a cluster holds.
+pub mod model {
+    pub use bx_model::Tree;
+}

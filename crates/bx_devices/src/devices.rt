@@ -1,7 +1,7 @@
 //! The machines of mirrored devices.
 
 ghost use Rattle.std.specs.Prelude.{◌≡◌, ◌++◌, ◌∷◌, ◌*◌, ◌<◌, ◌≤◌, [], IfOk, None, OnOk, Some, length};
-ghost use Rattle.bx_devices.specs.Machines.{AreMade};
+ghost use Rattle.bx_devices.specs.Machines.{AreMade, IsShape};
 
 use bx_base::OutOfMemory;
 use bx_global::GlobalState;
@@ -48,7 +48,8 @@ impl Devices {
         requires least_areas { 1 ≤ areas }
         requires most_areas { areas ≤ 64 }
         requires rows { length first.now.devices ≤ 4 }
-        ensures { IfOk result (AreMade (record { volume = volume; nodes = nodes; devices = devices; areas = areas }) first.now) }
+        ensures made { IfOk result (AreMade (record { volume = volume; nodes = nodes; devices = devices; areas = areas }) first.now) }
+        ensures shape { IfOk result IsShape }
     {
         let mut members = Vec::new(alloc);
         for number in 0..2 * devices {

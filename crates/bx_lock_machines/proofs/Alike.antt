@@ -19,6 +19,7 @@ alike nodes masters others clerks more past masters_same clerks_same keeps = rec
       fresh = f.had_are.fresh;
     };
     states = f.states;
+    booted = f.booted;
     knew_most = f.knew_most;
     clerk = λ n. subst (λ (c : Clerking). FitsClerk past.told.chain (past.told.knew (Node n)) (past.told.boots (Node n)) g.side g.had g.promised n c) (sym (clerks_same.each n)) (f.clerk n);
     node = λ n inside. ap (λ (c : Clerking). c.node) (clerks_same.each n) ∙ f.node n inside;

@@ -88,6 +88,7 @@ module _ (nodes : ℕ) (masters same_masters : ℕ → Mastering) (clerks others
             let k = f.had_are.fresh t none in (λ b. o.sides.requests t b differ ∙ k.0 b, o.sides.drawn t differ ∙ k.1, o.sides.given t differ ∙ k.2);
       };
       states = f.states;
+      booted = f.booted;
       knew_most = f.knew_most;
       clerk = λ m. ⊎_elim
           (λ is. subst (λ (k : ℕ). FitsClerk past.told.chain (past.told.knew (Node k)) (past.told.boots (Node k)) o.side g.had g.promised k (others k)) (sym is.1)

@@ -20,7 +20,7 @@ use Rattle.bx_locking.proofs.Owned.{session_row, was_own}
 use Rattle.bx_master.specs.Masters.{Mastering}
 use Rattle.bx_clerk.specs.Clerks.{Clerking, is_same, learned, until_in, until_of, with_session}
 use Rattle.bx_clerk.specs.declared.requests.Asking.{Asking}
-use Rattle.bx_lock_machines.specs.Keeps.{Keeps, PutsOne, WasHad}
+use Rattle.bx_lock_machines.specs.Keeps.{AreBooted, Keeps, PutsOne, WasHad}
 use Rattle.bx_lock_steps.specs.Machines.{FitsClerk}
 use Rattle.bx_lock_steps.proofs.Accounts.{misses, passes, tested}
 use Rattle.bx_lock_steps.proofs.Chains.{first_among, new_boot, one_session, own_given, own_row, row_lives}
@@ -252,9 +252,9 @@ module _ (nodes : ℕ) (masters : ℕ → Mastering) (clerks more : ℕ → Cler
   other_node : (m : ℕ) → m ≢ n → Node m ≢ Node n
   other_node m differ is = differ (let e : m ≡ n = cc in e)
 
-  pub clerk_learns : (greatest : ℕ) (changes : List Change) → AreLeases p.told.chain greatest changes keeps.ghosts.promised keeps.ghosts.noted keeps.ghosts.ends keeps.ghosts.term.expiring → PutsOne n (learned known (clerks n)) clerks more
-      → Keeps nodes masters more (record p { told = record p.told { handed = changes; greatest = greatest; knew = knew_then } })
-  clerk_learns greatest changes leases puts = record {
+  pub clerk_learns : (greatest : ℕ) (changes : List Change) → AreLeases p.told.chain greatest changes keeps.ghosts.promised keeps.ghosts.noted keeps.ghosts.ends keeps.ghosts.term.expiring → AreBooted p.told.chain changes p.told.boots
+      → PutsOne n (learned known (clerks n)) clerks more → Keeps nodes masters more (record p { told = record p.told { handed = changes; greatest = greatest; knew = knew_then } })
+  clerk_learns greatest changes leases booted puts = record {
     ghosts = record {
       said = keeps.ghosts.said;
       side = keeps.ghosts.side;
@@ -285,6 +285,7 @@ module _ (nodes : ℕ) (masters : ℕ → Mastering) (clerks more : ℕ → Cler
         fresh = λ s none. keeps.fits.had_are.fresh s (had_none (session_of known n (p.told.boots (Node n))) keeps.ghosts.had s none);
       };
       states = keeps.fits.states;
+      booted = booted;
       knew_most = λ who. elim (tested (is_machine (Node n) who)) [
         | passes is ↦ subst (λ (b : Bool). (if b then known.index else p.told.knew who) ≤ (last p.told.chain).index) (sym is) (place_most p.told.chain known handed.place)
         | misses is_not ↦ subst (λ (b : Bool). (if b then known.index else p.told.knew who) ≤ (last p.told.chain).index) (sym is_not) (keeps.fits.knew_most who)

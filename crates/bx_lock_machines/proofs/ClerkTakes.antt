@@ -39,6 +39,7 @@ use Rattle.bx_lock_steps.specs.Machines.{FitsClerk, request_from}
 use Rattle.bx_lock_steps.proofs.Accounts.{misses, passes, tested}
 use Rattle.bx_lock_machines.proofs.Alike.{alike}
 use Rattle.bx_lock_machines.proofs.ClerkEvents.{Outcome, outcome_keeps, own_fits}
+use Rattle.bx_lock_machines.proofs.Boots.{OpensOwn, booted_asks, clerk_opens, learned_stays, opens_nothing}
 use Rattle.bx_lock_machines.proofs.ClerkLearns.{clerk_learns}
 use Rattle.bx_lock_steps.proofs.Clerks.{KeepsSides}
 use Rattle.bx_lock_steps.proofs.Functions.{one_at, one_not, one_of, spot_puts}
@@ -378,13 +379,21 @@ module _ (nodes : ℕ) (masters same_masters : ℕ → Mastering) (clerks others
   puts_new : PutsOne n new knowing others
   puts_new = record { at = puts.at; others = λ m differ. puts.others m differ ∙ sym (one_not n (learned known (clerks n)) clerks m differ) }
 
+  -- it asks for a session in its node's own boot
+  opens_no_other : (change : Option Change) → change ≡ None → OpensOwn past.told.boots change
+  opens_no_other change none node boot reading is = absurd (opens_nothing node boot reading (sym none ∙ is))
+
+  opens_own : (change : Option Change) (reading : ℕ) → past.told.down (Node n) ≡ false → change ≡ tick_change (learned known (clerks n)).session (learned known (clerks n)) reading → OpensOwn past.told.boots change
+  opens_own change reading up asks = subst (OpensOwn past.told.boots) (sym asks) (clerk_opens past.told.boots (learned known (clerks n)).session (learned known (clerks n)) reading
+      (let b = (learned_stays known (clerks n)).1 ∙ keeps.fits.boot n inside up in let e = ap (λ (k : ℕ). past.told.boots (Node k)) ((learned_stays known (clerks n)).0 ∙ keeps.fits.node n inside) in omega (arith, b, e)))
+
   -- it has learned the state
   knows_it : (input : Input) (change : Option Change) → MayTake (owners_with past before).told known (Node n) input
       → AreLeases past.told.chain (greatest_with past.told.greatest input) (with_change change past.told.handed) keeps.ghosts.promised keeps.ghosts.noted keeps.ghosts.ends keeps.ghosts.term.expiring
-      → Keeps nodes masters knowing (owners_with (owners_heard past (Node n) known.index input change) before)
-  knows_it input change may leases =
+      → OpensOwn past.told.boots change → Keeps nodes masters knowing (owners_with (owners_heard past (Node n) known.index input change) before)
+  knows_it input change may leases opens =
       clerk_learns nodes masters clerks knowing (owners_with past before) n known keeps inside (record { up = may.up; place = may.place; rises = may.rises; own_boot = may.own_boot }) (greatest_with past.told.greatest input)
-      (with_change change past.told.handed) leases puts_knowing
+      (with_change change past.told.handed) leases (booted_asks past.told.chain past.told.handed past.told.boots change opens keeps.fits.booted) puts_knowing
 
   leases_read : (greatest : ℕ) → past.told.greatest ≤ greatest → AreLeases past.told.chain greatest past.told.handed keeps.ghosts.promised keeps.ghosts.noted keeps.ghosts.ends keeps.ghosts.term.expiring
   leases_read greatest greater = reads_on past.told.chain past.told.greatest greatest past.told.handed keeps.ghosts.promised keeps.ghosts.noted keeps.ghosts.ends keeps.ghosts.term.expiring keeps.fits.leases_are greater
@@ -394,18 +403,18 @@ module _ (nodes : ℕ) (masters same_masters : ℕ → Mastering) (clerks others
   clerk_takes (Packet packet reading) change may took =
       let k = knows_it (Packet packet reading) change may
       (subst (λ (c : Option Change). AreLeases past.told.chain (max past.told.greatest reading) (with_change c past.told.handed) keeps.ghosts.promised keeps.ghosts.noted keeps.ghosts.ends keeps.ghosts.term.expiring) (sym took.1)
-      (leases_read (max past.told.greatest reading) (omega arith))) in
+      (leases_read (max past.told.greatest reading) (omega arith))) (opens_no_other change took.1) in
       hears_in nodes masters same_masters knowing others (owners_heard past (Node n) known.index (Packet packet reading) change) before after n k masters_same new puts_new packet.now.kind reading packet.now.body
       (let s = may.steady in omega (arith, s)) (λ word spells. k.fits.letters (letter_of packet.now) word may.comes spells)
       (subst (λ (c : Clerking). Hears c packet.now.kind reading packet.now.body new before after) (sym knows_here) took.0)
   clerk_takes (Tick reading) change may took =
       let k = knows_it (Tick reading) change may
       (subst (λ (c : Option Change). AreLeases past.told.chain (max past.told.greatest reading) (with_change c past.told.handed) keeps.ghosts.promised keeps.ghosts.noted keeps.ghosts.ends keeps.ghosts.term.expiring) (sym took.asks)
-      (hands_change (owners_with past before) keeps.ghosts (max past.told.greatest reading) (learned known (clerks n)).session (learned known (clerks n)) reading (leases_read (max past.told.greatest reading) (omega arith)))) in
+      (hands_change (owners_with past before) keeps.ghosts (max past.told.greatest reading) (learned known (clerks n)).session (learned known (clerks n)) reading (leases_read (max past.told.greatest reading) (omega arith)))) (opens_own change reading may.up took.asks) in
       ticks_in nodes masters same_masters knowing others (owners_heard past (Node n) known.index (Tick reading) change) before after n k masters_same new puts_new (took.is ∙ sym knows_here)
       (took.sends ∙ ap (λ (c : Clerking). before ++ letters_of c (tick_words c.session c.requests)) (sym knows_here))
   clerk_takes Synced change may took =
       let k = knows_it Synced change may
       (subst (λ (c : Option Change). AreLeases past.told.chain past.told.greatest (with_change c past.told.handed) keeps.ghosts.promised keeps.ghosts.noted keeps.ghosts.ends keeps.ghosts.term.expiring) (sym took.1)
-      (leases_read past.told.greatest (omega arith))) in
+      (leases_read past.told.greatest (omega arith))) (opens_no_other change took.1) in
       idle nodes masters same_masters knowing others (owners_heard past (Node n) known.index Synced change) before after n k masters_same new puts_new (took.0 ∙ sym knows_here) (took.2 ∙ sym (append-nil before))

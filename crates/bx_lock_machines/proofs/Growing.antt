@@ -21,7 +21,8 @@ use Rattle.bx_locking.proofs.Owned.{single_grows, was_own}
 use Rattle.bx_locking.proofs.Terms.{next_most}
 use Rattle.bx_master.specs.Masters.{Mastering}
 use Rattle.bx_clerk.specs.Clerks.{Clerking}
-use Rattle.bx_lock_machines.specs.Keeps.{Keeps}
+use Rattle.bx_lock_machines.proofs.Boots.{booted_grows}
+use Rattle.bx_lock_machines.specs.Keeps.{AreBooted, Keeps}
 use Rattle.bx_lock_steps.specs.Machines.{AreStates, FitsMaster, IsUntied}
 use Rattle.bx_lock_steps.proofs.Chains.{first_among, new_boot, one_session, own_given, rising_grows}
 use Rattle.bx_lock_steps.proofs.Floors.{grows_floor}
@@ -98,8 +99,9 @@ module _ (nodes : ℕ) (masters : ℕ → Mastering) (clerks : ℕ → Clerking)
       → ((id : ℕ) (m : Mastering) → FitsMaster past.told.chain (past.told.knew (Server id)) (past.told.boots (Server id)) keeps.ghosts.said keeps.ghosts.side.drawn keeps.ghosts.term keeps.ghosts.noted id m
       → FitsMaster (grown past.told.chain change) (past.told.knew (Server id)) (past.told.boots (Server id)) keeps.ghosts.said keeps.ghosts.side.drawn term noted id m)
       → (past.told.boots (Server (last (grown past.told.chain change)).master) < (last (grown past.told.chain change)).master_boot → IsUntied (grown past.told.chain change) term noted)
+      → AreBooted (grown past.told.chain change) past.told.handed past.told.boots
       → Keeps nodes masters clerks (owners_grown past change)
-  fits_then term promised noted ends locks leases more same masters_grow before = record {
+  fits_then term promised noted ends locks leases more same masters_grow before booted = record {
     ghosts = record {
       said = keeps.ghosts.said;
       side = keeps.ghosts.side;
@@ -124,6 +126,7 @@ module _ (nodes : ℕ) (masters : ℕ → Mastering) (clerks : ℕ → Clerking)
         fresh = keeps.fits.had_are.fresh;
       };
       states = states_grow past.told.chain change past.told.greatest past.told.handed promised noted keeps.ghosts.ends ends term.expiring legal keeps.fits.states leases same;
+      booted = booted;
       knew_most = λ who. let k = keeps.fits.knew_most who in let i = index_rises (last past.told.chain) change in omega (arith, k, i);
       clerk = λ n. clerk_promised (grown past.told.chain change) (past.told.knew (Node n)) (past.told.boots (Node n)) keeps.ghosts.side keeps.ghosts.had keeps.ghosts.promised promised n (clerks n) more
           (clerk_grows past.told.chain change (past.told.knew (Node n)) (past.told.boots (Node n)) keeps.ghosts.side keeps.ghosts.had keeps.ghosts.promised n (clerks n) (keeps.fits.clerk n));
@@ -157,14 +160,15 @@ module _ (nodes : ℕ) (masters : ℕ → Mastering) (clerks : ℕ → Clerking)
       → FitsMaster (grown past.told.chain change) (past.told.knew (Server id)) (past.told.boots (Server id)) keeps.ghosts.said keeps.ghosts.side.drawn keeps.ghosts.term keeps.ghosts.noted id m
   calm_master calm id m is = master_grows past.told.chain change (past.told.knew (Server id)) (past.told.boots (Server id)) keeps.ghosts.said keeps.ghosts.side.drawn keeps.ghosts.term keeps.ghosts.noted id m calm keeps.fits.locks.term_is.place is
 
-  calm_grows : IsNoTake change → OpensNone change → ((n t reading : ℕ) → change ≡ Expire n t reading → Contains past.told.handed change) → Keeps nodes masters clerks (owners_grown past change)
-  calm_grows calm opens own = fits_then keeps.ghosts.term keeps.ghosts.promised keeps.ghosts.noted keeps.ghosts.ends (calm_locks calm own)
+  calm_grows : IsNoTake change → OpensNone change → ((n t reading : ℕ) → change ≡ Expire n t reading → Contains past.told.handed change) → AreBooted (grown past.told.chain change) past.told.handed past.told.boots
+      → Keeps nodes masters clerks (owners_grown past change)
+  calm_grows calm opens own booted = fits_then keeps.ghosts.term keeps.ghosts.promised keeps.ghosts.noted keeps.ghosts.ends (calm_locks calm own)
       (leases_grow past.told.chain past.told.greatest past.told.handed keeps.ghosts.promised keeps.ghosts.noted keeps.ghosts.ends keeps.ghosts.term.expiring change keeps.fits.locks.chained keeps.fits.leases_are legal calm opens own)
-      (λ s e has. has) (λ p s place alive. refl) (calm_master calm) (calm_before calm)
+      (λ s e has. has) (λ p s place alive. refl) (calm_master calm) (calm_before calm) booted
 
 open_grows : (nodes : ℕ) (masters : ℕ → Mastering) (clerks : ℕ → Clerking) (past : OwnersPast) (node boot reading : ℕ) (keeps : Keeps nodes masters clerks past) → IsLegal (last past.told.chain) (Open node boot reading)
-    → Keeps nodes masters clerks (owners_grown past (Open node boot reading))
-open_grows nodes masters clerks past node boot reading keeps legal =
+    → AreBooted (grown past.told.chain (Open node boot reading)) past.told.handed past.told.boots → Keeps nodes masters clerks (owners_grown past (Open node boot reading))
+open_grows nodes masters clerks past node boot reading keeps legal booted =
     fits_then nodes masters clerks past (Open node boot reading) keeps legal keeps.ghosts.term (((last past.told.chain).next_session, until) ∷ keeps.ghosts.promised) keeps.ghosts.noted ends
     (calm_locks nodes masters clerks past (Open node boot reading) keeps legal tt (λ n t r is. absurd cc))
     (leases_open past.told.chain past.told.greatest past.told.handed keeps.ghosts.promised keeps.ghosts.noted keeps.ghosts.ends ends keeps.ghosts.term.expiring node boot reading keeps.fits.locks.chained keeps.fits.leases_are legal
@@ -173,7 +177,7 @@ open_grows nodes masters clerks past node boot reading keeps legal =
     (λ p s place alive. one_not (last past.told.chain).next_session until keeps.ghosts.ends s
     (λ same. let k = keeps.fits.leases_are.known s (keeps.ghosts.ends s) (keeps.fits.leases_are.ended p place s alive) in omega (arith, k, same)))
     (calm_master nodes masters clerks past (Open node boot reading) keeps legal tt)
-    (calm_before nodes masters clerks past (Open node boot reading) keeps legal tt)
+    (calm_before nodes masters clerks past (Open node boot reading) keeps legal tt) booted
   where
     until : ℕ
     until = (opened (last past.told.chain) node boot reading).until
@@ -182,21 +186,25 @@ open_grows nodes masters clerks past node boot reading keeps legal =
     ends = one_of (last past.told.chain).next_session until keeps.ghosts.ends
 
 take_grows : (nodes : ℕ) (masters : ℕ → Mastering) (clerks : ℕ → Clerking) (past : OwnersPast) (by boot reading : ℕ) (keeps : Keeps nodes masters clerks past) → IsLegal (last past.told.chain) (Take by boot reading) → Contains past.told.handed (Take by boot reading)
-    → Keeps nodes masters clerks (owners_grown past (Take by boot reading))
-take_grows nodes masters clerks past by boot reading keeps legal own =
+    → AreBooted (grown past.told.chain (Take by boot reading)) past.told.handed past.told.boots → Keeps nodes masters clerks (owners_grown past (Take by boot reading))
+take_grows nodes masters clerks past by boot reading keeps legal own booted =
     fits_then nodes masters clerks past (Take by boot reading) keeps legal (new_term (last (grown past.told.chain (Take by boot reading)))) keeps.ghosts.promised (λ session. 0) keeps.ghosts.ends
     (begins_term past.told.chain past.holding past.floor keeps.ghosts.said keeps.ghosts.side keeps.ghosts.term by boot reading keeps.fits.locks)
     (leases_end past.told.chain past.told.greatest past.told.handed keeps.ghosts.promised keeps.ghosts.noted keeps.ghosts.ends keeps.ghosts.term.expiring by boot reading keeps.fits.locks.chained keeps.fits.leases_are legal own)
     (λ s e has. has) (λ p s place alive. refl)
     (λ id m is. master_begins past.told.chain by boot reading (past.told.knew (Server id)) (past.told.boots (Server id)) keeps.ghosts.said keeps.ghosts.side.drawn keeps.ghosts.term keeps.ghosts.noted id m is)
-    (λ ahead. untied_begins past.told.chain by boot reading)
+    (λ ahead. untied_begins past.told.chain by boot reading) booted
+
+-- no boot of a session comes to be too great
+still_booted : (nodes : ℕ) (masters : ℕ → Mastering) (clerks : ℕ → Clerking) (past : OwnersPast) (keeps : Keeps nodes masters clerks past) (change : Change) → IsOwnersOwn past.told.handed change → AreBooted (grown past.told.chain change) past.told.handed past.told.boots
+still_booted nodes masters clerks past keeps change own = booted_grows past.told.chain past.told.handed past.told.boots (keeps.fits.states.rising (last past.told.chain) (last_place past.told.chain)) keeps.fits.booted change own
 
 -- The chain may grow by each change that is legal, and that was handed back where owners ask for such.
 pub grows : (nodes : ℕ) (masters : ℕ → Mastering) (clerks : ℕ → Clerking) (past : OwnersPast) (change : Change) → Keeps nodes masters clerks past → IsLegal (last past.told.chain) change → IsOwnersOwn past.told.handed change → Keeps nodes masters clerks (owners_grown past change)
-grows nodes masters clerks past (Renew by boot reading) keeps legal own = calm_grows nodes masters clerks past (Renew by boot reading) keeps legal tt tt (λ n t r is. absurd cc)
-grows nodes masters clerks past (Take by boot reading) keeps legal own = take_grows nodes masters clerks past by boot reading keeps legal own
-grows nodes masters clerks past (Open node boot reading) keeps legal own = open_grows nodes masters clerks past node boot reading keeps legal
-grows nodes masters clerks past (Expire session term reading) keeps legal own = calm_grows nodes masters clerks past (Expire session term reading) keeps legal tt tt (λ n t r is. own)
-grows nodes masters clerks past (Claim gone by) keeps legal own = calm_grows nodes masters clerks past (Claim gone by) keeps legal tt tt (λ n t r is. absurd cc)
-grows nodes masters clerks past (Close gone by) keeps legal own = calm_grows nodes masters clerks past (Close gone by) keeps legal tt tt (λ n t r is. absurd cc)
-grows nodes masters clerks past (Shift device epoch mode second boot) keeps legal own = calm_grows nodes masters clerks past (Shift device epoch mode second boot) keeps legal tt tt (λ n t r is. absurd cc)
+grows nodes masters clerks past (Renew by boot reading) keeps legal own = calm_grows nodes masters clerks past (Renew by boot reading) keeps legal tt tt (λ n t r is. absurd cc) (still_booted nodes masters clerks past keeps (Renew by boot reading) own)
+grows nodes masters clerks past (Take by boot reading) keeps legal own = take_grows nodes masters clerks past by boot reading keeps legal own (still_booted nodes masters clerks past keeps (Take by boot reading) own)
+grows nodes masters clerks past (Open node boot reading) keeps legal own = open_grows nodes masters clerks past node boot reading keeps legal (still_booted nodes masters clerks past keeps (Open node boot reading) own)
+grows nodes masters clerks past (Expire session term reading) keeps legal own = calm_grows nodes masters clerks past (Expire session term reading) keeps legal tt tt (λ n t r is. own) (still_booted nodes masters clerks past keeps (Expire session term reading) own)
+grows nodes masters clerks past (Claim gone by) keeps legal own = calm_grows nodes masters clerks past (Claim gone by) keeps legal tt tt (λ n t r is. absurd cc) (still_booted nodes masters clerks past keeps (Claim gone by) own)
+grows nodes masters clerks past (Close gone by) keeps legal own = calm_grows nodes masters clerks past (Close gone by) keeps legal tt tt (λ n t r is. absurd cc) (still_booted nodes masters clerks past keeps (Close gone by) own)
+grows nodes masters clerks past (Shift device epoch mode second boot) keeps legal own = calm_grows nodes masters clerks past (Shift device epoch mode second boot) keeps legal tt tt (λ n t r is. absurd cc) (still_booted nodes masters clerks past keeps (Shift device epoch mode second boot) own)

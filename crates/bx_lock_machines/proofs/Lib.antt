@@ -1,4 +1,5 @@
 pub mod Alike
+pub mod Boots
 pub mod ClerkEvents
 pub mod ClerkLearns
 pub mod ClerkTakes

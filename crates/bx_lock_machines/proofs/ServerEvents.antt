@@ -27,6 +27,7 @@ use Rattle.bx_clerk.specs.Clerks.{Clerking}
 use Rattle.bx_lock_machines.specs.Keeps.{AreSame, FitsPast, Ghosts, Keeps, PutsOne}
 use Rattle.bx_lock_steps.specs.Machines.{FitsClerk, FitsMaster, IsMaster, IsUntied}
 use Rattle.bx_lock_steps.proofs.Accounts.{misses, passes, tested}
+use Rattle.bx_lock_machines.proofs.Boots.{OpensNone, booted_asks}
 use Rattle.bx_lock_machines.proofs.Letters.{letters_after, letters_said}
 use Rattle.bx_lock_steps.proofs.Others.{clerk_promised, master_beside, master_hears, same_drawn}
 use Rattle.bx_lock_steps.proofs.Serving.{Spoken}
@@ -50,8 +51,8 @@ module _ (nodes : ℕ) (masters others : ℕ → Mastering) (clerks same_clerks 
     (clerks_same : AreSame clerks same_clerks) where
   -- all fits with it
   pub outcome_keeps : (input : Input) (change : Option Change) (new : Mastering) (words : List Word) → Outcome (owners_with past before) keeps.ghosts id known (greatest_with past.told.greatest input) (with_change change past.told.handed) new words
-      → IsPlace past.told.chain known → PutsOne id new masters others → after ≡ before ++ letters_of id known words → Keeps nodes others same_clerks (owners_with (owners_heard past (ServerOf id) known.index input change) after)
-  outcome_keeps input change new words o place puts sends = record {
+      → IsPlace past.told.chain known → OpensNone change → PutsOne id new masters others → after ≡ before ++ letters_of id known words → Keeps nodes others same_clerks (owners_with (owners_heard past (ServerOf id) known.index input change) after)
+  outcome_keeps input change new words o place opens puts sends = record {
     ghosts = record {
       said = o.now.said;
       side = g.side;
@@ -70,6 +71,7 @@ module _ (nodes : ℕ) (masters others : ℕ → Mastering) (clerks same_clerks 
         fresh = f.had_are.fresh;
       };
       states = f.states;
+      booted = booted_asks past.told.chain past.told.handed past.told.boots change (λ node boot reading is. absurd (opens node boot reading is)) f.booted;
       knew_most = λ who. elim (tested (is_same (ServerOf id) who)) [
         | passes is ↦ subst (λ (b : Bool). (if b then known.index else past.told.knew who) ≤ (last past.told.chain).index) (sym is) (place_most past.told.chain known place)
         | misses is_not ↦ subst (λ (b : Bool). (if b then known.index else past.told.knew who) ≤ (last past.told.chain).index) (sym is_not) (f.knew_most who)

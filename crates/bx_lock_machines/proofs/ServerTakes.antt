@@ -36,6 +36,7 @@ use Rattle.bx_lock_steps.proofs.Knowing.{Learned, learns}
 use Rattle.bx_lock_steps.proofs.Others.{master_waits}
 use Rattle.bx_lock_steps.proofs.Proposing.{asks, hands_take, no_mark}
 use Rattle.bx_lock_steps.proofs.Releasing.{both_true}
+use Rattle.bx_lock_machines.proofs.Boots.{OpensNone, opens_nothing, server_opens}
 use Rattle.bx_lock_machines.proofs.ServerEvents.{Outcome, outcome_keeps}
 use Rattle.bx_lock_steps.proofs.Serving.{After, IsScene, Scene, Server, Spoken, late, tied}
 
@@ -283,7 +284,7 @@ server_takes nodes masters others clerks same_clerks past before after id known 
     outcome_keeps nodes masters others clerks same_clerks past before after id known keeps same (Packet packet reading) change new (both (catch_up known reading) (hear_as known reading h.said) (masters id)).1
     (subst (λ (c : Option Change). Outcome (owners_with past before) g id known (max past.told.greatest reading) (with_change c past.told.handed) new (both (catch_up known reading) (hear_as known reading h.said) (masters id)).1) (sym takes.1)
     (subst (λ (m : Mastering). Outcome (owners_with past before) g id known (max past.told.greatest reading) past.told.handed m (both (catch_up known reading) (hear_as known reading h.said) (masters id)).1) (sym h.is) o))
-    may.place puts
+    may.place (subst OpensNone (sym takes.1) opens_nothing) puts
     (h.sends ∙ ap (λ (n : ℕ). before ++ letters_of n known (both (catch_up known reading) (hear_as known reading h.said) (masters id)).1) (f.master id less may.up).server)
 server_takes nodes masters others clerks same_clerks past before after id known (Tick reading) change new keeps may less takes puts same =
     let f = keeps.fits in
@@ -292,7 +293,7 @@ server_takes nodes masters others clerks same_clerks past before after id known 
     outcome_keeps nodes masters others clerks same_clerks past before after id known keeps same (Tick reading) change new (both (catch_up known reading) (tick known) (masters id)).1
     (subst (λ (m : Mastering). Outcome (owners_with past before) g id known (max past.told.greatest reading) (with_change change past.told.handed) m (both (catch_up known reading) (tick known) (masters id)).1) (sym takes.is)
     (subst (λ (c : Option Change). Outcome (owners_with past before) g id known (max past.told.greatest reading) (with_change c past.told.handed) (marking c (both (catch_up known reading) (tick known) (masters id)).0) (both (catch_up known reading) (tick known) (masters id)).1) (sym takes.asks) o))
-    may.place puts
+    may.place (subst OpensNone (sym takes.asks) (server_opens known reading (both (catch_up known reading) (tick known) (masters id)).0)) puts
     (takes.sends ∙ ap (λ (n : ℕ). before ++ letters_of n known (both (catch_up known reading) (tick known) (masters id)).1) (f.master id less may.up).server)
 server_takes nodes masters others clerks same_clerks past before after id known Synced change new keeps may less takes puts same =
     let f = keeps.fits in
@@ -311,4 +312,4 @@ server_takes nodes masters others clerks same_clerks past before after id known 
       master = master_waits past.told.chain (past.told.knew (ServerOf id)) known.index (past.told.boots (ServerOf id)) g.said g.side.drawn g.term g.noted id (masters id) may.rises (f.master id less may.up);
       own = inl (refl, refl);
     })))
-    may.place puts (takes.2 ∙ sym (append-nil before))
+    may.place (subst OpensNone (sym takes.1) opens_nothing) puts (takes.2 ∙ sym (append-nil before))

@@ -27,6 +27,7 @@ use Rattle.bx_lock_machines.specs.Keeps.{AreSame, FitsPast, Ghosts, Keeps, PutsO
 use Rattle.bx_lock_steps.specs.Machines.{AreUnique, FitsClerk, FitsMaster}
 use Rattle.bx_lock_steps.proofs.Accounts.{misses, passes, tested}
 use Rattle.bx_lock_machines.proofs.Alike.{alike}
+use Rattle.bx_lock_machines.proofs.Boots.{booted_rises}
 use Rattle.bx_lock_steps.proofs.Chains.{one_session}
 
 -- ---- a machine stops: less is asked of it
@@ -47,6 +48,7 @@ crashed nodes masters clerks past who keeps = record {
     leases_are = keeps.fits.leases_are;
     had_are = keeps.fits.had_are;
     states = keeps.fits.states;
+    booted = keeps.fits.booted;
     knew_most = keeps.fits.knew_most;
     clerk = keeps.fits.clerk;
     node = keeps.fits.node;
@@ -74,6 +76,7 @@ clock nodes masters clerks past greatest greater keeps = record {
     leases_are = reads_on past.told.chain past.told.greatest greatest past.told.handed keeps.ghosts.promised keeps.ghosts.noted keeps.ghosts.ends keeps.ghosts.term.expiring keeps.fits.leases_are greater;
     had_are = keeps.fits.had_are;
     states = keeps.fits.states;
+    booted = keeps.fits.booted;
     knew_most = keeps.fits.knew_most;
     clerk = keeps.fits.clerk;
     node = keeps.fits.node;
@@ -124,6 +127,7 @@ module _ (nodes : ℕ) (masters : ℕ → Mastering) (clerks : ℕ → Clerking)
         fresh = f.had_are.fresh;
       };
       states = f.states;
+      booted = booted_rises past.told.chain past.told.handed past.told.boots boots (λ n. let e = boots_node n in omega (arith, e)) f.booted;
       knew_most = most;
       clerk = λ n. subst (λ (k : ℕ). FitsClerk past.told.chain k (boots (Node n)) g.side g.had g.promised n (clerks n)) (sym (knew_node n))
           (subst (λ (b : ℕ). FitsClerk past.told.chain (past.told.knew (Node n)) b g.side g.had g.promised n (clerks n)) (sym (boots_node n)) (f.clerk n));
@@ -266,6 +270,7 @@ node_restarts nodes masters others clerks more past n boot reading new masters_s
       fresh = f.had_are.fresh;
     };
     states = f.states;
+    booted = booted_rises past.told.chain past.told.handed past.told.boots (put_at (Node n) boot past.told.boots) rises f.booted;
     knew_most = knew_at (last past.told.chain).index (Node n) 0 past.told.knew (omega arith) f.knew_most;
     clerk = λ m. ⊎_elim
         (λ is. subst (λ (k : ℕ). Fit (put_at (Node n) 0 past.told.knew (Node k)) (put_at (Node n) boot past.told.boots (Node k)) k (more k)) (sym is.1)
@@ -300,6 +305,12 @@ node_restarts nodes masters others clerks more past n boot reading new masters_s
     f : FitsPast nodes masters clerks past keeps.ghosts
     f = keeps.fits
 
+    rises : (m : ℕ) → past.told.boots (Node m) ≤ put_at (Node n) boot past.told.boots (Node m)
+    rises m = ⊎_elim
+        (λ is. let b = may.boot_rises in let h = here (Node n) boot past.told.boots in let e = ap (λ (k : ℕ). past.told.boots (Node k)) is.1 in let k = ap (λ (x : ℕ). put_at (Node n) boot past.told.boots (Node x)) is.1 in omega (arith, b, h, e, k))
+        (λ other. let e = elsewhere (Node n) (Node m) boot past.told.boots (other_node m n other.1) in omega (arith, e))
+        (eqb_tells m n)
+
     Once : ℕ → ℕ → Type 0
     Once s m = ((more m).session ≡ Some s) ⊎ ((q : GlobalState) → IsPlace past.told.chain q → put_at (Node n) 0 past.told.knew (Node m) ≤ q.index → session_of q m (put_at (Node n) boot past.told.boots (Node m)) ≢ Some s)
 
@@ -332,6 +343,7 @@ server_restarts nodes masters others clerks more past id boot reading at apart c
       fresh = f.had_are.fresh;
     };
     states = f.states;
+    booted = booted_rises past.told.chain past.told.handed past.told.boots (put_at (ServerOf id) boot past.told.boots) (λ n. omega arith) f.booted;
     knew_most = knew_at (last past.told.chain).index (ServerOf id) 0 past.told.knew (omega arith) f.knew_most;
     clerk = λ n. subst (λ (c : Clerking). FitsClerk past.told.chain (past.told.knew (Node n)) (past.told.boots (Node n)) g.side g.had g.promised n c) (sym (clerks_same.each n)) (f.clerk n);
     node = λ n inside. ap (λ (c : Clerking). c.node) (clerks_same.each n) ∙ f.node n inside;

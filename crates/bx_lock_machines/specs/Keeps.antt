@@ -3,6 +3,8 @@ use Rattle.std.specs.Prelude.{◌≡◌, ◌≢◌, ℕ, ◌<◌, ◌≤◌, ◌
 use Rattle.bx_base.specs.declared.names.Actor.{Actor}
 use Rattle.bx_base.specs.declared.names.Actor.TheVariants.{Node, Server}
 use Rattle.bx_global.specs.declared.state.GlobalState.{GlobalState}
+use Rattle.bx_global.specs.declared.change.Change.{Change}
+use Rattle.bx_global.specs.declared.change.Change.TheVariants.{Open}
 use Rattle.bx_facts.specs.Chains.{Chain, HasOwnBoot, IsPlace, last, session_of}
 use Rattle.bx_facts.specs.Holds.{OwnersPast}
 use Rattle.bx_post.specs.declared.packets.Letter.{Letter}
@@ -10,11 +12,12 @@ use Rattle.bx_lock_words.specs.Words.{IsWord, Spells}
 use Rattle.bx_lock_words.specs.declared.words.Word.{Word}
 use Rattle.bx_lock_words.specs.declared.words.Word.TheVariants.{Leases}
 use Rattle.bx_locking.specs.Leases.{AreLeases, IsPromised}
-use Rattle.bx_locking.specs.Owned.{AreSingle}
+use Rattle.bx_locking.specs.Owned.{AreSingle, IsRowIn}
 use Rattle.bx_locking.specs.Tables.{AreLocks, Side, Term}
 use Rattle.bx_locking.specs.Words.{IsSaid}
 use Rattle.bx_master.specs.Masters.{Mastering}
 use Rattle.bx_clerk.specs.Clerks.{Clerking}
+use Rattle.bx_rows.specs.declared.session.SessionRow.{SessionRow}
 use Rattle.bx_lock_steps.specs.Machines.{AreStates, FitsClerk, FitsMaster, IsUntied}
 
 -- ---- whose session
@@ -38,11 +41,17 @@ pub record AreHad (chain : Chain) (knew boots : Actor → ℕ) (side : Side) (ha
       → ((clerks n).session ≡ Some s) ⊎ ((p : GlobalState) → IsPlace chain p → knew (Node n) ≤ p.index → session_of p n (boots (Node n)) ≢ Some s)
   pub fresh : (s : ℕ) → had s ≡ false → ((b : ℕ) → side.requests s b ≡ None) × (side.drawn s ≡ 0) × (side.given s ≡ 0)
 
+-- The boots of sessions: each with which a node may start next is above those of its sessions; and no session was asked for in a boot above its node's.
+pub record AreBooted (chain : Chain) (handed : List Change) (boots : Actor → ℕ) : Type 0 where
+  pub rows : (row : SessionRow) (boot : ℕ) → IsRowIn (last chain).sessions row → boots (Node row.node) < boot → HasOwnBoot chain boot → row.boot < boot
+  pub asked : (node boot reading : ℕ) → Contains handed (Open node boot reading) → boot ≤ boots (Node node)
+
 -- ---- to begin with
 
--- a state that a cluster may begin with: no two live sessions are of one node and boot
+-- a state that a cluster may begin with: no two live sessions are of one node and boot, and all are of the first boot
 pub record IsStart (s : GlobalState) : Type 0 where
   pub single : AreSingle 0 s
+  pub first_boots : (row : SessionRow) → IsRowIn s.sessions row → row.boot ≡ 0
 
 -- ---- all of it
 
@@ -62,6 +71,7 @@ pub record FitsPast (nodes : ℕ) (masters : ℕ → Mastering) (clerks : ℕ �
   pub leases_are : AreLeases past.told.chain past.told.greatest past.told.handed g.promised g.noted g.ends g.term.expiring
   pub had_are : AreHad past.told.chain past.told.knew past.told.boots g.side g.had clerks
   pub states : AreStates past.told.chain g.ends
+  pub booted : AreBooted past.told.chain past.told.handed past.told.boots
   pub knew_most : (who : Actor) → past.told.knew who ≤ (last past.told.chain).index
   pub clerk : (n : ℕ) → FitsClerk past.told.chain (past.told.knew (Node n)) (past.told.boots (Node n)) g.side g.had g.promised n (clerks n)
   -- the clerks of the cluster's nodes; there are no others

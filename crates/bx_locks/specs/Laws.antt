@@ -6,7 +6,8 @@ use Rattle.std.proofs.lemmas.Bool.Decides.{nat_tests}
 use Rattle.bx_base.specs.declared.names.Mode.TheVariants.{Shared}
 use Rattle.bx_clerk.specs.Clerks.{Clerking, end_as, until_in, until_of}
 use Rattle.bx_clerk.specs.Requests.{hold_of, request_in}
-use Rattle.bx_facts.specs.Chains.{HasRow, IsOwnersOwn, LivesIn, last, number_in, oldest, opened_at, session_of}
+use Rattle.bx_base.specs.declared.names.Actor.TheVariants.{Node}
+use Rattle.bx_facts.specs.Chains.{HasOwnBoot, HasRow, IsOwnersOwn, LivesIn, last, number_in, oldest, opened_at, session_of}
 use Rattle.bx_facts.specs.Holds.{Hold, OwnersPast, found_owners, leased, opening_owners, owners_grown}
 use Rattle.bx_facts.specs.Holds.{hold_of as held_by}
 use Rattle.bx_facts.specs.Inputs.{AreAmong, IsOwners}
@@ -96,6 +97,10 @@ alone o past session other block hold keeps live row holds = laws.alone (nodes_o
 
 pub reaches : (o : LockMachines) (past : OwnersPast) (session block : ℕ) (hold : Hold) → IsKept o past → LivesIn (last past.told.chain) session → past.holding session block ≡ Some hold → past.floor block ≤ max hold.1 (opened_at past.told.chain session)
 reaches o past session block hold keeps live holds = laws.reaches (nodes_of o) (master_of o) (clerk_of o) past session block hold keeps live holds
+
+-- each boot with which a node may start next is above those of its sessions
+pub above : (o : LockMachines) (past : OwnersPast) (boot session : ℕ) (row : SessionRow) → IsKept o past → row_in (last past.told.chain).sessions session ≡ Some row → past.told.boots (Node row.node) < boot → HasOwnBoot past.told.chain boot → row.boot < boot
+above o past boot session row keeps has greater own = laws.above (nodes_of o) (master_of o) (clerk_of o) past boot session row keeps has greater own
 
 pub was_opened : (o : LockMachines) (past : OwnersPast) (node session : ℕ) → IsKept o past → (clerk_of o node).session ≡ Some session → session < (last past.told.chain).next_session
 was_opened o past node session keeps own = laws.was_opened (nodes_of o) (master_of o) (clerk_of o) past node session keeps own

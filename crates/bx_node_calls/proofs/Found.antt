@@ -39,6 +39,10 @@ pub if_ok_both : {A F : Type 0} (P Q R : A → Type 0) (r : Result A F) → ((a 
 if_ok_both P Q R (Ok a) by is also = by a is also
 if_ok_both P Q R (Err e) by is also = tt
 
+pub if_ok_three : {A F : Type 0} (P Q R : A → Type 0) (N : Type 0) (r : Result A F) → ((a : A) → P a → Q a → N → R a) → IfOk r P → IfOk r Q → OnOk r N → IfOk r R
+if_ok_three P Q R N (Ok a) by is also last = by a is also last
+if_ok_three P Q R N (Err e) by is also last = tt
+
 pub if_ok_and : {A F : Type 0} (P Q : A → Type 0) (r : Result A F) → IfOk r P → IfOk r Q → IfOk r (λ a. P a × Q a)
 if_ok_and P Q (Ok a) is also = (is, also)
 if_ok_and P Q (Err e) is also = tt

@@ -1,5 +1,5 @@
 -- Answers behind answers.
-use Rattle.std.proofs.Common.{ℕ, List, [], ◌∷◌, ◌++◌, sym, subst}
+use Rattle.std.proofs.Common.{List, [], ◌∷◌, ◌++◌, sym, subst}
 use Rattle.std.specs.Prelude.{◌≡◌, reverse}
 use Rattle.std.proofs.lemmas.List.{reverse-append}
 use Rattle.bx_node_calls.specs.Turns.{Rounded}

@@ -1,5 +1,5 @@
 -- What a turn of one node is, and leaves of the calls that wait and of what the logs have.
-use Rattle.std.proofs.Common.{◌≡◌, ◌≢◌, ◌⊎◌, ⊎_elim, ◌∙◌, ℕ, ◌<◌, ◌≤◌, List, length, Contains, Option, Some, IsSome, IsSomeAnd, sym, ap, subst, arith}
+use Rattle.std.proofs.Common.{◌≡◌, ◌≢◌, ⊎_elim, ◌∙◌, ℕ, ◌<◌, ◌≤◌, List, length, Contains, Option, Some, IsSome, IsSomeAnd, sym, ap, subst, arith}
 use Rattle.std.specs.Prelude.{option_map, slice_get}
 use Rattle.bx_node_calls.specs.Turns.{IsTurn, session_at}
 use Rattle.bx_node_calls.specs.Waits.{AreNumbered, AreTold, Waits}

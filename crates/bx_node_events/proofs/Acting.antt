@@ -20,6 +20,7 @@ use Rattle.bx_node_machines.proofs.Owning as owning
 use Rattle.bx_node_machines.proofs.Sending.{fetching, landing_leaves, sending_leaves}
 use Rattle.bx_node_sends.proofs.Sent.{sent_at, surely_on, with_write}
 use Rattle.bx_node_views.proofs.Touching.{may_write, touch_clash}
+use Rattle.bx_node_events.specs.Works.{LeavesWorks}
 use Rattle.bx_node_events.proofs.Working.{IsHanded, IsSending, MaySend, SureBehind}
 use Rattle.bx_facts.specs.declared.owners.Owners as owners
 use Rattle.bx_places.specs.Places.{IsBlock, block_place, log_device}
@@ -136,6 +137,17 @@ module _ {G O S T : Type 0} (g : register.Ghosts G) (o : owners.Ghosts O) (st : 
     logs = own.logs its_row.slot (other_slot other its_row has ne);
     slots = ap (λ (l : Slot). l.activity) (slot_there c.slots row.slot its_row.slot to.slot (other_slot other its_row has ne));
     doubts = own.doubts other ne;
+  }
+
+  -- another session than this one
+  is_other : (other : ℕ) → Some session ≢ Some other → other ≢ session
+  is_other other ne e = ne (ap (λ (n : ℕ). Some n) (sym e))
+
+  -- What is of other sessions stays.
+  pub leaves_works : LeavesWorks (Some session) c (course_then c row.slot to)
+  leaves_works = record {
+    slots = λ other its_row ne has. (leaves_slot other its_row has (is_other other ne)).slots;
+    doubts = λ other ne. own.doubts other (is_other other ne);
   }
 
   unlogged_then : (block : ℕ) → IsUnwritten c.slots block → IsUnlogged c.logs block → IsUnlogged to.logs block

@@ -10,6 +10,7 @@ use Rattle.bx_facts.specs.declared.store.Store as store
 use Rattle.bx_facts.specs.Chains.{LivesIn, last, oldest}
 use Rattle.bx_facts.specs.Holds.{Hold}
 use Rattle.bx_facts.specs.Writes.{Sent}
+use Rattle.bx_node_events.specs.Works.{LeavesWorks}
 use Rattle.bx_node_events.proofs.Acting as acting
 use Rattle.bx_node_events.proofs.Acting.{IsChanged, IsLive, IsOwn, Outcome, course_then}
 use Rattle.bx_node_events.proofs.Landed as landed
@@ -169,7 +170,7 @@ module _ {G O S T : Type 0} (g : register.Ghosts G) (o : owners.Ghosts O) (st : 
   pub begins : IsLogged (st.made old).areas more → ((block : ℕ) → IsSome (block_in more.changed block) → IsBlock (st.made old).areas block) → more.head.call ≡ number_of call
       → ((other : Truth) (t : T) → IsTruth before.held other → Stands other before.hints t → views.Works Stands Step (act_of call (point_in more)) more.changed other t)
       → write.runs ≡ (writes before.log (works.Body (logged_text more) (point_in more))).1
-      → (course : Course) × (course.register.chain ≡ c.register.chain) × NodesStand g o st Stands Step register_is owners_are new x then_letters clocks later course tree × (course.logs ≡ c.logs)
+      → (course : Course) × (course.register.chain ≡ c.register.chain) × NodesStand g o st Stands Step register_is owners_are new x then_letters clocks later course tree × (course.logs ≡ c.logs) × LeavesWorks (Some session) c course
   begins is blocks numbered gives runs = landed.next_sends g o st Stands Step register_is owners_are old x letters clocks machines c tree node session row before stands live none_out none_sent later new then_letters write sending begun_to tree changed own
       (acting.shown_still g o st Stands Step register_is owners_are old x letters clocks machines later c tree tree node session row before begun_to stands live changed own (course_then c row.slot begun_to) tree (λ block mode. refl)
       (begun_at g o st Stands Step register_is owners_are old x known c tree node session row more (number_of call) (act_of call (point_in more)) stands.at live.up live.own lives_it live.is_row live.allowed

@@ -13,6 +13,7 @@ use Rattle.bx_facts.specs.Pasts.{MayRestart, RegisterPast, register_failed, regi
 use Rattle.bx_facts.specs.Writes.{GoesOn, IsOnly, StorePast, store_crashed, store_failed, store_restarted}
 use Rattle.bx_facts.proofs.Machines.{elsewhere, here, is_itself, is_one}
 use Rattle.bx_global.specs.declared.state.GlobalState.{GlobalState}
+use Rattle.bx_node_events.specs.Works.{KeepsWorks}
 use Rattle.bx_node_events.proofs.Registered.{HandedLaws, same_lengths, same_member_lengths}
 use Rattle.bx_node_events.proofs.Starting.{OwnersStart, StoreTries, may_start}
 use Rattle.bx_node_events.proofs.Stopping.{OwnersStop, PartsStop, StoreStops, but_for, stays_down}
@@ -130,13 +131,14 @@ module _ {G O S T : Type 0} (g : register.Ghosts G) (o : owners.Ghosts O) (st : 
       labels = labels_keep (st.made store_is) x y store_tries.sizes (same_labels x y store_tries.labels) stands.at.labels;
     }
 
-    pub store_fails : (later : Course) × (later.register.chain ≡ c.register.chain) × (later.logs ≡ c.logs) × NodesStand g o st Stands Step register_is owners_are store_then y (letters ++ box) (tried_clocks clocks boot reading) machines later tree
+    pub store_fails : (later : Course) × (later.register.chain ≡ c.register.chain) × (later.logs ≡ c.logs) × NodesStand g o st Stands Step register_is owners_are store_then y (letters ++ box) (tried_clocks clocks boot reading) machines later tree × KeepsWorks c later
     store_fails = (
       record c { store = store_left },
       refl,
       refl,
       stays_down g o st Stands Step laws register_is register_is owners_are owners_are store_is store_then x y (letters ++ box) clocks (tried_clocks clocks boot reading) machines c tree who
           c.register c.owners store_left (but_for g o st Stands Step register_is owners_are store_is x who (letters ++ box) clocks machines c tree stands) is_down parts_stop,
+      record { slots = refl; doubts = refl },
     )
 
   -- The register's did, when store and owners had started; they are stopped again.
@@ -231,11 +233,12 @@ module _ {G O S T : Type 0} (g : register.Ghosts G) (o : owners.Ghosts O) (st : 
       labels = labels_keep (st.made store_is) y z register_fails.sizes (same_labels y z register_fails.labels) (labels_keep (st.made store_is) x y store_tries.sizes (same_labels x y store_tries.labels) stands.at.labels);
     }
 
-    pub register_fails_too : (later : Course) × (later.register.chain ≡ c.register.chain) × (later.logs ≡ c.logs) × NodesStand g o st Stands Step register_then owners_then store_then z (letters ++ box) (tried_clocks clocks boot reading) machines later tree
+    pub register_fails_too : (later : Course) × (later.register.chain ≡ c.register.chain) × (later.logs ≡ c.logs) × NodesStand g o st Stands Step register_then owners_then store_then z (letters ++ box) (tried_clocks clocks boot reading) machines later tree × KeepsWorks c later
     register_fails_too = (
       record c { register = register_past; owners = owners_past; store = store_crashed store_past who },
       refl,
       refl,
       stays_down g o st Stands Step laws register_is register_then owners_are owners_then store_is store_then x z (letters ++ box) clocks (tried_clocks clocks boot reading) machines c tree who
           register_past owners_past (store_crashed store_past who) (but_for g o st Stands Step register_is owners_are store_is x who (letters ++ box) clocks machines c tree stands) is_down_too parts_stop_too,
+      record { slots = refl; doubts = refl },
     )

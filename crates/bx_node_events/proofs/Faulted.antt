@@ -11,6 +11,7 @@ use Rattle.bx_facts.specs.Holds.{Hold}
 use Rattle.bx_facts.specs.Inputs.{AreAmong, IsComing, IsOwners, IsRegisters, IsSteady, IsStores}
 use Rattle.bx_facts.specs.Writes.{GoesOn}
 use Rattle.bx_global.specs.declared.change.Change.{Change}
+use Rattle.bx_node_events.specs.Works.{KeepsWorks}
 use Rattle.bx_node_events.proofs.Decided as decided
 use Rattle.bx_node_events.proofs.Decided.{lettered}
 use Rattle.bx_node_events.proofs.Handed.{Offered, OwnersTook, StoreTook, handed}
@@ -144,10 +145,10 @@ module _ {G O S T : Type 0} (g : register.Ghosts G) (o : owners.Ghosts O) (st : 
   -- The register's disk failed: it sent nothing, and owners and store weren't handed the input.
   pub register_faulted : RegisterTook g register_is register_heard x y who input box box
       → (later : Course) × GrowsBy c.register.proposed c.register.chain later.register.chain × StandsBut g o st Stands Step register_heard owners_are store_is y who (letters ++ box) (heard_clocks clocks input) machines later tree × (later.logs ≡ c.logs)
-      × IsLast (g.knows register_heard who) c.register.chain later.register.chain
+      × IsLast (g.knows register_heard who) c.register.chain later.register.chain × KeepsWorks c later
   register_faulted took =
       let heard = registered g o st Stands Step laws register_is register_heard owners_are store_is x y letters box box clocks machines who input c tree stands up comes took in
-      (lettered heard.0 (letters ++ box), heard.1, read_later g o st Stands Step laws register_heard owners_are store_is y who (letters ++ box) clocks machines (lettered heard.0 (letters ++ box)) tree input heard.2, heard.3.logs, heard.4)
+      (lettered heard.0 (letters ++ box), heard.1, read_later g o st Stands Step laws register_heard owners_are store_is y who (letters ++ box) clocks machines (lettered heard.0 (letters ++ box)) tree input heard.2, heard.3.logs, heard.4, record { slots = heard.3.slots; doubts = heard.3.doubts })
 
   -- The store's did, when register and owners had taken the input: what these sent is lost.
   pub store_faulted : (owners_then : O) (store_then : S) (z : Disks) (heard_box tended_box : List Letter) (change : Option Change) → IsSteady clocks.greatest input
@@ -155,7 +156,7 @@ module _ {G O S T : Type 0} (g : register.Ghosts G) (o : owners.Ghosts O) (st : 
       → OwnersTook o owners_are owners_then (g.knows register_heard who) who input change heard_box tended_box
       → StoreTook st store_is store_then y z (g.knows register_heard who) who input None tended_box tended_box
       → (later : Course) × GrowsBy c.register.proposed c.register.chain later.register.chain × NodesStand g o st Stands Step register_heard owners_then store_then z (letters ++ box) (heard_clocks clocks input) machines later tree × (later.logs ≡ c.logs)
-      × IsLast (g.knows register_heard who) c.register.chain later.register.chain
+      × IsLast (g.knows register_heard who) c.register.chain later.register.chain × KeepsWorks c later
   store_faulted owners_then store_then z heard_box tended_box change steady register_took owners_took store_took =
       let all = handed g o st Stands Step laws register_is register_heard register_heard owners_are owners_then store_is store_then x y z letters box heard_box tended_box tended_box tended_box clocks machines who input change None None c tree
       stands up steady comes register_took owners_took store_took none_offered in (
@@ -165,6 +166,7 @@ module _ {G O S T : Type 0} (g : register.Ghosts G) (o : owners.Ghosts O) (st : 
             (λ letter there. kept_by IsOwners letters heard_box tended_box owners_took.sent letter (kept_by IsRegisters letters box heard_box register_took.sent letter there)),
         all.3,
         all.4,
+        record { slots = all.5.slots; doubts = all.5.doubts },
       )
     where
       none_offered : Offered g register_heard register_heard z who (option_or change None) None tended_box tended_box

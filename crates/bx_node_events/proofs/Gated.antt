@@ -10,6 +10,7 @@ use Rattle.bx_facts.specs.declared.store.Store as store
 use Rattle.bx_facts.specs.Chains.{last}
 use Rattle.bx_facts.specs.Writes.{Sent, WritesIn}
 use Rattle.bx_facts.proofs.Lists.{front_or_behind}
+use Rattle.bx_node_events.specs.Works.{LeavesWorks}
 use Rattle.bx_node_events.proofs.Acting as acting
 use Rattle.bx_node_events.proofs.Acting.{IsChanged, IsLive, IsOwn, Outcome, course_then, machine_then}
 use Rattle.bx_node_events.proofs.Homing as homing
@@ -220,7 +221,8 @@ module _ {G O S T : Type 0} (g : register.Ghosts G) (o : owners.Ghosts O) (st : 
     -- Its gate is acknowledged: the tree takes the record's step, and the homes of its blocks are sent.
     pub gate_lands : (next : T) × StepOf Stands Step (act_of call point) tree next
         × ((course : Course) × (course.register.chain ≡ c.register.chain) × NodesStand g o st Stands Step register_is owners_are new x then_letters clocks later course next
-        × ((slot : ℕ) (one : Logged) → Contains (course.logs slot) one → Contains (c.logs slot) one ⊎ ((one.head.call ≡ number_of call) × (point.call ≡ number_of call))))
+        × ((slot : ℕ) (one : Logged) → Contains (course.logs slot) one → Contains (c.logs slot) one ⊎ ((one.head.call ≡ number_of call) × (point.call ≡ number_of call)))
+        × LeavesWorks (Some session) c course)
     gate_lands = (
       acked.0,
       subst (λ (act : Act). StepOf Stands Step act tree acked.0) doubt.2.act_is acked.1,
@@ -241,8 +243,12 @@ module _ {G O S T : Type 0} (g : register.Ghosts G) (o : owners.Ghosts O) (st : 
               away_then,
             )),
         logged,
+        record { slots = left.slots; doubts = left.doubts },
       ),
     )
+      where
+        left : LeavesWorks (Some session) c (course_then c row.slot gate_to)
+        left = acting.leaves_works g o st Stands Step register_is owners_are old x letters clocks machines later c tree acked.0 node session row before gate_to stands live changed own
 
   -- ---- homes
 
@@ -295,7 +301,7 @@ module _ {G O S T : Type 0} (g : register.Ghosts G) (o : owners.Ghosts O) (st : 
 
     -- Its blocks are home, and gate 0 is sent, closed.
     pub homes_land : write.runs ≡ (writes before.log works.Closes).1
-        → (course : Course) × (course.register.chain ≡ c.register.chain) × NodesStand g o st Stands Step register_is owners_are new x then_letters clocks later course tree × (course.logs ≡ c.logs)
+        → (course : Course) × (course.register.chain ≡ c.register.chain) × NodesStand g o st Stands Step register_is owners_are new x then_letters clocks later course tree × (course.logs ≡ c.logs) × LeavesWorks (Some session) c course
     homes_land runs = landed.next_sends g o st Stands Step register_is owners_are old x letters clocks machines c tree node session row before stands live none_out none_sent later new then_letters write sending home_to tree changed home_own
         (acting.shown_still g o st Stands Step register_is owners_are old x letters clocks machines later c tree tree node session row before home_to stands live changed home_own (course_then c row.slot home_to) tree same
         (homes_at g o st Stands Step register_is owners_are old x known c tree session row stands.at live.allowed

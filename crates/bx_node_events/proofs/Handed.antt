@@ -20,6 +20,7 @@ use Rattle.bx_facts.proofs.Following.{none_new}
 use Rattle.bx_global.specs.declared.change.Change.{Change}
 use Rattle.bx_global.specs.declared.change.Change.TheVariants.{Claim, Close, Expire, Open, Renew, Shift, Take}
 use Rattle.bx_global.specs.declared.state.GlobalState.{GlobalState}
+use Rattle.bx_node_events.specs.Works.{KeepsWorks}
 use Rattle.bx_node_events.proofs.Clauses.{owners_taken, store_taken}
 use Rattle.bx_node_events.proofs.Decided.{lettered}
 use Rattle.bx_node_events.proofs.Handing.{not_owners, not_registers}
@@ -152,7 +153,7 @@ module _ {G O S T : Type 0} (g : register.Ghosts G) (o : owners.Ghosts O) (st : 
     register_last : g.keeps register_then z (record c.register { letters = letters ++ last_box; proposed = with_change proposal c.register.proposed })
     register_last = offered.keeps (record c.register { letters = letters }) register_served (at.pasts.down who ∙ up)
 
-    pub finished : (later : Course) × (later.register.chain ≡ c.register.chain) × NodesStand g o st Stands Step register_then owners_then store_then z (letters ++ last_box) (heard_clocks clocks input) machines later tree × (later.logs ≡ c.logs)
+    pub finished : (later : Course) × (later.register.chain ≡ c.register.chain) × NodesStand g o st Stands Step register_then owners_then store_then z (letters ++ last_box) (heard_clocks clocks input) machines later tree × (later.logs ≡ c.logs) × KeepsWorks (lettered c (letters ++ heard_box)) later
     finished = taken.takes g o st Stands Step register_heard register_then owners_are owners_then store_is store_then y z (letters ++ heard_box) (letters ++ last_box) clocks machines (lettered c (letters ++ heard_box)) tree
         who input change shift proposal at about given
         (record { each = λ s there. laws.allowed register_heard y (record c.register { letters = letters ++ heard_box }) s register_keeps there })
@@ -188,7 +189,7 @@ module _ {G O S T : Type 0} (g : register.Ghosts G) (o : owners.Ghosts O) (st : 
       by Synced there = tt
 
   pub handed : (later : Course) × GrowsBy c.register.proposed c.register.chain later.register.chain × NodesStand g o st Stands Step register_then owners_then store_then z (letters ++ last_box) (heard_clocks clocks input) machines later tree × (later.logs ≡ c.logs)
-      × IsLast (g.knows register_then who) c.register.chain later.register.chain
+      × IsLast (g.knows register_then who) c.register.chain later.register.chain × KeepsWorks c later
   handed =
       let heard = registered g o st Stands Step laws register_is register_heard owners_are store_is x y letters box heard_box clocks machines who input c tree stands up comes register_took in
       let but = heard.2 in
@@ -201,4 +202,5 @@ module _ {G O S T : Type 0} (g : register.Ghosts G) (o : owners.Ghosts O) (st : 
         all.2,
         all.3 ∙ heard.3.logs,
         ⊎_elim (λ same. inl (all.1 ∙ same)) (λ known. inr (offered.knows who ∙ known ∙ ap (λ (chain : Chain). last chain) (sym all.1))) heard.4,
+        record { slots = all.4.slots ∙ heard.3.slots; doubts = all.4.doubts ∙ heard.3.doubts },
       )

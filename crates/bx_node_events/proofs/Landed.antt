@@ -1,11 +1,12 @@
 -- What a node's log wrote is acknowledged, and the write of its next work is sent: the nodes stand.
-use Rattle.std.proofs.Common.{◌≡◌, ◌≢◌, ◌∙◌, inl, inr, ℕ, ◌+◌, ◌<◌, Bool, true, false, List, [], ◌∷◌, length, Contains, Option, None, IsSomeAnd, refl, sym, ap, subst, arith}
+use Rattle.std.proofs.Common.{◌≡◌, ◌≢◌, ◌∙◌, inl, inr, ℕ, ◌+◌, ◌<◌, Bool, true, false, List, [], ◌∷◌, length, Contains, Option, Some, None, IsSomeAnd, refl, sym, ap, subst, arith}
 use Rattle.bx_base.specs.declared.names.Point.{Point}
 use Rattle.bx_disk.specs.Disks.{Disks, Image}
 use Rattle.bx_facts.specs.declared.register.Register as register
 use Rattle.bx_facts.specs.declared.store.Store as store
 use Rattle.bx_facts.specs.Chains.{LivesIn, last}
 use Rattle.bx_facts.specs.Writes.{Sent, WritesIn}
+use Rattle.bx_node_events.specs.Works.{LeavesWorks}
 use Rattle.bx_node_events.proofs.Acting as acting
 use Rattle.bx_node_events.proofs.Acting.{IsChanged, IsLive, IsOwn, Outcome, course_then, machine_then}
 use Rattle.bx_node_events.proofs.Working as working
@@ -115,7 +116,7 @@ module _ {G O S T : Type 0} (g : register.Ghosts G) (o : owners.Ghosts O) (st : 
 
   abbrev pub Stood : S → List Letter → List MachineView → T → Logs → Type 0
   Stood new then_letters later next logs =
-      (course : Course) × (course.register.chain ≡ c.register.chain) × NodesStand g o st Stands Step register_is owners_are new x then_letters clocks later course next × (course.logs ≡ logs)
+      (course : Course) × (course.register.chain ≡ c.register.chain) × NodesStand g o st Stands Step register_is owners_are new x then_letters clocks later course next × (course.logs ≡ logs) × LeavesWorks (Some session) c course
 
   abbrev known_then : List MachineView → Known
   known_then later = known_of g o st Stands Step register_is owners_are old x letters clocks later
@@ -136,10 +137,14 @@ module _ {G O S T : Type 0} (g : register.Ghosts G) (o : owners.Ghosts O) (st : 
           (λ handed. working.of_work g o st Stands Step register_is owners_are old x (known_then later) (course_then c row.slot to) next session row to.log write at live.allowed live.is_row live.lives own.is_slot own.device own.count here runs new then_letters node handed)
           none_out none_sent (λ flying. work (flying (writes to.log to.log.work).1 runs)),
       refl,
+      record { slots = left.slots; doubts = left.doubts },
     )
       where
         here : (with_slot c.slots row.slot to.slot row.slot).activity ≡ OfLog to.log.work
         here = ap (λ (l : Slot). l.activity) (slot_here c.slots row.slot to.slot) ∙ doing
+
+        left : LeavesWorks (Some session) c (course_then c row.slot to)
+        left = acting.leaves_works g o st Stands Step register_is owners_are old x letters clocks machines later c tree next node session row before to stands live changed own
 
     -- ---- a body
 
@@ -272,6 +277,7 @@ module _ {G O S T : Type 0} (g : register.Ghosts G) (o : owners.Ghosts O) (st : 
           (ack works.Shuts (λ e. cc) is work.1 work.2 work.3)))
           (refl, ap (λ (l : Slot). l.activity) (slot_here c.slots row.slot others_to.slot), none, none_out, work.4, λ block. work.5 block ∙ sym (ap (λ (l : List Logged). newest_in l block) none)),
       refl,
+      acting.leaves_works g o st Stands Step register_is owners_are old x letters clocks machines later c tree tree node session row before others_to stands live changed own,
     )
       where
         work : IsAtWork (st.made old).devices (st.made old).areas Sure Before node session row.slot before words.Closes

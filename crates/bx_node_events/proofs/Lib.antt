@@ -25,3 +25,4 @@ pub mod Taken
 pub mod Unlogged
 pub mod Wanted
 pub mod Working
+pub mod Works

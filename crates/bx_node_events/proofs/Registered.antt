@@ -49,9 +49,10 @@ pub record SameVolume (old new : Course) : Type 0 where
   pub logs : new.logs ≡ old.logs
   pub slots : new.slots ≡ old.slots
   pub truth : new.truth ≡ old.truth
+  pub doubts : new.doubts ≡ old.doubts
 
 same_volume : (c : Course) → SameVolume c c
-same_volume c = record { before = refl; logs = refl; slots = refl; truth = refl }
+same_volume c = record { before = refl; logs = refl; slots = refl; truth = refl; doubts = refl }
 
 -- What a register's clauses say of an input that it took.
 pub record RegisterTook {G : Type 0} (g : register.Ghosts G) (old new : G) (x y : Disks) (who : Actor) (input : Input) (box box_then : List Letter) : Type 0 where
@@ -197,7 +198,7 @@ module _ {G O S T : Type 0} (g : register.Ghosts G) (o : owners.Ghosts O) (st : 
   registered = ⊎_elim
       (λ same. (c, inl refl, still same, same_volume c, inl refl))
       (λ (one : (decision : Change) × Contains c.register.proposed decision × IsLegal (last c.register.chain) decision × (decides.chain ≡ grown c.register.chain decision)).
-      (grown_course c one.0, inr (one.0, one.1, one.2, refl), more one.0 one.1 one.2 one.3, record { before = refl; logs = refl; slots = refl; truth = refl }, told_of one.0 one.3))
+      (grown_course c one.0, inr (one.0, one.1, one.2, refl), more one.0 one.1 one.2 one.3, record { before = refl; logs = refl; slots = refl; truth = refl; doubts = refl }, told_of one.0 one.3))
       decides.grows
     where
       told_of : (decision : Change) → decides.chain ≡ grown c.register.chain decision → IsLast (g.knows register_heard who) c.register.chain (grown c.register.chain decision)

@@ -16,6 +16,7 @@ use Rattle.bx_facts.specs.Writes.{Asked, GoesOn, IsOnly, StorePast, store_restar
 use Rattle.bx_facts.proofs.Following.{none_new}
 use Rattle.bx_facts.proofs.Machines.{elsewhere, here}
 use Rattle.bx_global.specs.declared.state.GlobalState.{GlobalState}
+use Rattle.bx_node_events.specs.Works.{KeepsWorks}
 use Rattle.bx_node_events.proofs.Passing as passing
 use Rattle.bx_node_events.proofs.Registered.{HandedLaws, registers_not_owners, registers_not_stores, same_lengths, same_member_lengths}
 use Rattle.bx_node_events.proofs.Stopping.{node_or_none, same_number}
@@ -221,5 +222,5 @@ module _ {G O S T : Type 0} (g : register.Ghosts G) (o : owners.Ghosts O) (st : 
       let e = same_knew node was.1 in omega (arith, low, same, e))
 
   -- The nodes stand then.
-  pub starts : (later : Course) × (later.register.chain ≡ c.register.chain) × (later.logs ≡ c.logs) × NodesStand g o st Stands Step register_then owners_then store_then z (letters ++ box_then) clocks_then machines later tree
-  starts = (course_then, refl, refl, stand_then)
+  pub starts : (later : Course) × (later.register.chain ≡ c.register.chain) × (later.logs ≡ c.logs) × NodesStand g o st Stands Step register_then owners_then store_then z (letters ++ box_then) clocks_then machines later tree × KeepsWorks c later
+  starts = (course_then, refl, refl, stand_then, record { slots = refl; doubts = refl })

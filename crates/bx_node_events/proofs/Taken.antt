@@ -16,6 +16,7 @@ use Rattle.bx_facts.specs.Pasts.{MayTake}
 use Rattle.bx_facts.specs.Writes.{Asked, IsOnly, Sent, StorePast, WritesTo}
 use Rattle.bx_global.specs.declared.change.Change.{Change}
 use Rattle.bx_global.specs.declared.state.GlobalState.{GlobalState}
+use Rattle.bx_node_events.specs.Works.{KeepsWorks}
 use Rattle.bx_node_events.proofs.Hears as hearing
 use Rattle.bx_node_machines.specs.Machines.{AreAbout, MachineView}
 use Rattle.bx_node_machines.specs.Nodes.{IsOfNode, NodesStand, known_of, scene_of}
@@ -178,7 +179,7 @@ module _ {G O S T : Type 0} (g : register.Ghosts G) (o : owners.Ghosts O) (st : 
   holds = takes_owners.keeps may_o
 
   -- The nodes stand.
-  pub takes : (course : Course) × (course.register.chain ≡ c.register.chain) × NodesStand g o st Stands Step register_then owners_then store_then z then_letters (heard_clocks clocks input) machines course tree × (course.logs ≡ c.logs)
+  pub takes : (course : Course) × (course.register.chain ≡ c.register.chain) × NodesStand g o st Stands Step register_then owners_then store_then z then_letters (heard_clocks clocks input) machines course tree × (course.logs ≡ c.logs) × KeepsWorks c course
   takes = (
     hearing.then_is (loose g) o st Stands Step register_heard register_then owners_are owners_then store_is store_then y z heard_letters then_letters clocks machines c tree who (g.knows register_heard who) input owners_change store_change proposal holds.holding at about given allowed legal up place (at.parts.store_knew who),
     refl,
@@ -193,4 +194,5 @@ module _ {G O S T : Type 0} (g : register.Ghosts G) (o : owners.Ghosts O) (st : 
         lives alone
         (λ other one own differ. let low = told other one own differ in let e = ap (λ (s : GlobalState). s.index) (same_knows (Node other)) in omega (arith, low, e)) (let e = ap (λ (one : GlobalState). one.index) (same_knows who) in omega (arith, e))),
     refl,
+    record { slots = refl; doubts = refl },
   )

@@ -54,8 +54,8 @@ module _ {G O S E T : Type 0} (g : register.Ghosts G) (st : store.Ghosts S) (e :
       here = let now = which (λ now. AnswersCalls moment its.0 now said) (slice_get new.machines.items node) (turn.answers its.0 its.1) in was_there AreApart (slice_get new.machines.items node) now.0 now.1 now.2.apart
 
   -- And the cluster stands.
-  pub turn_stands : (o : owners.Ghosts O) (moment node : ℕ) (new : Nodes G O S E T) (said : List Said) → IsTurn moment node old.nodes.machines.items new.machines.items said → node < old.count → (x : Disks) (tree : T) (letters : List Letter) (course : Course)
-      → AreTold old.latest old.nodes.machines.items course.logs → Turned (e.step old.nodes.engine) (Stand g o st e new x letters opening_clocks) course tree said
+  pub turn_stands : {its_own : Option ℕ} (o : owners.Ghosts O) (moment node : ℕ) (new : Nodes G O S E T) (said : List Said) → IsTurn moment node old.nodes.machines.items new.machines.items said → node < old.count → (x : Disks) (tree : T) (letters : List Letter) (course : Course)
+      → AreTold old.latest old.nodes.machines.items course.logs → Turned its_own (e.step old.nodes.engine) (Stand g o st e new x letters opening_clocks) course tree said
       → Rounded e old.nodes.engine (Standing g o st e (record old { nodes = new }) x) tree said
   turn_stands o moment node new said turn less x tree letters course told turned = record {
     next = turned.next;
@@ -72,8 +72,8 @@ module _ {G O S E T : Type 0} (g : register.Ghosts G) (st : store.Ghosts S) (e :
       its = there_is old.nodes.machines.items node (omega (arith, less, ready.counted))
 
   -- .. with the area that a tidy cleaned.
-  pub turn_clean : (o : owners.Ghosts O) (moment node : ℕ) (new : Nodes G O S E T) (said : List Said) → IsTurn moment node old.nodes.machines.items new.machines.items said → node < old.count → (x : Disks) (tree : T) (letters : List Letter) (course : Course)
-      → AreTold old.latest old.nodes.machines.items course.logs → (turned : Turned (e.step old.nodes.engine) (Stand g o st e new x letters opening_clocks) course tree said)
+  pub turn_clean : {its_own : Option ℕ} (o : owners.Ghosts O) (moment node : ℕ) (new : Nodes G O S E T) (said : List Said) → IsTurn moment node old.nodes.machines.items new.machines.items said → node < old.count → (x : Disks) (tree : T) (letters : List Letter) (course : Course)
+      → AreTold old.latest old.nodes.machines.items course.logs → (turned : Turned its_own (e.step old.nodes.engine) (Stand g o st e new x letters opening_clocks) course tree said)
       → OfBoth old.nodes new node (λ before after. CleansArea (e.is_clean old.nodes.engine turned.later.truth) (st.made old.nodes.store).areas before.tidy after.tidy)
       → ((other : ℕ) → o.own new.owners other ≡ o.own old.nodes.owners other) → OfBoth old.nodes new node (TidyGoes (IsSome (first_of (o.asks old.nodes.owners node)))) → StandsClean g o st e old (record old { nodes = new }) node x
   turn_clean o moment node new said turn less x tree letters course told turned clean own tidies = record {

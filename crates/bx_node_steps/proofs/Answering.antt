@@ -4,7 +4,8 @@ use Rattle.std.specs.Prelude.{option_map, option_to_list}
 use Rattle.std.proofs.lemmas.List.Elements.{Contains-append_cases, Contains-append_left, Contains-append_right}
 use Rattle.bx_base.specs.declared.names.Point.{Point}
 use Rattle.bx_facts.proofs.Lists.{behind, front, front_or_behind, nothing}
-use Rattle.bx_node_steps.specs.Calls.{Acting, ActsAt, Answers, AnswersCalls, AreApart, AreInOrder, AreToOthers, CallOf, IsAmong, IsAnswered, IsThat, WaitsAt, acting_of, acting_said, call_of, call_written, point_in, under_way}
+use Rattle.bx_node_steps.proofs.Acting.{acts_over, acts_same, acts_sent, acts_unwritten}
+use Rattle.bx_node_steps.specs.Calls.{Acting, ActsAt, ActsOn, Answers, AnswersCalls, AreApart, AreInOrder, AreToOthers, CallOf, IsAmong, IsAnswered, IsOpening, IsThat, WaitsAt, acting_of, acting_said, call_of, call_written, is_opening, point_in, under_way}
 use Rattle.bx_node_steps.specs.Logging.{Closed, FitsStage, IsNumbered, LogGoes, Rests, SendsClosing, SendsGate, SendsHomes, SendsShut, said_of}
 use Rattle.bx_node_steps.specs.declared.machine.Machine.{Machine}
 use Rattle.bx_node_steps.specs.declared.machine.Stage.{Stage}
@@ -227,13 +228,19 @@ apart_at machine calls written calls_are written_is order other = record {
 same_waits : (calls : List Waiting) (written : Option Waiting) (call : CallOf) → ((IsAmong calls call ⊎ IsThat written call) → (IsAmong calls call ⊎ IsThat written call)) × ((IsAmong calls call ⊎ IsThat written call) → (IsAmong calls call ⊎ IsThat written call))
 same_waits calls written call = ((λ waits. waits), (λ waits. waits))
 
--- A node of which neither the calls nor the record that is written change.
-pub same_calls : (moment : ℕ) (old new : Machine) → new.calls.items ≡ old.calls.items → call_written new.stage ≡ call_written old.stage → under_way new ≡ under_way old → IsNumberedAt old → AreApart old → AnswersCalls moment old new []
-same_calls moment old new calls written point numbered apart = record {
+-- A node of which neither the calls nor the record that is written change, where that is told of those that may act.
+pub same_as : (moment : ℕ) (old new : Machine) → new.calls.items ≡ old.calls.items → call_written new.stage ≡ call_written old.stage → under_way new ≡ under_way old → ActsOn old new [] → IsNumberedAt old → AreApart old → AnswersCalls moment old new []
+same_as moment old new calls written point acts numbered apart = record {
   answers = at_machines moment old new old.calls.items old.calls.items (call_written old.stage) (call_written old.stage) (under_way old) (under_way old) [] refl refl refl calls written point
       (still moment _ _ (same_waits old.calls.items (call_written old.stage)) (under_way old) (waits_written old.calls.items (call_written old.stage) (point_in old.log.work) numbered));
+  acts = acts;
   apart = apart_at new old.calls.items (call_written old.stage) calls written apart.order apart.other;
 }
+
+-- .. nor what its log writes
+pub same_calls : (moment : ℕ) (old new : Machine) → new.calls.items ≡ old.calls.items → call_written new.stage ≡ call_written old.stage → under_way new ≡ under_way old → is_opening new.log.work ≡ is_opening old.log.work → IsNumberedAt old → AreApart old
+    → AnswersCalls moment old new []
+same_calls moment old new calls written point gate numbered apart = same_as moment old new calls written point (acts_same old new calls written gate) numbered apart
 
 -- ---- the log goes on
 
@@ -264,10 +271,11 @@ module _ (moment : ℕ) (calls : List Waiting) (call : Waiting) (reply : List �
 
 pub log_answers : (moment areas : ℕ) (old new : Machine) (runs : Option KindAndRuns) (said : Option Said) → FitsStage areas old.log old.stage → AreApart old → LogGoes old new runs said → AnswersCalls moment old new (option_to_list said)
 log_answers moment areas old new runs said fits apart (Rests stage now) =
-    same_calls moment old new (ap (λ (m : Machine). m.calls.items) now) (ap (λ (m : Machine). call_written m.stage) now) (ap under_way now) (fits_numbered areas old fits) apart
+    same_calls moment old new (ap (λ (m : Machine). m.calls.items) now) (ap (λ (m : Machine). call_written m.stage) now) (ap under_way now) (ap (λ (m : Machine). is_opening m.log.work) now) (fits_numbered areas old fits) apart
 log_answers moment areas old new runs said fits apart (SendsGate pending text point stage work now) =
-    same_calls moment old new (ap (λ (m : Machine). m.calls.items) now) (ap (λ (m : Machine). call_written m.stage) now)
-    (ap under_way now ∙ ap (λ (w : Work). acting_of (call_written old.stage) (point_in w)) (sym work)) (fits_numbered areas old fits) apart
+    same_as moment old new (ap (λ (m : Machine). m.calls.items) now) (ap (λ (m : Machine). call_written m.stage) now)
+    (ap under_way now ∙ ap (λ (w : Work). acting_of (call_written old.stage) (point_in w)) (sym work))
+    (acts_sent old new (ap (λ (m : Machine). m.calls.items) now) (ap (λ (m : Machine). call_written m.stage) now) (ap is_opening work) (ap (λ (m : Machine). is_opening m.log.work) now)) (fits_numbered areas old fits) apart
 log_answers moment areas old new runs said fits apart (SendsHomes pending point stage work now volume commits homes) = by pending.call refl
   where
     written : call_written old.stage ≡ call_written (stages.Records pending)
@@ -279,25 +287,39 @@ log_answers moment areas old new runs said fits apart (SendsHomes pending point 
     under : (call : Option Waiting) → call_written old.stage ≡ call → under_way old ≡ acting_of call (Some point)
     under call is = ap (λ (w : Option Waiting). acting_of w (point_in old.log.work)) is ∙ ap (λ (w : Work). acting_of call (point_in w)) work
 
+    -- what is answered is the call whose gate was sent
+    opened : (call : Waiting) (reply : List ℕ) → call_written old.stage ≡ Some call → point.call ≡ call.number → (number : ℕ) → IsAnswered (record { point = point; client = call.client; call = call.message; reply = reply } ∷ []) number → IsOpening old number
+    opened call reply some its_number number is = record {
+      call = call;
+      is = some;
+      same = sym its_number ∙ ap (λ (s : Said). s.point.call) (⊎_elim (λ same. same) (λ none. absurd (nothing is.one none)) (front_or_behind _ [] is.one is.there)) ∙ is.same;
+      gate = ap is_opening work;
+    }
+
     by : (call : Option (Waiting × List ℕ)) → pending.call ≡ call → AnswersCalls moment old new (option_to_list (said_of pending.call point))
     by None is =
         let none : call_written old.stage ≡ None = written ∙ ap first is in
         subst (λ (c : Option (Waiting × List ℕ)). AnswersCalls moment old new (option_to_list (said_of c point))) (sym is)
-        (same_calls moment old new (ap (λ (m : Machine). m.calls.items) now) (ap (λ (m : Machine). call_written m.stage) now ∙ sym none) (ap under_way now ∙ sym (under None none)) (fits_numbered areas old fits) apart)
+        (same_as moment old new (ap (λ (m : Machine). m.calls.items) now) (ap (λ (m : Machine). call_written m.stage) now ∙ sym none) (ap under_way now ∙ sym (under None none))
+        (acts_unwritten old new (ap (λ (m : Machine). m.calls.items) now) (ap (λ (m : Machine). call_written m.stage) now)) (fits_numbered areas old fits) apart)
     by (Some (call, reply)) is =
         let some : call_written old.stage ≡ Some call = written ∙ ap first is in
         subst (λ (c : Option (Waiting × List ℕ)). AnswersCalls moment old new (option_to_list (said_of c point))) (sym is)
         (record {
           answers = at_machines moment old new old.calls.items old.calls.items (Some call) None (Some (record { call = call_of call; point = point })) None _ refl some (under (Some call) some) (ap (λ (m : Machine). m.calls.items) now) (ap (λ (m : Machine). call_written m.stage) now) (ap under_way now)
               (acknowledged moment old.calls.items call reply point (subst (λ (c : Option (Waiting × List ℕ)). IsNumbered (works.Opens point) c) is numbered) (subst (λ (w : Option Waiting). IsOther old.calls.items w) some apart.other));
+          acts = acts_over old new (ap (λ (m : Machine). m.calls.items) now) _ (ap (λ (m : Machine). call_written m.stage) now) (opened call reply some (subst (λ (c : Option (Waiting × List ℕ)). IsNumbered (works.Opens point) c) is numbered));
           apart = apart_at new old.calls.items None (ap (λ (m : Machine). m.calls.items) now) (ap (λ (m : Machine). call_written m.stage) now) apart.order tt;
         })
 log_answers moment areas old new runs said fits apart (SendsClosing stage now volume settles) =
-    same_calls moment old new (ap (λ (m : Machine). m.calls.items) now) (ap (λ (m : Machine). call_written m.stage) now ∙ ap call_written (sym stage))
-    (ap under_way now ∙ ap (λ (s : Stage). acting_of (call_written s) (point_in old.log.work)) (sym stage)) (fits_numbered areas old fits) apart
+    same_as moment old new (ap (λ (m : Machine). m.calls.items) now) (ap (λ (m : Machine). call_written m.stage) now ∙ ap call_written (sym stage))
+    (ap under_way now ∙ ap (λ (s : Stage). acting_of (call_written s) (point_in old.log.work)) (sym stage))
+    (acts_unwritten old new (ap (λ (m : Machine). m.calls.items) now) (ap (λ (m : Machine). call_written m.stage) now)) (fits_numbered areas old fits) apart
 log_answers moment areas old new runs said fits apart (SendsShut stage work now) =
-    same_calls moment old new (ap (λ (m : Machine). m.calls.items) now) (ap (λ (m : Machine). call_written m.stage) now)
-    (ap under_way now ∙ ap (λ (s : Stage). acting_of (call_written s) (point_in works.Shuts)) stage ∙ ap (λ (s : Stage). acting_of (call_written s) (point_in old.log.work)) (sym stage)) (fits_numbered areas old fits) apart
+    same_as moment old new (ap (λ (m : Machine). m.calls.items) now) (ap (λ (m : Machine). call_written m.stage) now)
+    (ap under_way now ∙ ap (λ (s : Stage). acting_of (call_written s) (point_in works.Shuts)) stage ∙ ap (λ (s : Stage). acting_of (call_written s) (point_in old.log.work)) (sym stage))
+    (acts_unwritten old new (ap (λ (m : Machine). m.calls.items) now) (ap (λ (m : Machine). call_written m.stage) now ∙ ap call_written stage)) (fits_numbered areas old fits) apart
 log_answers moment areas old new runs said fits apart (Closed stage work now) =
-    same_calls moment old new (ap (λ (m : Machine). m.calls.items) now) (ap (λ (m : Machine). call_written m.stage) now ∙ ap call_written (sym stage))
-    (ap under_way now ∙ ap (λ (s : Stage). acting_of (call_written s) (point_in old.log.work)) (sym stage)) (fits_numbered areas old fits) apart
+    same_as moment old new (ap (λ (m : Machine). m.calls.items) now) (ap (λ (m : Machine). call_written m.stage) now ∙ ap call_written (sym stage))
+    (ap under_way now ∙ ap (λ (s : Stage). acting_of (call_written s) (point_in old.log.work)) (sym stage))
+    (acts_unwritten old new (ap (λ (m : Machine). m.calls.items) now) (ap (λ (m : Machine). call_written m.stage) now)) (fits_numbered areas old fits) apart

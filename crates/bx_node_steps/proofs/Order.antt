@@ -1,10 +1,10 @@
 -- The calls of a node stand in their order.
-use Rattle.std.proofs.Common.{◌≡◌, ◌≢◌, ◌⊎◌, ⊎_elim, inl, inr, ◌∙◌, ◌<◌, ◌≤◌, List, [], ◌∷◌, ◌++◌, Contains, Option, None, Some, IfSome, refl, sym, ap, subst, arith}
+use Rattle.std.proofs.Common.{◌≡◌, ◌≢◌, ◌⊎◌, ⊎_elim, inl, inr, ◌∙◌, ℕ, ◌<◌, ◌≤◌, false, List, [], ◌∷◌, ◌++◌, Contains, Option, None, Some, IfSome, refl, sym, ap, subst, arith}
 use Rattle.std.specs.Prelude.{slice_get}
 use Rattle.std.specs.List.{AllByRecursion}
 use Rattle.std.proofs.lemmas.List.Elements.{All-contains, All-from_recursion, Contains-append_cases, Contains-append_left, Contains-append_right}
 use Rattle.bx_facts.proofs.Lists.{behind, front, front_or_behind, nothing}
-use Rattle.bx_node_steps.specs.Calls.{AreInOrder, CallOf, IsAmong, call_of}
+use Rattle.bx_node_steps.specs.Calls.{AreInOrder, CallOf, IsAmong, MayAct, call_of}
 use Rattle.bx_node_steps.specs.Logging.{IsPutBack, WaitsOn}
 use Rattle.bx_node_tries.specs.declared.round.Waiting.{Waiting}
 
@@ -57,6 +57,13 @@ pub among_put : (call : Waiting) (old new : List Waiting) → IsPutBack call old
 among_put call old new put c is = subst (λ (l : List Waiting). IsAmong l c) (sym put.now)
     (⊎_elim (λ among. record { one = among.one; there = there_put call put.older put.younger among.one (subst (λ (l : List Waiting). Contains l among.one) put.was among.there); same = among.same })
     (λ same. record { one = call; there = Contains-append_right put.older (call ∷ put.younger) call (front call put.younger); same = same }) is)
+
+-- A call that may act then is one that might, or the one that was put back.
+pub may_put : (call : Waiting) (old new : List Waiting) → IsPutBack call old new → (number : ℕ) → MayAct new number → MayAct old number ⊎ ((call.number ≡ number) × (call.is_over ≡ false))
+may_put call old new put number may =
+    ⊎_elim (λ same. inr (ap (λ (w : Waiting). w.number) same ∙ may.same, ap (λ (w : Waiting). w.is_over) same ∙ may.still))
+    (λ there. inl (record { one = may.one; there = subst (λ (l : List Waiting). Contains l may.one) (sym put.was) there; same = may.same; still = may.still }))
+    (put_there call put.older put.younger may.one (subst (λ (l : List Waiting). Contains l may.one) put.now may.there))
 
 -- Those that wait still do once one is put back, or none.
 pub wait_still : (waits : Option Waiting) (old new : List Waiting) → WaitsOn waits old new → (one : Waiting) → Contains old one → Contains new one

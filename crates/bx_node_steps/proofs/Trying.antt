@@ -1,17 +1,17 @@
 -- Calls that are attempted, and the record that one begins.
-use Rattle.std.proofs.Common.{◌≡◌, ◌≢◌, ◌⊎◌, ◌∙◌, ⊎_elim, inl, inr, ℕ, ◌<◌, List, [], ◌∷◌, ◌++◌, Contains, Option, Some, None, IfSome, refl, sym, ap, subst, arith}
-use Rattle.std.specs.Prelude.{IsSomeAnd}
+use Rattle.std.proofs.Common.{◌≡◌, ◌≢◌, ◌⊎◌, ◌∙◌, ⊎_elim, inl, inr, ℕ, ◌<◌, Bool, false, true, List, [], ◌∷◌, ◌++◌, Contains, Option, Some, None, IfSome, refl, sym, ap, subst, arith}
+use Rattle.std.specs.Prelude.{◌&&◌, IsSomeAnd, nat_lt, not}
 use Rattle.std.proofs.lemmas.List.{append-nil}
 use Rattle.std.proofs.lemmas.List.Elements.{Contains-append_left, Contains-push, Contains-push_cases}
 use Rattle.bx_base.specs.declared.names.Point.{Point}
 use Rattle.bx_facts.proofs.Lists.{nothing}
-use Rattle.bx_node_steps.specs.Calls.{Acting, ActsAt, Answers, AreInOrder, AreToOthers, CallOf, IsAmong, IsAnswered, IsThat, acting_of, acting_said, call_of, call_written}
+use Rattle.bx_node_steps.specs.Calls.{Acting, ActsAt, Answers, AreInOrder, AreToOthers, CallOf, IsAmong, IsAnswered, IsThat, MayAct, acting_of, acting_said, call_of, call_written}
 use Rattle.bx_node_steps.specs.Logging.{IsPutBack, IsRecordingOf, WaitsOn}
 use Rattle.bx_node_steps.specs.declared.machine.Stage.TheVariants as stages
 use Rattle.bx_node_steps.specs.declared.recording.Recording.{Recording}
 use Rattle.bx_node_steps.proofs.Answering.{AnswersFrom, AreNumbered, IsOther, answers_on, begins_one, others_append, then_as}
-use Rattle.bx_node_steps.proofs.Order.{among_put, behind_all, order_front, order_last, put_among, put_in_order}
-use Rattle.bx_node_tries.specs.Tries.{AllGo, AreNone, Goes, IsAnswerTo}
+use Rattle.bx_node_steps.proofs.Order.{among_put, behind_all, may_put, order_front, order_last, put_among, put_in_order}
+use Rattle.bx_node_tries.specs.Tries.{AllGo, AreNone, Goes, IsAnswerTo, is_attempted}
 use Rattle.bx_node_tries.specs.Tries.AllGo.{MoreGo, NoneGo}
 use Rattle.bx_node_tries.specs.Tries.Goes.{Answered, Begins, Needs, Stays}
 use Rattle.bx_node_tries.specs.declared.round.Begun.{Begun}
@@ -25,7 +25,9 @@ use Rattle.bx_views.specs.declared.attempt.Attempt.TheVariants as attempts
 pub record Went (moment : ℕ) (calls waiting : List Waiting) (said : List Said) (begun : Option Begun) : Type 0 where
   pub waiting_from : (one : Waiting) → Contains waiting one → Contains calls one
   pub said_from : (answer : Said) → Contains said answer → (one : Waiting) × Contains calls one × IsAnswerTo moment one answer
+  pub said_still : (answer : Said) → Contains said answer → MayAct calls answer.point.call
   pub begun_from : IfSome begun (λ begins. Contains calls begins.call)
+  pub begun_still : IfSome begun (λ begins. begins.call.is_over ≡ false)
   pub each : (one : Waiting) → Contains calls one → (Contains waiting one ⊎ IsSomeAnd begun (λ begins. begins.call ≡ one)) ⊎ ((answer : Said) × Contains said answer × IsAnswerTo moment one answer)
   pub said_apart : (answer : Said) (one : Waiting) → Contains said answer → Contains waiting one → answer.point.call ≢ one.number
   pub begun_apart : IfSome begun (λ begins. (one : Waiting) → Contains waiting one → one.number ≢ begins.call.number)
@@ -37,7 +39,9 @@ none_went : (moment : ℕ) → Went moment [] [] [] None
 none_went moment = record {
   waiting_from = λ one there. there;
   said_from = λ answer there. absurd (nothing answer there);
+  said_still = λ answer there. absurd (nothing answer there);
   begun_from = tt;
+  begun_still = tt;
   each = λ one there. absurd (nothing one there);
   said_apart = λ answer one there has. absurd (nothing one has);
   begun_apart = tt;
@@ -56,6 +60,9 @@ module _ (moment : ℕ) (calls waiting : List Waiting) (said : List Said) (call 
     more : (one : Waiting) → Contains calls one → Contains (calls ++ call ∷ []) one
     more one there = Contains-append_left calls (call ∷ []) one there
 
+    may_more : (number : ℕ) → MayAct calls number → MayAct (calls ++ call ∷ []) number
+    may_more number may = record { one = may.one; there = more may.one may.there; same = may.same; still = may.still }
+
     said_below : (answer : Said) → Contains said answer → answer.point.call < call.number
     said_below answer there = let from = went.said_from answer there in let less = below from.0 from.1 in let same = from.2.number in omega (arith, less, same)
 
@@ -63,7 +70,9 @@ module _ (moment : ℕ) (calls waiting : List Waiting) (said : List Said) (call 
     stays = record {
       waiting_from = λ one there. ⊎_elim (λ old. more one (went.waiting_from one old)) (λ same. subst (Contains (calls ++ call ∷ [])) same (Contains-push calls call)) (Contains-push_cases waiting call one there);
       said_from = λ answer there. let from = went.said_from answer there in (from.0, more from.0 from.1, from.2);
+      said_still = λ answer there. may_more answer.point.call (went.said_still answer there);
       begun_from = if_begun begun _ _ (λ begins is there. more begins.call there) went.begun_from;
+      begun_still = went.begun_still;
       each = λ one there. ⊎_elim
           (λ old. ⊎_elim (λ on. ⊎_elim (λ waits. inl (inl (Contains-append_left waiting (call ∷ []) one waits))) (λ begins. inl (inr begins)) on) (λ answered. inr answered) (went.each one old))
           (λ same. inl (inl (subst (Contains (waiting ++ call ∷ [])) same (Contains-push waiting call)))) (Contains-push_cases calls call one there);
@@ -79,12 +88,15 @@ module _ (moment : ℕ) (calls waiting : List Waiting) (said : List Said) (call 
         apart None from is = tt
         apart (Some b) from is = λ one there. ⊎_elim (λ old. is one old) (λ same e. let less = below b.call from in let n : call.number ≡ one.number = ap (λ (w : Waiting). w.number) same in omega (arith, less, n, e)) (Contains-push_cases waiting call one there)
 
-    answers : (answer : Said) → IsAnswerTo moment call answer → Went moment (calls ++ call ∷ []) waiting (said ++ answer ∷ []) begun
-    answers answer is = record {
+    answers : (answer : Said) → IsAnswerTo moment call answer → call.is_over ≡ false → Went moment (calls ++ call ∷ []) waiting (said ++ answer ∷ []) begun
+    answers answer is not_over = record {
       waiting_from = λ one there. more one (went.waiting_from one there);
       said_from = λ other there. ⊎_elim (λ old. let from = went.said_from other old in (from.0, more from.0 from.1, from.2))
           (λ same. (call, Contains-push calls call, subst (IsAnswerTo moment call) same is)) (Contains-push_cases said answer other there);
+      said_still = λ other there. ⊎_elim (λ old. may_more other.point.call (went.said_still other old))
+          (λ same. record { one = call; there = Contains-push calls call; same = sym is.number ∙ ap (λ (s : Said). s.point.call) same; still = not_over }) (Contains-push_cases said answer other there);
       begun_from = if_begun begun _ _ (λ begins it there. more begins.call there) went.begun_from;
+      begun_still = went.begun_still;
       each = λ one there. ⊎_elim
           (λ old. ⊎_elim (λ on. inl on) (λ answered. inr (answered.0, Contains-append_left said (answer ∷ []) answered.0 answered.1, answered.2)) (went.each one old))
           (λ same. inr (answer, Contains-push said answer, subst (λ (w : Waiting). IsAnswerTo moment w answer) same is)) (Contains-push_cases calls call one there);
@@ -103,11 +115,13 @@ module _ (moment : ℕ) (calls waiting : List Waiting) (said : List Said) (call 
         apart (Some b) from it = λ other there. ⊎_elim (λ old. it other old)
             (λ same e. let less = below b.call from in let n : answer.point.call ≡ other.point.call = ap (λ (s : Said). s.point.call) same in let m = is.number in omega (arith, less, n, m, e)) (Contains-push_cases said answer other there)
 
-  begins_it : (begins : Begun) → begins.call ≡ call → Went moment calls waiting said None → Went moment (calls ++ call ∷ []) waiting said (Some begins)
-  begins_it begins is went = record {
+  begins_it : (begins : Begun) → begins.call ≡ call → call.is_over ≡ false → Went moment calls waiting said None → Went moment (calls ++ call ∷ []) waiting said (Some begins)
+  begins_it begins is not_over went = record {
     waiting_from = λ one there. more None went one (went.waiting_from one there);
     said_from = λ answer there. let from = went.said_from answer there in (from.0, more None went from.0 from.1, from.2);
+    said_still = λ answer there. may_more None went answer.point.call (went.said_still answer there);
     begun_from = subst (Contains (calls ++ call ∷ [])) (sym is) (Contains-push calls call);
+    begun_still = ap (λ (w : Waiting). w.is_over) is ∙ not_over;
     each = λ one there. ⊎_elim (λ old. ⊎_elim (λ on. ⊎_elim (λ waits. inl (inl waits)) (λ none. absurd none) on) (λ answered. inr answered) (went.each one old)) (λ same. inl (inr (is ∙ same))) (Contains-push_cases calls call one there);
     said_apart = went.said_apart;
     begun_apart = λ one there e. let less = below one (went.waiting_from one there) in let n : begins.call.number ≡ call.number = ap (λ (w : Waiting). w.number) is in omega (arith, less, n, e);
@@ -122,17 +136,25 @@ went_as moment calls waiting waiting_then said said_then begun begun_then same_w
     subst (λ (l : List Waiting). Went moment calls l said_then begun_then) (sym same_waiting)
     (subst (λ (l : List Said). Went moment calls waiting l begun_then) (sym same_said) (subst (λ (b : Option Begun). Went moment calls waiting said b) (sym same_begun) went))
 
+-- a call that is attempted isn't over
+not_over : (call : Waiting) → is_attempted call ≡ true → call.is_over ≡ false
+not_over call is = by call.is_over refl is
+  where
+    by : (b : Bool) → call.is_over ≡ b → (not b && nat_lt call.inners 200000) ≡ true → call.is_over ≡ false
+    by false same more = same
+    by true same more = cc
+
 one_goes : {newest : Option ℕ} (moment : ℕ) (calls : List Waiting) (call : Waiting) (old new : Round) → ((one : Waiting) → Contains calls one → one.number < call.number) → Went moment calls old.waiting.items old.said.items old.begun → Goes newest moment call old new
     → Went moment (calls ++ call ∷ []) new.waiting.items new.said.items new.begun
 one_goes moment calls call old new below went (Stays waits said begun needs) = went_as moment _ _ _ _ _ _ _ waits said begun (stays moment calls old.waiting.items old.said.items call below old.begun went)
 one_goes moment calls call old new below went (Needs wants waits said begun needs older) = went_as moment _ _ _ _ _ _ _ waits said begun (stays moment calls old.waiting.items old.said.items call below old.begun went)
-one_goes moment calls call old new below went (Answered answer is said waits begun needs older) = went_as moment _ _ _ _ _ _ _ waits said begun (answers moment calls old.waiting.items old.said.items call below old.begun went answer is)
-one_goes moment calls call old new below went (Begins none begun said waits needs older) = by new.begun refl begun
+one_goes moment calls call old new below went (Answered answer is said waits begun needs older attempted) = went_as moment _ _ _ _ _ _ _ waits said begun (answers moment calls old.waiting.items old.said.items call below old.begun went answer is (not_over call attempted))
+one_goes moment calls call old new below went (Begins none begun said waits needs older attempted) = by new.begun refl begun
   where
     by : (found : Option Begun) → new.begun ≡ found → IsSomeAnd found (λ begins. begins.call ≡ call) → Went moment (calls ++ call ∷ []) new.waiting.items new.said.items new.begun
     by None is wrong = absurd wrong
     by (Some begins) is same = went_as moment _ _ _ _ _ _ _ waits said is
-        (begins_it moment calls old.waiting.items old.said.items call below begins same (subst (λ (b : Option Begun). Went moment calls old.waiting.items old.said.items b) none went))
+        (begins_it moment calls old.waiting.items old.said.items call below begins same (not_over call attempted) (subst (λ (b : Option Begun). Went moment calls old.waiting.items old.said.items b) none went))
 
 pub all_went : {newest : Option ℕ} (moment : ℕ) (calls : List Waiting) (first round : Round) → AreNone first → AreInOrder calls → AllGo newest moment calls first round → Went moment calls round.waiting.items round.said.items round.begun
 all_went moment calls first round none order (NoneGo same) = went_as moment _ _ _ _ _ _ _ none.waiting none.said none.begun (none_went moment)
@@ -246,6 +268,8 @@ module _ (moment : ℕ) (calls waiting : List Waiting) (said : List Said) (begin
     pub answers : AnswersFrom moment calls None None later (call_written (stages.Records recording.pending)) (acting_of (call_written (stages.Records recording.pending)) (Some recording.point)) said
     pub order : AreInOrder later
     pub other : IsOther later (call_written (stages.Records recording.pending))
+    pub may : (number : ℕ) → MayAct later number → MayAct calls number
+    pub writes : (one : Waiting) → call_written (stages.Records recording.pending) ≡ Some one → MayAct calls one.number
 
   behind_it : (written : Option Waiting) (under : Option Acting) → ((call : CallOf) → ((IsAmong later call ⊎ IsThat written call) → StillWaits waiting None (Some begins) call) × (StillWaits waiting None (Some begins) call → IsAmong later call ⊎ IsThat written call))
       → IfSome under (λ acts. acts.point.moment ≡ moment) → IfSome under (λ acts. (IsAmong later acts.call ⊎ IsThat written acts.call) × (acts.point.call ≡ acts.call.number)) → AnswersFrom moment calls None None later written under said
@@ -257,6 +281,9 @@ module _ (moment : ℕ) (calls waiting : List Waiting) (said : List Said) (begin
   pub begun_by : (recording : Recording) → IsRecordingOf moment begins.call begins.attempt recording → WaitsOn recording.waits waiting later → Begun_by recording
   begun_by recording asks waits = by begins.attempt asks
     where
+      waited : (number : ℕ) → MayAct waiting number → MayAct calls number
+      waited number may = record { one = may.one; there = went.waiting_from may.one may.there; same = may.same; still = may.still }
+
       by : (attempt : Attempt) → IsRecordingOf moment begins.call attempt recording → Begun_by recording
       by (attempts.Need wants) is = absurd is
       by (attempts.Change draft done) is =
@@ -270,6 +297,8 @@ module _ (moment : ℕ) (calls waiting : List Waiting) (said : List Said) (begin
                 refl (inr refl, refl);
             order = subst AreInOrder (sym same) went.order;
             other = λ one there. went.begun_apart one (subst (λ (l : List Waiting). Contains l one) same there);
+            may = λ number may. waited number (subst (λ (l : List Waiting). MayAct l number) same may);
+            writes = λ one written. record { one = begins.call; there = went.begun_from; same = let e : begins.call ≡ one = cc in ap (λ (w : Waiting). w.number) e; still = went.begun_still };
           })
       by (attempts.Inner draft) (inners, counts, is) =
           let put : IsPutBack (record begins.call { inners = inners }) waiting later = subst (λ (r : Recording). WaitsOn r.waits waiting later) is waits in
@@ -283,5 +312,10 @@ module _ (moment : ℕ) (calls waiting : List Waiting) (said : List Said) (begin
                 tt tt;
             order = put_in_order (record begins.call { inners = inners }) waiting later put went.begun_apart went.order;
             other = tt;
+            may = λ number may. ⊎_elim
+                (λ old. waited number old)
+                (λ same. record { one = begins.call; there = went.begun_from; same = same.0; still = went.begun_still })
+                (may_put (record begins.call { inners = inners }) waiting later put number may);
+            writes = λ one written. cc;
           })
       by (attempts.Answer done) is = absurd is

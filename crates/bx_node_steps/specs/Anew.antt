@@ -1,6 +1,7 @@
 -- What becomes of a node whose session is another one than that under which it has what it has.
 use Rattle.std.specs.Prelude.{◌≡◌, ℕ, ◌||◌, Bool, false, true, List, [], Option, Some, None, option_map}
 use Rattle.bx_facts.specs.Chains.{number_in}
+pub use Rattle.bx_node_steps.specs.Calls.{is_opening}
 use Rattle.bx_node_steps.specs.Logging.{WaitsOn}
 use Rattle.bx_node_steps.specs.declared.machine.Fetch.{Fetch}
 use Rattle.bx_node_steps.specs.declared.machine.Fetch.TheVariants as fetches
@@ -12,21 +13,12 @@ use Rattle.bx_places.specs.Places.{log_device}
 use Rattle.bx_redo.specs.Steps.{closed_log}
 use Rattle.bx_redo.specs.View.{LogView}
 use Rattle.bx_redo.specs.declared.work.Work.{Work}
-use Rattle.bx_redo.specs.declared.work.Work.TheVariants as works
 use Rattle.bx_rows.specs.declared.session.SessionRow.{SessionRow}
 
 -- the log with which a session begins, by its row; without one, that of slot 0
 abbrev pub first_log : ℕ → Option SessionRow → LogView
 first_log devices None = closed_log 0 (log_device 0 devices)
 first_log devices (Some row) = closed_log row.slot (log_device row.slot devices)
-
--- whether the gate of a record may have been sent
-abbrev pub is_opening : Work → Bool
-is_opening works.Idle = false
-is_opening (works.Body text point) = false
-is_opening (works.Opens point) = true
-is_opening works.Closes = false
-is_opening works.Shuts = false
 
 -- The call of a record that isn't written on: it waits again; where the gate may have been sent nobody may say whether it acted, and it is over.
 abbrev pub left_over : Bool → Waiting × List ℕ → Waiting

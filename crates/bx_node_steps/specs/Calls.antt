@@ -1,5 +1,5 @@
 -- The calls that wait at a node, and what answers make of them.
-use Rattle.std.specs.Prelude.{◌≡◌, ◌≢◌, ◌⊎◌, ◌↔◌, ℕ, ◌<◌, List, [], ◌∷◌, Contains, Option, Some, None, IfSome, option_map}
+use Rattle.std.specs.Prelude.{◌≡◌, ◌≢◌, ◌⊎◌, ◌↔◌, ℕ, ◌<◌, Bool, false, true, List, [], ◌∷◌, Contains, Option, Some, None, IfSome, option_map}
 use Rattle.bx_base.specs.declared.names.Point.{Point}
 use Rattle.bx_node_tries.specs.declared.round.Said.{Said}
 use Rattle.bx_node_tries.specs.declared.round.Waiting.{Waiting}
@@ -108,12 +108,52 @@ pub record Answers (moment : ℕ) (Waited : CallOf → Type 0) (under : Option A
   pub begun : IfSome under_then (ActsAt moment under)
   pub waits : IfSome under_then (λ acts. Waits_then acts.call × (acts.point.call ≡ acts.call.number))
 
+-- ---- calls that may act yet, by their numbers
+
+-- whether the gate of a record may have been sent
+abbrev pub is_opening : Work → Bool
+is_opening works.Idle = false
+is_opening (works.Body text point) = false
+is_opening (works.Opens point) = true
+is_opening works.Closes = false
+is_opening works.Shuts = false
+
+-- one of these calls has a number, and isn't over
+pub record MayAct (calls : List Waiting) (number : ℕ) : Type 0 where
+  pub one : Waiting
+  pub there : Contains calls one
+  pub same : one.number ≡ number
+  pub still : one.is_over ≡ false
+
+-- the call of a record that is written has a number, and the record's gate may have been sent, or was not
+pub record IsWritten (opening : Bool) (machine : Machine) (number : ℕ) : Type 0 where
+  pub call : Waiting
+  pub is : call_written machine.stage ≡ Some call
+  pub same : call.number ≡ number
+  pub gate : is_opening machine.log.work ≡ opening
+
+-- The call with a number may act yet: it is to be attempted and isn't over, or its record is written, whose gate wasn't sent.
+abbrev pub IsToAct : Machine → ℕ → Type 0
+IsToAct machine number = MayAct machine.calls.items number ⊎ IsWritten false machine number
+
+-- the gate of its record may have been sent
+abbrev pub IsOpening : Machine → ℕ → Type 0
+IsOpening = IsWritten true
+
+-- Only a call that could act may act then, has its record's gate sent, or is answered; or the gate of its record may have been sent before.
+pub record ActsOn (old new : Machine) (said : List Said) : Type 0 where
+  pub to_act : (number : ℕ) → IsToAct new number → IsToAct old number
+  pub opening : (number : ℕ) → IsOpening new number → IsToAct old number ⊎ IsOpening old number
+  pub answered : (number : ℕ) → IsAnswered said number → IsToAct old number ⊎ IsOpening old number
+
 -- So a node answers calls at a moment, and those that wait then are apart.
 pub record AnswersCalls (moment : ℕ) (old new : Machine) (said : List Said) : Type 0 where
   pub answers : Answers moment (WaitsAt old) (under_way old) (WaitsAt new) (under_way new) said
+  pub acts : ActsOn old new said
   pub apart : AreApart new
 
 -- The same calls wait.
 pub record KeepsCalls (old new : Machine) : Type 0 where
   pub same : (call : CallOf) → WaitsAt new call ↔ WaitsAt old call
+  pub acts : ActsOn old new []
   pub apart : AreApart new

@@ -86,7 +86,7 @@ module _ {G O S T : Type 0} (g : register.Ghosts G) (o : owners.Ghosts O) (st : 
     (does : (truth : Truth) (tree : T) → IsTruth (held_in before.cache.kept) truth → Stands truth (hint_in before.cache.hinted) tree → Works Stands Step (act_of (replying recording.pending.call) recording.point) recording.pending.draft truth tree)
     (begins : Begins recording before after runs)
     (taken : IsTaken st old new node box box_then (record { session = session; until = until; runs = runs.1 })) (made_devices : before.cache.devices ≡ (st.made old).devices) (made_areas : before.cache.areas ≡ (st.made old).areas) where
-  pub sent_there : Turned Step (NodesStand g o st Stands Step register_is owners_are new x (letters ++ box_then) clocks (seen (slice_set items node after))) c tree []
+  pub sent_there : Turned (Some session) Step (NodesStand g o st Stands Step register_is owners_are new x (letters ++ box_then) clocks (seen (slice_set items node after))) c tree []
   sent_there =
       let row = stepping.row g o st Stands Step register_is owners_are old new x letters box box_then clocks items c tree node session until before after stands up own ends lives there mark none_out register_laws owners_laws store_laws in
       let goes = begins_at g o st Stands Step register_is owners_are old x (letters ++ box) clocks (seen items) (seen (slice_set items node after))
@@ -108,7 +108,7 @@ module _ {G O S T : Type 0} (g : register.Ghosts G) (o : owners.Ghosts O) (st : 
       of_call
       does
       (ap (λ (r : KindAndRuns). r.1) begins.asks) in
-      record { later = goes.0; next = tree; leads = refl; chain = goes.1; logged = told_as c.logs c.logs goes.0.logs [] goes.3 (λ slot one has. inl has); stands = goes.2 }
+      record { later = goes.0; next = tree; leads = refl; chain = goes.1; logged = told_as c.logs c.logs goes.0.logs [] goes.3 (λ slot one has. inl has); works = record { slots = goes.4.slots; doubts = goes.4.doubts }; stands = goes.2 }
     where
       logged : IsLogged (st.made old).areas (record_of recording.point recording.pending.draft)
       logged = subst (λ (a : ℕ). IsLogged a (record_of recording.point recording.pending.draft)) made_areas begins.logged

@@ -1,13 +1,13 @@
 -- Calls that come to a node, are attempted and answered there, and wait on.
-use Rattle.std.proofs.Common.{◌≡◌, ◌⊎◌, ◌∙◌, ⊎_elim, inl, inr, ℕ, ◌<◌, Bool, List, [], ◌∷◌, ◌++◌, Contains, Option, Some, None, IfSome, refl, sym, ap, subst, arith}
-use Rattle.std.specs.Prelude.{option_map, option_to_list, slice_get}
+use Rattle.std.proofs.Common.{◌≡◌, ◌⊎◌, ◌∙◌, ⊎_elim, inl, inr, ℕ, ◌<◌, Bool, false, true, List, [], ◌∷◌, ◌++◌, Contains, Option, Some, None, IfSome, refl, sym, ap, subst, arith}
+use Rattle.std.specs.Prelude.{◌||◌, option_map, option_to_list, slice_get}
 use Rattle.std.proofs.lemmas.List.{append-nil}
 use Rattle.std.proofs.lemmas.List.Elements.{Contains-append_left, Contains-push, Contains-push_cases}
 use Rattle.bx_base.specs.declared.names.Actor.{Actor}
 use Rattle.bx_facts.proofs.Lists.{nothing}
 use Rattle.bx_facts.specs.Writes.{Asked, Made, Sent}
 use Rattle.bx_node_steps.specs.Anew.{is_opening, left_over, waits_again}
-use Rattle.bx_node_steps.specs.Calls.{AnswersCalls, AreApart, AreInOrder, CallOf, IsAmong, IsThat, KeepsCalls, WaitsAt, acting_of, call_of, call_written, point_in, under_way}
+use Rattle.bx_node_steps.specs.Calls.{AnswersCalls, AreApart, AreInOrder, CallOf, IsAmong, IsThat, KeepsCalls, MayAct, WaitsAt, acting_of, call_of, call_written, point_in, under_way}
 use Rattle.bx_node_steps.specs.Changing.{TakesAnswer}
 use Rattle.bx_node_steps.specs.Logging.{FitsStage, WaitsOn}
 use Rattle.bx_node_steps.specs.Ready.{IsReady, WasReady}
@@ -15,8 +15,9 @@ use Rattle.bx_node_steps.specs.declared.machine.Machine.{Machine}
 use Rattle.bx_node_steps.specs.declared.machine.Mark.{Mark}
 use Rattle.bx_node_steps.specs.declared.machine.Stage.{Stage}
 use Rattle.bx_node_steps.specs.declared.machine.Stage.TheVariants as stages
+use Rattle.bx_node_steps.proofs.Acting.{acts_anew, acts_begun, acts_on, acts_same, acts_tried}
 use Rattle.bx_node_steps.proofs.Answering.{IsNumberedAt, IsOther, answers_on, apart_at, at_machines, fits_numbered, idle_numbered, log_answers, same_calls}
-use Rattle.bx_node_steps.proofs.Order.{among_put, behind_all, put_among, put_in_order}
+use Rattle.bx_node_steps.proofs.Order.{among_put, behind_all, may_put, put_among, put_in_order}
 use Rattle.bx_node_steps.proofs.Trying.{Went, all_went, begun_by, tried_none}
 use Rattle.bx_node_tries.specs.declared.round.Begun.{Begun}
 use Rattle.bx_node_tries.specs.declared.round.Said.{Said}
@@ -43,27 +44,27 @@ pub calls_on : (moment : ℕ) (said more : List Said) (a b c : Machine) → Answ
 calls_on moment said more a b c one two apart =
     let first = one apart in
     let second = two first.apart in
-    record { answers = answers_on moment (WaitsAt a) (under_way a) (WaitsAt b) (under_way b) (WaitsAt c) (under_way c) said more first.answers second.answers; apart = second.apart }
+    record { answers = answers_on moment (WaitsAt a) (under_way a) (WaitsAt b) (under_way b) (WaitsAt c) (under_way c) said more first.answers second.answers; acts = acts_on a b c said more first.acts second.acts; apart = second.apart }
 
 -- ---- the calls stay
 
 pub held_answers : (moment : ℕ) (a b : Machine) → a.stage ≡ stages.Idle → OnlyHolds a b → AnswersWell moment [] a b
 held_answers moment a b idle only apart =
-    same_calls moment a b (ap (λ (m : Machine). m.calls.items) only) (ap (λ (m : Machine). call_written m.stage) only) (ap under_way only) (idle_numbered a idle) apart
+    same_calls moment a b (ap (λ (m : Machine). m.calls.items) only) (ap (λ (m : Machine). call_written m.stage) only) (ap under_way only) (ap (λ (m : Machine). is_opening m.log.work) only) (idle_numbered a idle) apart
 
 pub noted_answers : (moment areas : ℕ) (a : Machine) (mark : Option Mark) → FitsStage areas a.log a.stage → AnswersWell moment [] a (record a { mark = mark })
-noted_answers moment areas a mark fits apart = same_calls moment a (record a { mark = mark }) refl refl refl (fits_numbered areas a fits) apart
+noted_answers moment areas a mark fits apart = same_calls moment a (record a { mark = mark }) refl refl refl refl (fits_numbered areas a fits) apart
 
 pub same_answers : (moment areas : ℕ) (a : Machine) → FitsStage areas a.log a.stage → AnswersWell moment [] a a
-same_answers moment areas a fits apart = same_calls moment a a refl refl refl (fits_numbered areas a fits) apart
+same_answers moment areas a fits apart = same_calls moment a a refl refl refl refl (fits_numbered areas a fits) apart
 
 pub received_answers : (moment areas : ℕ) (answer : Option (List ℕ)) (asked : Option Asked) (a b : Machine) → FitsStage areas a.log a.stage → TakesAnswer answer asked a b → AnswersWell moment [] a b
 received_answers moment areas None None a b fits takes apart =
-    same_calls moment a b (ap (λ (m : Machine). m.calls.items) takes) (ap (λ (m : Machine). call_written m.stage) takes) (ap under_way takes) (fits_numbered areas a fits) apart
+    same_calls moment a b (ap (λ (m : Machine). m.calls.items) takes) (ap (λ (m : Machine). call_written m.stage) takes) (ap under_way takes) (ap (λ (m : Machine). is_opening m.log.work) takes) (fits_numbered areas a fits) apart
 received_answers moment areas None (Some asks) a b fits takes apart =
-    same_calls moment a b (ap (λ (m : Machine). m.calls.items) takes) (ap (λ (m : Machine). call_written m.stage) takes) (ap under_way takes) (fits_numbered areas a fits) apart
+    same_calls moment a b (ap (λ (m : Machine). m.calls.items) takes) (ap (λ (m : Machine). call_written m.stage) takes) (ap under_way takes) (ap (λ (m : Machine). is_opening m.log.work) takes) (fits_numbered areas a fits) apart
 received_answers moment areas (Some bytes) asked a b fits takes apart =
-    same_calls moment a b (ap (λ (m : Machine). m.calls.items) takes.only) (ap (λ (m : Machine). call_written m.stage) takes.only) (ap under_way takes.only) (fits_numbered areas a fits) apart
+    same_calls moment a b (ap (λ (m : Machine). m.calls.items) takes.only) (ap (λ (m : Machine). call_written m.stage) takes.only) (ap under_way takes.only) (ap (λ (m : Machine). is_opening m.log.work) takes.only) (fits_numbered areas a fits) apart
 
 -- ---- the log goes on
 
@@ -71,7 +72,7 @@ pub stepped_answers : (moment areas : ℕ) (own : Option ℕ) (until : ℕ) (out
 stepped_answers moment areas own until None out_then said a b fits (runs, goes, sent) apart = log_answers moment areas a b runs said fits apart goes
 stepped_answers moment areas own until (Some write) out_then said a b fits (same, none, stays) apart =
     subst (λ (s : Option Said). AnswersCalls moment a b (option_to_list s)) (sym none)
-    (same_calls moment a b (ap (λ (m : Machine). m.calls.items) same) (ap (λ (m : Machine). call_written m.stage) same) (ap under_way same) (fits_numbered areas a fits) apart)
+    (same_calls moment a b (ap (λ (m : Machine). m.calls.items) same) (ap (λ (m : Machine). call_written m.stage) same) (ap under_way same) (ap (λ (m : Machine). is_opening m.log.work) same) (fits_numbered areas a fits) apart)
 
 -- ---- calls are attempted
 
@@ -90,6 +91,8 @@ tried_answers moment a b attempted numbered only settles none apart =
     record {
       answers = at_machines moment a b a.calls.items b.calls.items (call_written a.stage) (call_written a.stage) (under_way a) (under_way a) attempted.said.items refl refl refl refl same.0 same.1
           (tried_none moment a.calls.items b.calls.items attempted.said.items all (call_written a.stage) apart.other (point_in a.log.work) numbered);
+      acts = acts_tried a b attempted.said.items only (λ number may. record { one = may.one; there = all.waiting_from may.one may.there; same = may.same; still = may.still })
+          (λ number is. subst (MayAct a.calls.items) is.same (all.said_still is.one is.there));
       apart = apart_at b b.calls.items (call_written a.stage) refl same.0 all.order (others_left (call_written a.stage) apart.other (λ one there. all.waiting_from one there));
     }
   where
@@ -108,6 +111,7 @@ begun_answers moment a b c attempted begins own until out idle settles some begu
     record {
       answers = at_machines moment a c a.calls.items c.calls.items None (call_written (stages.Records begun.recording.pending)) None (acting_of (call_written (stages.Records begun.recording.pending)) (Some begun.recording.point)) attempted.said.items
           refl none (ap (λ (w : Option Waiting). acting_of w (point_in a.log.work)) none) refl written (ap under_way begun.sends.begins.only) by.answers;
+      acts = acts_begun a c attempted.said.items by.may (λ one is. by.writes one (sym written ∙ is)) (ap (λ (m : Machine). is_opening m.log.work) begun.sends.begins.only) (λ number is. subst (MayAct a.calls.items) is.same (all.said_still is.one is.there));
       apart = apart_at c c.calls.items (call_written (stages.Records begun.recording.pending)) refl written by.order by.other;
     }
 
@@ -161,8 +165,27 @@ waits_on work (stages.Records pending) old new puts other order = by pending.cal
         let again = left_over (is_opening work) call in
         (λ c. ((λ among. put_among again old new put c among), (λ was. among_put again old new put c was)), put_in_order again old new put apart order)
 
+-- A call that may act then might before: the one whose gate may have been sent is over.
+left_may : (work : Work) (stage : Stage) (old new : List Waiting) → WaitsOn (waits_again work stage) old new → (number : ℕ) → MayAct new number
+    → MayAct old number ⊎ ((call : Waiting) × (call_written stage ≡ Some call) × (call.number ≡ number) × (is_opening work ≡ false))
+left_may work stages.Idle old new same number may = inl (subst (λ (l : List Waiting). MayAct l number) same may)
+left_may work stages.Homes old new same number may = inl (subst (λ (l : List Waiting). MayAct l number) same may)
+left_may work stages.Closes old new same number may = inl (subst (λ (l : List Waiting). MayAct l number) same may)
+left_may work (stages.Records pending) old new puts number may = by pending.call puts
+  where
+    gate : (over : Bool) (opening : Bool) → (over || opening) ≡ false → opening ≡ false
+    gate false opening is = is
+    gate true opening is = absurd cc
+
+    by : (call : Option (Waiting × List ℕ)) → WaitsOn (option_map (left_over (is_opening work)) call) old new
+        → MayAct old number ⊎ ((one : Waiting) × (option_map (λ (d : Waiting × List ℕ). d.0) call ≡ Some one) × (one.number ≡ number) × (is_opening work ≡ false))
+    by None same = inl (subst (λ (l : List Waiting). MayAct l number) same may)
+    by (Some call) put = ⊎_elim inl
+        (λ same. inr (call.0, refl, same.0, gate call.0.is_over (is_opening work) same.1))
+        (may_put (left_over (is_opening work) call) old new put number may)
+
 pub renewed_calls : (own : Option ℕ) (known : GlobalState) (reads : Bool) (a b : Machine) → Renews own known reads a b → AreApart a → KeepsCalls a b
-renewed_calls own known reads a b (Stays mine same) apart = subst (λ (m : Machine). KeepsCalls a m) (sym same) (record { same = λ call. ((λ waits. waits), (λ waits. waits)); apart = apart })
+renewed_calls own known reads a b (Stays mine same) apart = subst (λ (m : Machine). KeepsCalls a m) (sym same) (record { same = λ call. ((λ waits. waits), (λ waits. waits)); acts = acts_same a a refl refl refl; apart = apart })
 renewed_calls own known reads a b (Anew other begins) apart =
     let on = waits_on a.log.work a.stage a.calls.items b.calls.items begins.calls apart.other apart.order in
     let none : call_written b.stage ≡ None = ap (λ (m : Machine). call_written m.stage) begins.only in
@@ -171,6 +194,7 @@ renewed_calls own known reads a b (Anew other begins) apart =
         (λ waits. ⊎_elim (λ among. (on.0 call).0 among) (λ that. absurd (subst (λ (w : Option Waiting). IsThat w call) none that)) waits),
         (λ was. inl ((on.0 call).1 was)),
       );
+      acts = acts_anew a b none (λ number may. left_may a.log.work a.stage a.calls.items b.calls.items begins.calls number may);
       apart = apart_at b b.calls.items None refl none on.1 tt;
     }
 

@@ -7,7 +7,8 @@ use Rattle.bx_base.specs.declared.names.Mode.{Mode}
 use Rattle.bx_facts.proofs.Lists.{behind, front}
 use Rattle.bx_facts.specs.Writes.{Sent}
 use Rattle.bx_node_cache.specs.Kept.{held_in, hint_in}
-use Rattle.bx_node_steps.proofs.Answering.{fits_numbered, idle_numbered, same_calls}
+use Rattle.bx_node_steps.proofs.Acting.{acts_unwritten}
+use Rattle.bx_node_steps.proofs.Answering.{fits_numbered, idle_numbered, same_as, same_calls}
 use Rattle.bx_node_steps.specs.Calls.{acting_of, call_written, point_in, under_way}
 use Rattle.bx_node_steps.specs.Gives.{marked}
 use Rattle.bx_node_steps.specs.Logging.{FitsStage}
@@ -90,15 +91,15 @@ module _ (IsClean : ℕ → Type 0) (areas : ℕ) where
 -- ---- calls that wait meanwhile
 
 pub unseen_answers : (moment areas : ℕ) (a : Machine) (ticks : ℕ) (tidy : Option Tidy) → FitsStage areas a.log a.stage → AnswersWell moment [] a (record a { ticks = ticks; tidy = tidy })
-unseen_answers moment areas a ticks tidy fits apart = same_calls moment a (record a { ticks = ticks; tidy = tidy }) refl refl refl (fits_numbered areas a fits) apart
+unseen_answers moment areas a ticks tidy fits apart = same_calls moment a (record a { ticks = ticks; tidy = tidy }) refl refl refl refl (fits_numbered areas a fits) apart
 
 -- A tidy's record is of no call.
 pub sent_answers : (moment at : ℕ) (draft : List Changed) (own : Option ℕ) (until : ℕ) (out : Option Sent) (a b : Machine) → a.stage ≡ stages.Idle → SendsBody (tidying draft at) own until out a b → AnswersWell moment [] a b
 sent_answers moment at draft own until out a b idle sends apart =
-    same_calls moment a b sends.begins.calls
+    same_as moment a b sends.begins.calls
     (ap (λ (m : Machine). call_written m.stage) sends.begins.only ∙ sym (ap call_written idle))
     (ap under_way sends.begins.only ∙ sym (ap (λ (s : Stage). acting_of (call_written s) (point_in a.log.work)) idle))
-    (idle_numbered a idle) apart
+    (acts_unwritten a b sends.begins.calls (ap (λ (m : Machine). call_written m.stage) sends.begins.only)) (idle_numbered a idle) apart
 
 -- ---- what it does to the tree: nothing
 

@@ -106,6 +106,7 @@ module _ {G O S T : Type 0} (g : register.Ghosts G) (o : owners.Ghosts O) (st : 
         chain = refl;
         knew = refl;
         logs = refl;
+        works = record { slots = refl; doubts = refl };
         stands = released g o st Stands Step register_is owners_are owners_then store_is x (letters ++ out_old) (letters ++ out_new) clocks machines later c tree node session block row.0 (view_of before)
             (view_of after).held (view_of after).away (view_of after).hints (view_of after).fetch holding floor stands up own row.1 row.2 there mark idle
             (then_there ∙ ap (λ (m : Machine). Some (record (view_of m) { held = (view_of after).held; away = (view_of after).away; hints = (view_of after).hints; fetch = (view_of after).fetch })) goes.only)

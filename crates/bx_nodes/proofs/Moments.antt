@@ -1,5 +1,5 @@
 -- What images show that a crash may leave while a machine is handed an input or starts again, by the clauses of register and store on the moments of their calls: what the course has.
-use Rattle.std.proofs.Common.{◌≡◌, ◌≢◌, inl, inr, ◌∙◌, ℕ, ◌+◌, ◌<◌, ◌≤◌, true, false, List, ◌++◌, Contains, refl, sym, subst, arith}
+use Rattle.std.proofs.Common.{◌≡◌, inl, inr, ◌∙◌, ℕ, ◌+◌, ◌<◌, ◌≤◌, true, false, List, ◌++◌, Contains, refl, sym, subst, arith}
 use Rattle.std.specs.Prelude.{slice_index}
 use Rattle.bx_base.specs.declared.names.Actor.{Actor}
 use Rattle.bx_base.specs.declared.names.Actor.TheVariants.{Node}
@@ -7,7 +7,6 @@ use Rattle.bx_calls.specs.Calls.{LeavesOnly}
 use Rattle.bx_calls.specs.Laws.{leaves_implies}
 use Rattle.bx_disk.specs.Disks.{Disks, Image, IsImage}
 use Rattle.bx_facts.specs.declared.input.Input.{Input}
-use Rattle.bx_facts.specs.declared.input.Input.TheVariants.{Packet, Synced, Tick}
 use Rattle.bx_facts.specs.declared.owners.Owners as owners
 use Rattle.bx_facts.specs.declared.register.Register as register
 use Rattle.bx_facts.specs.declared.store.Store as store
@@ -38,11 +37,11 @@ use Rattle.bx_world_standing.specs.Closings.{ClosingStands}
 use Rattle.bx_world_standing.specs.Labels.{LabelsStand}
 use Rattle.bx_world_standing.specs.Parts.{Clocks}
 use Rattle.bx_world_standing.specs.Rights.{IsWithin, Surely}
-use Rattle.bx_world_standing.specs.Standing.{Course, Known, StandsAt, SureOf}
+use Rattle.bx_world_standing.specs.Standing.{Course, Known, StandsAt}
 use Rattle.bx_world_standing.proofs.Owns.{of_before}
 use Rattle.bx_world_stays.proofs.Labels.{labels_keep, same_labels}
 use Rattle.bx_world_stays.proofs.Stays.{only_stays}
-use Rattle.bx_world_volumes.specs.Left.{IsOf, MayShow, Shows, StandsIn, all_sure}
+use Rattle.bx_world_volumes.specs.Left.{MayShow, StandsIn, all_sure}
 use Rattle.bx_world_volumes.proofs.Left.{HasLogs, next_read, registers_leave, stores_leave}
 use Rattle.bx_world_volumes.proofs.Volumes.{AreStoreLaws}
 
@@ -81,7 +80,7 @@ module _ {G O S : Type 0} (g : register.Ghosts G) (o : owners.Ghosts O) (st : st
     abbrev Has : S → Disks → StorePast → Type 0
     Has one w sp = HasLogs (st.made store_is) (st.keeps one w) (st.stands one w) (IsOfNode o.by_boot known.clocks) (λ node. c.store.told.knew (Node node)) c.register.proposed c.owners c.before c.logs c.slots c.truth sp
 
-    has_logs : Has store_is x c.store
+    pub has_logs : Has store_is x c.store
     has_logs = record {
       kept = at.parts.store_keeps;
       grows = λ change there legal. let it = laws.stores_grow store_is x c.store change at.parts.store_keeps legal (at.pasts.proposed change there).1 in (it.0, it.1.standing);
@@ -190,7 +189,7 @@ module _ {G O S T : Type 0} (g : register.Ghosts G) (o : owners.Ghosts O) (st : 
         (λ change proposed legal. clause (store_grown one change) (has.grows change proposed legal).0 (may_grow (store_with one tended_box).told change (g.knows register_heard who) who input may)))
         (λ image shows. subst (λ m. MayShow (g.reads_as m x.sizes) (st.made store_is) x.sizes c image) same_made
         (subst (λ (sizes : List ℕ). MayShow (g.reads_as (g.made register_heard) sizes) (st.made store_is) sizes c image) register_took.sizes
-        (shows_same (g.reads_as (g.made register_heard) y.sizes) (st.made store_is) y.sizes c later (record { before = heard.3.before; logs = heard.3.logs; slots = heard.3.slots; truth = heard.3.truth }) image shows)))
+        (shows_same (g.reads_as (g.made register_heard) y.sizes) (st.made store_is) y.sizes c later (record { before = heard.3.before; logs = heard.3.logs; slots = heard.3.slots; truth = heard.3.truth; doubts = heard.3.doubts }) image shows)))
       where
         heard : (one : Course) × GrowsBy c.register.proposed c.register.chain one.register.chain
             × StandsBut g o st Stands Step register_heard owners_are store_is y who (letters ++ heard_box) clocks machines (lettered one (letters ++ heard_box)) tree × SameVolume c one × IsLast (g.knows register_heard who) c.register.chain one.register.chain

@@ -86,6 +86,7 @@ module _ {G O S T : Type 0} (g : register.Ghosts G) (o : owners.Ghosts O) (st : 
         chain = refl;
         knew = refl;
         logs = refl;
+        works = record { slots = refl; doubts = refl };
         stands = asked g o st Stands Step register_is owners_are old new x (letters ++ out_old) (letters ++ out_new) clocks machines later c tree node session at row.0 (view_of before) hold stands up own
             (record { each = λ s place. register_allows c.register s stands.at.parts.register_keeps place }) row.1 row.2 there mark (ap stage_of rests) then_there others
             (register_loses c.register (letters ++ out_new) stands.at.parts.register_keeps (stores_send_no_registers letters out_old out_new c.register.letters stands.at.pasts.letters sends))

@@ -20,6 +20,7 @@ use Rattle.bx_node_events.proofs.Handing.{IsTaken, OwnersLaws, RegisterLaws, Sto
 use Rattle.bx_node_events.proofs.Landed.{body_lands, first_lands, others_land}
 use Rattle.bx_node_events.proofs.Leased.{leased_at, leased_course}
 use Rattle.bx_node_events.proofs.Working.{IsSending}
+use Rattle.bx_node_events.proofs.Works.{keeps_all, leaves_kept}
 use Rattle.bx_node_machines.specs.Machines as words
 use Rattle.bx_node_machines.specs.Machines.{MachineView, Replying, act_of}
 use Rattle.bx_node_machines.specs.Nodes.{NodesStand}
@@ -144,13 +145,14 @@ module _ {G O S T : Type 0} (g : register.Ghosts G) (o : owners.Ghosts O) (st : 
   leads_to (Some call) point next step = (tree, refl, step)
 
   -- Nothing is sent.
-  pub rested : (runs : Option KindAndRuns) (said : Option Said) → runs ≡ None → LogGoes before after runs said → Turned Step (Then old box) c tree (option_to_list said)
+  pub rested : (runs : Option KindAndRuns) (said : Option Said) → runs ≡ None → LogGoes before after runs said → Turned (Some session) Step (Then old box) c tree (option_to_list said)
   rested runs said none (Rests stage now) = record {
     later = c;
     next = tree;
     leads = refl;
     chain = refl;
     logged = λ slot one has. inl has;
+    works = leaves_kept _ c c (keeps_all c);
     stands = subst (λ (machines : List MachineView). NodesStand g o st Stands Step register_is owners_are old x (letters ++ box) clocks machines c tree) (sym (seen_same items node before after there (ap view_of now))) stands;
   }
   rested runs said none (SendsGate pending text point stage work now) = absurd cc
@@ -160,7 +162,7 @@ module _ {G O S T : Type 0} (g : register.Ghosts G) (o : owners.Ghosts O) (st : 
   rested runs said none (Closed stage work now) =
       let rests = others_land g o st Stands Step register_is owners_are old x (letters ++ box) clocks (seen items) (leased_course quiet_course session until) tree node session row (view_of before) leased live none_out none_sent (seen (slice_set items node after))
       (ap stage_of stage) work (changes _ (ap view_of now)) in
-      record { later = rests.0; next = tree; leads = refl; chain = rests.1; logged = told_as c.logs c.logs rests.0.logs [] rests.3 (λ slot one has. inl has); stands = rests.2 }
+      record { later = rests.0; next = tree; leads = refl; chain = rests.1; logged = told_as c.logs c.logs rests.0.logs [] rests.3 (λ slot one has. inl has); works = record { slots = rests.4.slots; doubts = rests.4.doubts }; stands = rests.2 }
 
   -- Runs are sent.
   module _ (runs : KindAndRuns) (taken : IsTaken st old new node box box_then (record { session = session; until = until; runs = runs.1 })) (made_devices : before.cache.devices ≡ (st.made old).devices) (made_areas : before.cache.areas ≡ (st.made old).areas) where
@@ -171,14 +173,14 @@ module _ {G O S T : Type 0} (g : register.Ghosts G) (o : owners.Ghosts O) (st : 
     some_is : (a b : KindAndRuns) → Some a ≡ Some b → a ≡ b
     some_is a b e = cc
 
-    pub went : (all : Option KindAndRuns) (said : Option Said) → all ≡ Some runs → LogGoes before after all said → Turned Step (Then new box_then) c tree (option_to_list said)
+    pub went : (all : Option KindAndRuns) (said : Option Said) → all ≡ Some runs → LogGoes before after all said → Turned (Some session) Step (Then new box_then) c tree (option_to_list said)
     went all said are (Rests stage now) = absurd cc
     went all said are (SendsGate pending text point stage work now) =
         let goes = body_lands g o st Stands Step register_is owners_are old x (letters ++ box) clocks (seen items) (leased_course quiet_course session until) tree node session row (view_of before) leased live none_out none_sent (seen (slice_set items node after))
         new (letters ++ box_then) (record { session = session; until = until; runs = runs.1 }) sending (replying pending.call) pending.draft text point (ap stage_of stage) work
         (changes _ (ap view_of now ∙ ap (λ (s : words.Stage). record (view_of before) { log = record before.log { work = works.Opens point; out = true }; stage = s }) (ap stage_of stage)))
         (ap (λ (r : KindAndRuns). r.1) (sym (some_is (writes before.log (works.Opens point)) runs are))) in
-        record { later = goes.0; next = tree; leads = refl; chain = goes.1; logged = told_as c.logs c.logs goes.0.logs [] goes.3 (λ slot one has. inl has); stands = goes.2 }
+        record { later = goes.0; next = tree; leads = refl; chain = goes.1; logged = told_as c.logs c.logs goes.0.logs [] goes.3 (λ slot one has. inl has); works = record { slots = goes.4.slots; doubts = goes.4.doubts }; stands = goes.2 }
     went all said are (SendsHomes pending point stage work now volume commits homes) =
         let goes = gate_lands g o st Stands Step register_is owners_are old x (letters ++ box) clocks (seen items) (seen (slice_set items node after)) (leased_course quiet_course session until) tree node session row (view_of before) leased live none_out none_sent
         new (letters ++ box_then) (record { session = session; until = until; runs = runs.1 }) sending (replying pending.call) pending.draft point (ap stage_of stage) work
@@ -188,7 +190,7 @@ module _ {G O S T : Type 0} (g : register.Ghosts G) (o : owners.Ghosts O) (st : 
         (subst (λ (r : KindAndRuns). (logs : Logs) (slot : ℕ) → ((at : ℕ) → away_in after.cache.kept at ≡ newest_in (logs slot) at) → AreItsHomes (st.made old).devices (st.made old).areas logs slot r.1)
         (some_is (16, home_runs after.cache.devices after.cache.kept) runs are)
         (its_homes (st.made old) after.cache.devices after.cache.areas (away_in after.cache.kept) (home_runs after.cache.devices after.cache.kept) (volume.devices ∙ made_devices) (volume.areas ∙ made_areas) homes)) in
-        record { later = goes.2.0; next = goes.0; leads = leads_to pending.call point goes.0 goes.1; chain = goes.2.1; logged = λ slot one has. ⊎_elim inl (λ is. inr (told_with pending.call point one is.0 is.1)) (goes.2.3 slot one has); stands = goes.2.2 }
+        record { later = goes.2.0; next = goes.0; leads = leads_to pending.call point goes.0 goes.1; chain = goes.2.1; logged = λ slot one has. ⊎_elim inl (λ is. inr (told_with pending.call point one is.0 is.1)) (goes.2.3 slot one has); works = record { slots = goes.2.4.slots; doubts = goes.2.4.doubts }; stands = goes.2.2 }
     went all said are (SendsClosing stage now volume settles) =
         let goes = homes_land g o st Stands Step register_is owners_are old x (letters ++ box) clocks (seen items) (seen (slice_set items node after)) (leased_course quiet_course session until) tree node session row (view_of before) leased live none_out none_sent
         new (letters ++ box_then) (record { session = session; until = until; runs = runs.1 }) sending (ap stage_of stage) (held_in after.cache.kept) (away_in after.cache.kept)
@@ -196,11 +198,11 @@ module _ {G O S T : Type 0} (g : register.Ghosts G) (o : owners.Ghosts O) (st : 
         (changes _ (ap view_of now ∙ ap (λ (h : Hints). record (view_of before) { held = held_in after.cache.kept; away = away_in after.cache.kept; hints = h; log = record before.log { work = works.Closes; out = true }; stage = words.Closes })
         (ap (λ (l : List (ℕ × Block)). hint_in l) volume.hinted)))
         (ap (λ (r : KindAndRuns). r.1) (sym (some_is (writes before.log works.Closes) runs are))) in
-        record { later = goes.0; next = tree; leads = refl; chain = goes.1; logged = told_as c.logs c.logs goes.0.logs [] goes.3 (λ slot one has. inl has); stands = goes.2 }
+        record { later = goes.0; next = tree; leads = refl; chain = goes.1; logged = told_as c.logs c.logs goes.0.logs [] goes.3 (λ slot one has. inl has); works = record { slots = goes.4.slots; doubts = goes.4.doubts }; stands = goes.2 }
     went all said are (SendsShut stage work now) =
         let goes = first_lands g o st Stands Step register_is owners_are old x (letters ++ box) clocks (seen items) (leased_course quiet_course session until) tree node session row (view_of before) leased live none_out none_sent (seen (slice_set items node after))
         new (letters ++ box_then) (record { session = session; until = until; runs = runs.1 }) sending (ap stage_of stage) work
         (changes _ (ap view_of now ∙ ap (λ (s : words.Stage). record (view_of before) { log = record before.log { count = 0; work = works.Shuts; out = true }; stage = s }) (ap stage_of stage)))
         (ap (λ (r : KindAndRuns). r.1) (sym (some_is (writes before.log works.Shuts) runs are))) in
-        record { later = goes.0; next = tree; leads = refl; chain = goes.1; logged = told_as c.logs (with_log c.logs row.slot []) goes.0.logs [] goes.3 (λ slot one has. inl (emptied c.logs row.slot slot one has)); stands = goes.2 }
+        record { later = goes.0; next = tree; leads = refl; chain = goes.1; logged = told_as c.logs (with_log c.logs row.slot []) goes.0.logs [] goes.3 (λ slot one has. inl (emptied c.logs row.slot slot one has)); works = record { slots = goes.4.slots; doubts = goes.4.doubts }; stands = goes.2 }
     went all said are (Closed stage work now) = absurd cc

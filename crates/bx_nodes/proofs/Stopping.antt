@@ -99,6 +99,7 @@ module _ {G O S T : Type 0} (g : register.Ghosts G) (o : owners.Ghosts O) (st : 
     chain = refl;
     knew = refl;
     logs = refl;
+    works = record { slots = refl; doubts = refl };
     stands = empty_stands register_then owners_then store_then x letters (with_down clocks who) old new _ tree who (here who true clocks.down) empties same
         (stops g o st Stands Step laws register_is register_then owners_are owners_then store_is store_then x letters clocks (seen old) c tree who stands register_stops owners_stop store_stops);
   }

@@ -49,8 +49,8 @@ pushed items later item is = ap length is ∙ length-append items (item ∷ [])
 one_goes : {newest : Option ℕ} (moment : ℕ) (call : Waiting) (old new : Round) → Goes newest moment call old new → length new.waiting.items + length new.said.items ≤ length old.waiting.items + length old.said.items + 1
 one_goes moment call old new (Stays waits said begun needs) = let w = pushed old.waiting.items new.waiting.items call waits in let s = ap length said in omega (arith, w, s)
 one_goes moment call old new (Needing wants waits said begun needs older) = let w = pushed old.waiting.items new.waiting.items call waits in let s = ap length said in omega (arith, w, s)
-one_goes moment call old new (Answered one is said waits begun needs older) = let s = pushed old.said.items new.said.items one said in let w = ap length waits in omega (arith, w, s)
-one_goes moment call old new (Begins none begun said waits needs older) = let s = ap length said in let w = ap length waits in omega (arith, w, s)
+one_goes moment call old new (Answered one is said waits begun needs older attempted) = let s = pushed old.said.items new.said.items one said in let w = ap length waits in omega (arith, w, s)
+one_goes moment call old new (Begins none begun said waits needs older attempted) = let s = ap length said in let w = ap length waits in omega (arith, w, s)
 
 pub all_go : {newest : Option ℕ} (moment : ℕ) (calls : List Waiting) (old new : Round) → AllGo newest moment calls old new → length new.waiting.items + length new.said.items ≤ length old.waiting.items + length old.said.items + length calls
 all_go moment calls old new (NoneGo round) = omega arith
@@ -91,8 +91,8 @@ settled_from {newest = newest} moment calls old new (MoreGo before one first mid
     by : Goes newest moment one middle last → Contains middle.waiting.items call ⊎ (one ≡ call)
     by (Stays waits said begun needs) = pushed_on waits
     by (Needing wants waits said begun needs older) = pushed_on waits
-    by (Answered answer is said waits begun needs older) = inl (subst (λ (l : List Waiting). Contains l call) waits has)
-    by (Begins none begun said waits needs older) = inl (subst (λ (l : List Waiting). Contains l call) waits has)
+    by (Answered answer is said waits begun needs older attempted) = inl (subst (λ (l : List Waiting). Contains l call) waits has)
+    by (Begins none begun said waits needs older attempted) = inl (subst (λ (l : List Waiting). Contains l call) waits has)
 
 -- Where none is answered and none begins a record, all wait on.
 settled_all : {newest : Option ℕ} (moment : ℕ) (calls : List Waiting) (old new : Round) → AllGo newest moment calls old new → new.said.items ≡ [] → new.begun ≡ None → new.waiting.items ≡ old.waiting.items ++ calls
@@ -106,8 +106,8 @@ settled_all {newest = newest} moment calls old new (MoreGo before one first midd
     by : (middle.said.items ≡ [] → middle.begun ≡ None → middle.waiting.items ≡ first.waiting.items ++ before) → Goes newest moment one middle last → last.waiting.items ≡ first.waiting.items ++ (before ++ one ∷ [])
     by earlier (Stays waits said begun needs) = on earlier waits said begun
     by earlier (Needing wants waits said begun needs older) = on earlier waits said begun
-    by earlier (Answered answer is said waits begun needs older) = absurd (let e = ap (λ (l : List Said). length l) (sym said ∙ none_said) in let n = length-append middle.said.items (answer ∷ []) in omega (arith, e, n))
-    by earlier (Begins none begun said waits needs older) = absurd (subst (λ b. IsSomeAnd b (λ begins. begins.call ≡ one)) none_begun begun)
+    by earlier (Answered answer is said waits begun needs older attempted) = absurd (let e = ap (λ (l : List Said). length l) (sym said ∙ none_said) in let n = length-append middle.said.items (answer ∷ []) in omega (arith, e, n))
+    by earlier (Begins none begun said waits needs older attempted) = absurd (subst (λ b. IsSomeAnd b (λ begins. begins.call ≡ one)) none_begun begun)
 
 -- Where none begins a record, each waits on or is answered.
 settled_each : {newest : Option ℕ} (moment : ℕ) (calls : List Waiting) (old new : Round) → AllGo newest moment calls old new → new.begun ≡ None → (call : Waiting) → Contains calls call → Contains new.waiting.items call ⊎ IsAnswered new.said.items call.number
@@ -127,13 +127,13 @@ settled_each {newest = newest} moment calls old new (MoreGo before one first mid
     by : Earlier → Goes newest moment one middle last → Contains last.waiting.items call ⊎ IsAnswered last.said.items call.number
     by earlier (Stays waits said begun needs) = on earlier waits said begun
     by earlier (Needing wants waits said begun needs older) = on earlier waits said begun
-    by earlier (Answered answer is said waits begun needs older) = ⊎_elim
+    by earlier (Answered answer is said waits begun needs older attempted) = ⊎_elim
         (λ older. ⊎_elim (λ waiting. inl (subst (λ (l : List Waiting). Contains l call) (sym waits) waiting))
         (λ answered. inr (record { one = answered.one; there = subst (λ (l : List Said). Contains l answered.one) (sym said) (Contains-append_left middle.said.items (answer ∷ []) answered.one answered.there); same = answered.same }))
         (earlier (sym begun ∙ none_begun) older))
         (λ same. inr (record { one = answer; there = subst (λ (l : List Said). Contains l answer) (sym said) (Contains-push middle.said.items answer); same = is.number ∙ ap (λ (w : Waiting). w.number) same }))
         (Contains-push_cases before one call has)
-    by earlier (Begins none begun said waits needs older) = absurd (subst (λ b. IsSomeAnd b (λ begins. begins.call ≡ one)) none_begun begun)
+    by earlier (Begins none begun said waits needs older attempted) = absurd (subst (λ b. IsSomeAnd b (λ begins. begins.call ≡ one)) none_begun begun)
 
 -- One that is newer than those that are attempted waits on.
 settled_newer : {newest : Option ℕ} (moment : ℕ) (calls : List Waiting) (old new : Round) → AllGo newest moment calls old new → (call : Waiting) → Contains calls call → is_newer newest call.number ≡ true → Contains new.waiting.items call
@@ -155,8 +155,8 @@ settled_newer {newest = newest} moment calls old new (MoreGo before one first mi
     by : Earlier → Goes newest moment one middle last → Contains last.waiting.items call
     by earlier (Stays waits said begun needs) = pushed_on earlier waits
     by earlier (Needing wants waits said begun needs older) = pushed_on earlier waits
-    by earlier (Answered answer is said waits begun needs older) = is_older earlier waits older
-    by earlier (Begins none begun said waits needs older) = is_older earlier waits older
+    by earlier (Answered answer is said waits begun needs older attempted) = is_older earlier waits older
+    by earlier (Begins none begun said waits needs older attempted) = is_older earlier waits older
 
 -- So at a node.
 pub settles_of : {newest : Option ℕ} (moment : ℕ) (a b : Machine) (attempted : Attempted) → Settle newest moment (Some a) (Some b) attempted → AreOf a.calls.items b.calls.items

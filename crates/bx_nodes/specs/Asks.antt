@@ -4,6 +4,7 @@ use Rattle.bx_base.specs.declared.names.Mode.{Mode}
 use Rattle.bx_base.specs.declared.names.Mode.TheVariants.{Shared, Exclusive}
 use Rattle.bx_facts.specs.Holds.{Hold}
 use Rattle.bx_node_cache.specs.Kept.{kept_in}
+use Rattle.bx_node_events.specs.Works.{KeepsWorks}
 use Rattle.bx_node_steps.specs.Changing.{LetsGo}
 use Rattle.bx_node_steps.specs.declared.machine.Fetch.{Fetch}
 use Rattle.bx_node_steps.specs.declared.machine.Fetch.TheVariants as fetches
@@ -61,10 +62,11 @@ KeepsUnwanted wants old new = (at : ℕ) → (kept_in new.cache.kept at ≡ kept
 abbrev pub KeepsUnneeded : List (List (ℕ × Mode)) → Machine → Machine → Type 0
 KeepsUnneeded needs old new = (at : ℕ) → (kept_in new.cache.kept at ≡ kept_in old.cache.kept at) ⊎ ((wants : List (ℕ × Mode)) × Contains needs wants × ((mode : Mode) × Contains wants (at, mode)))
 
--- There is a later course, of the same chain and logs, in which nobody was told anything more, and what stands stands for it.
+-- There is a later course, of the same chain and logs, with what was under way and in doubt, in which nobody was told anything more, and what stands stands for it.
 pub record Later (Stands_then : Course → Type 0) (c : Course) : Type 0 where
   pub later : Course
   pub chain : later.register.chain ≡ c.register.chain
   pub knew : later.store.told.knew ≡ c.store.told.knew
   pub logs : later.logs ≡ c.logs
+  pub works : KeepsWorks c later
   pub stands : Stands_then later

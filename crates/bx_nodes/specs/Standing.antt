@@ -33,6 +33,10 @@ module _ {G O S E T : Type 0} where
   abbrev pub IsUnder : Nodes G O S E T → ℕ → ℕ → Type 0
   IsUnder nodes node session = OfNode nodes node (λ machine. machine.session ≡ Some session)
 
+  -- .. under this one, which owners know as its own
+  abbrev pub IsUnderOwn : owners.Ghosts O → Nodes G O S E T → ℕ → ℕ → Type 0
+  IsUnderOwn o nodes node session = (o.own nodes.owners node ≡ Some session) × IsUnder nodes node session
+
   -- its log rests
   abbrev pub Rests : Nodes G O S E T → ℕ → Type 0
   Rests nodes node = OfNode nodes node (λ machine. machine.stage ≡ Idle)

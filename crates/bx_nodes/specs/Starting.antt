@@ -3,6 +3,7 @@ use Rattle.std.specs.Prelude.{◌≡◌, ◌≢◌, ℕ, max, Bool, true, false,
 use Rattle.bx_base.specs.declared.names.Actor.{Actor}
 use Rattle.bx_facts.specs.Machines.{put_at}
 use Rattle.bx_global.specs.declared.state.GlobalState.{GlobalState}
+use Rattle.bx_node_events.specs.Works.{KeepsWorks}
 use Rattle.bx_rows.specs.Words.{row_in}
 use Rattle.bx_rows.specs.declared.session.SessionRow.{SessionRow}
 use Rattle.bx_world_standing.specs.Parts.{Clocks}
@@ -21,9 +22,10 @@ pub record MayStart (by_boot : Bool) (AreSeparate : Type 0) (s : GlobalState) (n
   pub separate : AreSeparate
   pub none : (session : ℕ) (row : SessionRow) → row_in s.sessions session ≡ Some row → row.dead ≡ 0 → row.node ≡ node → row.boot ≢ boot
 
--- There is a later course, of the same chain and logs, and what stands stands for it.
+-- There is a later course, of the same chain and logs, with what was under way and in doubt, and what stands stands for it.
 pub record Starts (Stands_then : Course → Type 0) (c : Course) : Type 0 where
   pub later : Course
   pub chain : later.register.chain ≡ c.register.chain
   pub logs : later.logs ≡ c.logs
+  pub works : KeepsWorks c later
   pub stands : Stands_then later

@@ -6,6 +6,7 @@ use Rattle.bx_facts.specs.Inputs.{greatest_with}
 use Rattle.bx_facts.specs.declared.input.Input.{Input}
 use Rattle.bx_global.specs.declared.change.Change.{Change}
 use Rattle.bx_global.specs.declared.state.GlobalState.{GlobalState}
+use Rattle.bx_node_events.specs.Works.{KeepsWorks}
 use Rattle.bx_world_standing.specs.Parts.{Clocks}
 use Rattle.bx_world_standing.specs.Standing.{Course}
 
@@ -19,13 +20,14 @@ pub record Proposes (offer : Option Change) (Holds_then : Option Change → Type
   pub is_offered : (change : Change) → proposal ≡ Some change → offer ≡ Some change
   pub holds : Holds_then proposal
 
--- There is a later course, whose chain is as it was or grew by a change that was proposed before, and whose logs are as they were; and what stands stands for it. The machine that
+-- There is a later course, whose chain is as it was or grew by a change that was proposed before, and whose logs are as they were, with what was under way and in doubt; and what stands stands for it. The machine that
 -- heard knows this state then: where the chain grew, it is the last one.
 pub record Hears (known : GlobalState) (Stands_then : Course → Type 0) (c : Course) : Type 0 where
   pub later : Course
   pub grows : GrowsBy c.register.proposed c.register.chain later.register.chain
   pub told : (later.register.chain ≡ c.register.chain) ⊎ (known ≡ last later.register.chain)
   pub logs : later.logs ≡ c.logs
+  pub works : KeepsWorks c later
   pub stands : Stands_then later
 
 -- What owners and store hand back: the owners' change, or else the store's, is offered, and then this is said of it.

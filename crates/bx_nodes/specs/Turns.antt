@@ -1,11 +1,13 @@
 -- What a turn does.
-use Rattle.std.specs.Prelude.{◌≡◌, ◌≢◌, ◌⊎◌, ℕ, false, true, All, Contains, List, Option, None, Some, IsSome, reverse, slice_get}
+use Rattle.std.specs.Prelude.{◌≡◌, ◌≢◌, ◌⊎◌, ℕ, false, true, All, Contains, IfSome, List, [], Option, None, Some, IsSome, reverse, slice_get}
 use Rattle.std.specs.List.{AllByRecursion}
 use Rattle.bx_base.specs.declared.names.Mode.{Mode}
 use Rattle.bx_facts.specs.declared.store.Store as store
+use Rattle.bx_facts.specs.Chains.{LivesIn, last}
 use Rattle.bx_facts.specs.Holds.{first_of}
 use Rattle.bx_facts.specs.Writes.{Asked, Sent}
 use Rattle.bx_node_cache.specs.Kept.{held_in, hint_in}
+use Rattle.bx_node_events.specs.Works.{LeavesWorks}
 use Rattle.bx_node_steps.specs.Calls.{IsAnswered}
 use Rattle.bx_node_steps.specs.Changing.{TakesAnswer}
 use Rattle.bx_node_steps.specs.Gives.{marked, since}
@@ -30,14 +32,23 @@ use Rattle.bx_world_standing.specs.Standing.{Course}
 abbrev pub IsOldOrTold : Logs → List Said → ℕ → Logged → Type 0
 IsOldOrTold logs said slot one = Contains (logs slot) one ⊎ ((one.head.call ≡ 0) ⊎ IsAnswered said one.head.call)
 
--- The answers lead to a next tree, for which what stands stands; nothing was decided meanwhile, and what the logs have besides is of calls that are answered.
-pub record Turned {T : Type 0} (Step : T → Deed → T → Type 0) (Stands_then : Course → T → Type 0) (c : Course) (tree : T) (said : List Said) : Type 0 where
+-- The answers lead to a next tree, for which what stands stands; nothing was decided meanwhile, and what the logs have besides is of calls that are answered. What is under way and in doubt
+-- changes for the session of the node alone.
+pub record Turned {T : Type 0} (own : Option ℕ) (Step : T → Deed → T → Type 0) (Stands_then : Course → T → Type 0) (c : Course) (tree : T) (said : List Said) : Type 0 where
   pub later : Course
   pub next : T
   pub leads : LeadsBack Step tree (reverse said) next
   pub chain : later.register.chain ≡ c.register.chain
   pub logged : (slot : ℕ) (one : Logged) → Contains (later.logs slot) one → IsOldOrTold c.logs said slot one
+  pub works : LeavesWorks own c later
   pub stands : Stands_then later next
+
+-- So a node had a turn under a session that is its own and lives; or under none, and then it answers nothing.
+pub record TurnedUnder {T : Type 0} (IsOwn : ℕ → Type 0) (Step : T → Deed → T → Type 0) (Stands_then : Course → T → Type 0) (c : Course) (tree : T) (said : List Said) : Type 0 where
+  pub own : Option ℕ
+  pub is_own : IfSome own (λ session. IsOwn session × LivesIn (last c.register.chain) session)
+  pub quiet : own ≡ None → said ≡ []
+  pub turned : Turned own Step Stands_then c tree said
 
 -- All machines but one are as they were.
 pub record OnlyMachine (node : ℕ) (old new : List Machine) : Type 0 where

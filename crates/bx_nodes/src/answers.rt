@@ -48,7 +48,7 @@ impl<G: Register, O: Owners, S: Store, E: Engine> Nodes<G, O, S, E> {
         ensures stands { (x : Disks) (letters : List Letter) (clocks : Clocks) (c : Course) (tree : E.Tree) (session : ℕ) → clocks.down (Node node) ≡ false
             → Stand G.Register O.Owners S.Store E.Engine self.old x letters clocks c tree
             → O.own self.old.owners node ≡ Some session → LivesIn (last c.register.chain) session → IsUnder self.old node session
-            → IfOk result (λ attempted. Turned (E.step self.old.engine) (Stand G.Register O.Owners S.Store E.Engine self.new x letters clocks) c tree attempted.said.items) }
+            → IfOk result (λ attempted. Turned (Some session) (E.step self.old.engine) (Stand G.Register O.Owners S.Store E.Engine self.new x letters clocks) c tree attempted.said.items) }
         ensures goes { IfOk result (Settle newest moment (slice_get self.old.machines.items node) (slice_get self.new.machines.items node)) }
         ensures needs { IfOk result (λ attempted. OfNode self.new node (λ machine. All (AreNeeded E.Engine self.new.engine (held_in machine.cache.kept) (hint_in machine.cache.hinted) moment machine.calls.items) attempted.needs.items)) }
         ensures waits { IfOk result (λ attempted. attempted.begun ≡ None → OfNode self.new node (λ machine. All (MayWait E.Engine self.new.engine (held_in machine.cache.kept) (hint_in machine.cache.hinted) moment newest may_begin attempted.needs.items) machine.calls.items)) }

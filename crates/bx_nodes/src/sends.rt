@@ -44,7 +44,7 @@ impl<G: Register, O: Owners, S: Store, E: Engine> Nodes<G, O, S, E> {
         ensures stands { (x : Disks) (letters : List Letter) (clocks : Clocks) (c : Course) (tree : E.Tree) (session : ℕ) → clocks.down (Node node) ≡ false
             → Stand G.Register O.Owners S.Store E.Engine self.old x (letters ++ out.old) clocks c tree
             → O.own self.old.owners node ≡ Some session → O.end_of self.old.owners node ≡ Some until → LivesIn (last c.register.chain) session → IsUnder self.old node session
-            → OnOk result (Turned (E.step self.old.engine) (Stand G.Register O.Owners S.Store E.Engine self.new x (letters ++ out.new) clocks) c tree []) }
+            → OnOk result (Turned (Some session) (E.step self.old.engine) (Stand G.Register O.Owners S.Store E.Engine self.new x (letters ++ out.new) clocks) c tree []) }
         ensures begins { OnOk result (OfBoth self.old self.new node (BeginsBy moment begun (S.own self.old.store node) until (S.out_of self.new.store node))) }
         ensures ready { OnOk result (Ready S.Store E.Engine self.new node) }
         ensures store { (other : ℕ) → (S.own self.new.store other ≡ S.own self.old.store other) × (S.asked self.new.store other ≡ S.asked self.old.store other) × (S.answer self.new.store other ≡ S.answer self.old.store other) }
@@ -75,7 +75,7 @@ impl<G: Register, O: Owners, S: Store, E: Engine> Nodes<G, O, S, E> {
             → Stand G.Register O.Owners S.Store E.Engine self.old x (letters ++ out.old) clocks c tree
             → O.own self.old.owners node ≡ Some session → O.end_of self.old.owners node ≡ Some until → LivesIn (last c.register.chain) session → IsUnder self.old node session
             → OfNode self.old node (WorksOver E.Engine self.old.engine recording)
-            → OnOk result (Turned (E.step self.old.engine) (Stand G.Register O.Owners S.Store E.Engine self.new x (letters ++ out.new) clocks) c tree []) }
+            → OnOk result (Turned (Some session) (E.step self.old.engine) (Stand G.Register O.Owners S.Store E.Engine self.new x (letters ++ out.new) clocks) c tree []) }
         ensures sends { OnOk result (OfBoth self.old self.new node (SendsBody recording (S.own self.old.store node) until (S.out_of self.new.store node))) }
         ensures ready { OnOk result (Ready S.Store E.Engine self.new node) }
         ensures store { (other : ℕ) → (S.own self.new.store other ≡ S.own self.old.store other) × (S.asked self.new.store other ≡ S.asked self.old.store other) × (S.answer self.new.store other ≡ S.answer self.old.store other) }
@@ -103,7 +103,7 @@ impl<G: Register, O: Owners, S: Store, E: Engine> Nodes<G, O, S, E> {
         ensures stands { (x : Disks) (letters : List Letter) (clocks : Clocks) (c : Course) (tree : E.Tree) (session : ℕ) → clocks.down (Node node) ≡ false
             → Stand G.Register O.Owners S.Store E.Engine self.old x (letters ++ out.old) clocks c tree
             → O.own self.old.owners node ≡ Some session → O.end_of self.old.owners node ≡ Some until → LivesIn (last c.register.chain) session → IsUnder self.old node session
-            → IfOk result (λ said. Turned (E.step self.old.engine) (Stand G.Register O.Owners S.Store E.Engine self.new x (letters ++ out.new) clocks) c tree (option_to_list said)) }
+            → IfOk result (λ said. Turned (Some session) (E.step self.old.engine) (Stand G.Register O.Owners S.Store E.Engine self.new x (letters ++ out.new) clocks) c tree (option_to_list said)) }
         ensures steps { IfOk result (λ said. OfBoth self.old self.new node (λ old new. StepsLog (S.own self.old.store node) until (S.out_of self.old.store node) (S.out_of self.new.store node) old new said)) }
         ensures ready { OnOk result (Ready S.Store E.Engine self.new node) }
         ensures store { (other : ℕ) → (S.own self.new.store other ≡ S.own self.old.store other) × (S.asked self.new.store other ≡ S.asked self.old.store other) × (S.answer self.new.store other ≡ S.answer self.old.store other) }

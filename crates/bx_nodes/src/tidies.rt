@@ -61,7 +61,7 @@ impl<G: Register, O: Owners, S: Store, E: Engine> Nodes<G, O, S, E> {
         requires sessions { IsSome (O.own self.old.owners node) × IsSome (S.own self.old.store node) }
         ensures stands { (x : Disks) (letters : List Letter) (clocks : Clocks) (c : Course) (tree : E.Tree) (session : ℕ) → clocks.down (Node node) ≡ false → Stand G.Register O.Owners S.Store E.Engine self.old x (letters ++ out.old) clocks c tree
             → O.own self.old.owners node ≡ Some session → O.end_of self.old.owners node ≡ Some lease.until → LivesIn (last c.register.chain) session → IsUnder self.old node session
-            → OnOk result (Turned (E.step self.old.engine) (Stand G.Register O.Owners S.Store E.Engine self.new x (letters ++ out.new) clocks) c tree []) }
+            → OnOk result (Turned (Some session) (E.step self.old.engine) (Stand G.Register O.Owners S.Store E.Engine self.new x (letters ++ out.new) clocks) c tree []) }
         ensures waits { (said : List Said) (owners : O) (first : Machine) → OfNode self.old node (λ machine. machine.tidy ≡ first.tidy)
             → OfNode self.old node (Waits O.Owners E.Engine self.old.engine node moment lease.session said owners self.old.owners (S.out_of self.old.store node) (Asking G.Register O.Owners self.old node) first)
             → OnOk result (OfNode self.new node (Waits O.Owners E.Engine self.new.engine node moment lease.session said owners self.new.owners (S.out_of self.new.store node) (Asking G.Register O.Owners self.new node) first)) }

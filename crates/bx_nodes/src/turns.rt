@@ -9,8 +9,8 @@ ghost use Rattle.bx_node_steps.specs.Calls.{AnswersCalls, AreApart};
 ghost use Rattle.bx_node_steps.specs.Gives.{marked};
 ghost use Rattle.bx_node_steps.specs.Tidying.{TidyGoes};
 ghost use Rattle.bx_nodes.specs.Cleaning.{CleansArea, IsHeldUp};
-ghost use Rattle.bx_nodes.specs.Standing.{Asking, BeReady, HasLease, IsUnder, OfBoth, OfNode, Ready, Rests, Stand};
-ghost use Rattle.bx_nodes.specs.Turns.{OnlyMachine, OnlyStore, TurnEnds, Turned, Waits, newest_of, noting};
+ghost use Rattle.bx_nodes.specs.Standing.{Asking, BeReady, HasLease, IsUnder, IsUnderOwn, OfBoth, OfNode, Ready, Rests, Stand};
+ghost use Rattle.bx_nodes.specs.Turns.{OnlyMachine, OnlyStore, TurnEnds, Turned, TurnedUnder, Waits, newest_of, noting};
 ghost use Rattle.bx_post.specs.declared.packets.Letter.{Letter};
 ghost use Rattle.bx_world_standing.specs.Parts.{Clocks};
 ghost use Rattle.bx_world_standing.specs.Standing.{Course};
@@ -47,7 +47,7 @@ impl<G: Register, O: Owners, S: Store, E: Engine> Nodes<G, O, S, E> {
         requires moment { reading ≤ 4294967295999 }
         ensures stands { (x : Disks) (letters : List Letter) (clocks : Clocks) (c : Course) (tree : E.Tree) → clocks.down (Node node) ≡ false → clocks.greatest ≤ reading + 500
             → Stand G.Register O.Owners S.Store E.Engine self.old x (letters ++ out.old) clocks c tree
-            → IfOk result (λ said. Turned (E.step self.old.engine) (Stand G.Register O.Owners S.Store E.Engine self.new x (letters ++ out.new) clocks) c tree said.items) }
+            → IfOk result (λ said. TurnedUnder (IsUnderOwn O.Owners self.old node) (E.step self.old.engine) (Stand G.Register O.Owners S.Store E.Engine self.new x (letters ++ out.new) clocks) c tree said.items) }
         ensures waits { (lease : Lease) → HasLease O.Owners S.Store self.old node reading lease → IfOk result (λ said. OfBoth self.old self.new node (λ old new. TurnEnds O.Owners E.Engine self.new.engine node reading lease.session (S.answer self.old.store node) (S.asked self.old.store node) said.items self.old.owners self.new.owners (S.out_of self.new.store node) (Asking G.Register O.Owners self.new node) (noting (O.asks self.old.owners node) old) new)) }
         ensures answers { IfOk result (λ said. OfBoth self.old self.new node (λ old new. AreApart old → AnswersCalls reading old new said.items)) }
         ensures notes { OnOk result (OfNode self.new node (λ machine. machine.mark ≡ marked (first_of (O.asks self.new.owners node)) machine)) }
@@ -80,7 +80,7 @@ impl<G: Register, O: Owners, S: Store, E: Engine> Nodes<G, O, S, E> {
         requires moment { reading ≤ 4294967295999 }
         ensures stands { (x : Disks) (letters : List Letter) (clocks : Clocks) (c : Course) (tree : E.Tree) → clocks.down (Node node) ≡ false → clocks.greatest ≤ reading + 500
             → Stand G.Register O.Owners S.Store E.Engine self.old x (letters ++ out.old) clocks c tree
-            → IfOk result (λ said. Turned (E.step self.old.engine) (Stand G.Register O.Owners S.Store E.Engine self.new x (letters ++ out.new) clocks) c tree said.items) }
+            → IfOk result (λ said. TurnedUnder (IsUnderOwn O.Owners self.old node) (E.step self.old.engine) (Stand G.Register O.Owners S.Store E.Engine self.new x (letters ++ out.new) clocks) c tree said.items) }
         ensures waits { (lease : Lease) → HasLease O.Owners S.Store self.old node reading lease → IfOk result (λ said. OfBoth self.old self.new node (λ old new. TurnEnds O.Owners E.Engine self.new.engine node reading lease.session (S.answer self.old.store node) (S.asked self.old.store node) said.items self.old.owners self.new.owners (S.out_of self.new.store node) (Asking G.Register O.Owners self.new node) old new)) }
         ensures answers { IfOk result (λ said. OfBoth self.old self.new node (λ old new. AreApart old → AnswersCalls reading old new said.items)) }
         ensures session { OnOk result (OfBoth self.old self.new node (λ old new. new.session ≡ old.session)) }
@@ -123,7 +123,7 @@ impl<G: Register, O: Owners, S: Store, E: Engine> Nodes<G, O, S, E> {
         requires busy { (S.out_of self.old.store node ≡ None) → Rests self.old node }
         ensures stands { (x : Disks) (letters : List Letter) (clocks : Clocks) (c : Course) (tree : E.Tree) (session : ℕ) → clocks.down (Node node) ≡ false → Stand G.Register O.Owners S.Store E.Engine self.old x (letters ++ out.old) clocks c tree
             → O.own self.old.owners node ≡ Some session → O.end_of self.old.owners node ≡ Some lease.until → LivesIn (last c.register.chain) session → IsUnder self.old node session
-            → IfOk result (λ said. Turned (E.step self.old.engine) (Stand G.Register O.Owners S.Store E.Engine self.new x (letters ++ out.new) clocks) c tree said.items) }
+            → IfOk result (λ said. Turned (Some session) (E.step self.old.engine) (Stand G.Register O.Owners S.Store E.Engine self.new x (letters ++ out.new) clocks) c tree said.items) }
         ensures waits { IfOk result (λ said. (IsSome (S.out_of self.new.store node) × (self.new.owners ≡ self.old.owners)) ⊎ ((S.out_of self.old.store node ≡ None) × OfBoth self.old self.new node (Waits O.Owners E.Engine self.new.engine node reading lease.session said.items self.old.owners self.new.owners (S.out_of self.new.store node) (Asking G.Register O.Owners self.new node)))) }
         ensures answers { IfOk result (λ said. OfBoth self.old self.new node (λ old new. AreApart old → AnswersCalls reading old new said.items)) }
         ensures session { OnOk result (OfBoth self.old self.new node (λ old new. new.session ≡ old.session)) }
@@ -168,7 +168,7 @@ impl<G: Register, O: Owners, S: Store, E: Engine> Nodes<G, O, S, E> {
         requires moment { reading ≤ 4294967295999 }
         ensures stands { (x : Disks) (letters : List Letter) (clocks : Clocks) (c : Course) (tree : E.Tree) (session : ℕ) → clocks.down (Node node) ≡ false → Stand G.Register O.Owners S.Store E.Engine self.old x (letters ++ out.old) clocks c tree
             → O.own self.old.owners node ≡ Some session → O.end_of self.old.owners node ≡ Some lease.until → LivesIn (last c.register.chain) session → IsUnder self.old node session
-            → IfOk result (λ said. Turned (E.step self.old.engine) (Stand G.Register O.Owners S.Store E.Engine self.new x (letters ++ out.new) clocks) c tree said.items) }
+            → IfOk result (λ said. Turned (Some session) (E.step self.old.engine) (Stand G.Register O.Owners S.Store E.Engine self.new x (letters ++ out.new) clocks) c tree said.items) }
         ensures waits { IfOk result (λ said. OfBoth self.old self.new node (Waits O.Owners E.Engine self.new.engine node reading lease.session said.items self.old.owners self.new.owners (S.out_of self.new.store node) (Asking G.Register O.Owners self.new node))) }
         ensures answers { IfOk result (λ said. OfBoth self.old self.new node (λ old new. AreApart old → AnswersCalls reading old new said.items)) }
         ensures session { OnOk result (OfBoth self.old self.new node (λ old new. new.session ≡ old.session)) }

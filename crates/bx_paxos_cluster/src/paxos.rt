@@ -92,6 +92,7 @@ impl Paxos {
         ensures failed { OnErr result (self.new ≡ self.old) }
         ensures made { (self.new.made ≡ self.old.made) × (self.new.nodes ≡ self.old.nodes) }
         ensures members { R.tells rack.old → SameMembers (R.state rack.old) (R.state rack.new) × SameLabels (R.state rack.old) (R.state rack.new) }
+        ensures memory { IsErrOf result MemoryFails → NoneRose (R.faults rack.old) (R.faults rack.new) (R.faults_of rack.old) (R.faults_of rack.new) }
         ensures rack { Counted R.Rack rack.old rack.new result DiskFails }
     {
         let origins = Origins::made();

@@ -187,6 +187,7 @@ impl Machine {
         ensures name { name_of self.new ≡ name_of self.old }
         ensures course { course_of self.new ≡ course_of self.old }
         ensures calm { R.tells rack.old → IsCalm (R.state rack.old) (R.state rack.new) }
+        ensures memory { IsErrOf result MemoryFails → NoneRose (R.faults rack.old) (R.faults rack.new) (R.faults_of rack.old) (R.faults_of rack.new) }
         ensures rack { Counted R.Rack rack.old rack.new result DiskFails }
     {
         match self {

@@ -1,11 +1,12 @@
 //! Machines that are made, and begin.
 
-ghost use Rattle.std.specs.Prelude.{◌≡◌, ℕ, ◌+◌, ◌^◌, ◌<◌, ◌≤◌, ◌++◌, ◌∷◌, [], IfOk, OnOk, slice_index};
+ghost use Rattle.std.specs.Prelude.{◌≡◌, ℕ, ◌+◌, ◌^◌, ◌<◌, ◌≤◌, ◌++◌, ◌∷◌, [], IfOk, IsErrOf, OnOk, slice_index};
 ghost use Rattle.bx_cell.specs.Images.{EachSure};
+ghost use Rattle.bx_disk.specs.Counts.{NoneRose};
 ghost use Rattle.bx_disk.specs.Kept.{Counted};
 ghost use Rattle.bx_facts.specs.Disks.{SameLabels, SameMembers};
 ghost use Rattle.bx_facts.specs.Machines.{IsMachine};
-ghost use Rattle.bx_facts.specs.declared.input.FactError.TheVariants.{Disk as DiskFails};
+ghost use Rattle.bx_facts.specs.declared.input.FactError.TheVariants.{Disk as DiskFails, OutOfMemory as MemoryFails};
 ghost use Rattle.bx_global.specs.Allowed.{IsAllowed};
 ghost use Rattle.bx_paxos.specs.Reading.{AreMade};
 ghost use Rattle.bx_paxos_found.specs.Origins.{origin_in};
@@ -114,6 +115,7 @@ pub fn begin_all<R: Rack>(
     ensures begun { R.tells rack.old → HasFirst state.now (R.state rack.old).reads → IfOk result (λ all. AreBegun state.now (R.state rack.new) all.items) }
     ensures courses { IfOk result (λ all. AreIdle state.now all.items) }
     ensures calm { R.tells rack.old → IsCalm (R.state rack.old) (R.state rack.new) }
+    ensures memory { IsErrOf result MemoryFails → NoneRose (R.faults rack.old) (R.faults rack.new) (R.faults_of rack.old) (R.faults_of rack.new) }
     ensures rack { Counted R.Rack rack.old rack.new result DiskFails }
 {
     let mut all = Vec::new(alloc);
@@ -144,6 +146,7 @@ pub fn begin_anew<R: Rack>(
     ensures courses { IfOk result (λ all. AreIdle state.now all.items) }
     ensures cells { R.tells rack.old → OnOk result (EachSure (R.state rack.new) (HasFirst state.now)) }
     ensures members { R.tells rack.old → SameMembers (R.state rack.old) (R.state rack.new) × SameLabels (R.state rack.old) (R.state rack.new) }
+    ensures memory { IsErrOf result MemoryFails → NoneRose (R.faults rack.old) (R.faults rack.new) (R.faults_of rack.old) (R.faults_of rack.new) }
     ensures rack { Counted R.Rack rack.old rack.new result DiskFails }
 {
     let value = first_value(alloc, state)?;

@@ -1,9 +1,9 @@
 -- What the one-machine forms are made for: no node but theirs has a session, and the state that they are made with names no boot.
 use Rattle.std.proofs.Common.{◌≡◌, ℕ, zero, suc, ◌+◌, ◌≤◌, false, List, [], ◌∷◌, Option, Some, None, length, refl, ap, arith}
-use Rattle.std.specs.Prelude.{IfSome, if◌then◌else◌, nat_lt, replicate, slice_get}
+use Rattle.std.specs.Prelude.{if◌then◌else◌, nat_lt}
 use Rattle.std.proofs.lemmas.Bool.Decides.{nat_tests}
 use Rattle.bx_facts.specs.Writes.{NamesUpTo}
-use Rattle.bx_global.specs.Opening.{first_device}
+use Rattle.bx_format_openings.proofs.Opening.{opening_devices, opening_names}
 use Rattle.bx_global.specs.declared.state.GlobalState.{GlobalState}
 use Rattle.bx_plain_store.specs.Fits.{HasSessionsOf}
 use Rattle.bx_plain.specs.Begin.{plain_state}
@@ -22,16 +22,7 @@ pub no_writer : (s : GlobalState) (nodes : ℕ) (owns : List (Option ℕ)) (node
 no_writer s nodes owns node has beyond = let long = has.long in beyond_all owns node (omega (arith, long, beyond))
 
 pub plain_devices : (nodes devices : ℕ) → length (plain_state nodes devices).devices ≡ devices
-plain_devices nodes devices = many devices
-  where
-    many : (n : ℕ) → length (replicate n first_device) ≡ n
-    many zero = refl
-    many (suc n) = ap suc (many n)
-
-first_names : (devices device : ℕ) → IfSome (slice_get (replicate devices first_device) device) (λ row. (row.boot_a ≤ 0) × (row.boot_b ≤ 0))
-first_names zero device = tt
-first_names (suc n) zero = (omega arith, omega arith)
-first_names (suc n) (suc device) = first_names n device
+plain_devices nodes devices = opening_devices nodes devices
 
 pub plain_names : (nodes devices : ℕ) → NamesUpTo 0 (plain_state nodes devices)
-plain_names nodes devices = record { each = λ device. first_names devices device }
+plain_names nodes devices = record { each = (opening_names nodes devices).each }

@@ -10,7 +10,7 @@ use Rattle.bx_plain_repair.specs.Spared.{SparesOthers}
 use Rattle.bx_model.specs.declared.tree.Tree.{Tree}
 use Rattle.bx_node_openings.specs.Resting.{VolumeRests}
 use Rattle.bx_places.specs.Places.{IsBlock, block_place, gate_place, log_start}
-use Rattle.bx_plain_openings.proofs.Alike.{first_members}
+use Rattle.bx_format_openings.proofs.Alike.{first_members}
 use Rattle.bx_plain_openings.proofs.Left.{IsShutGate}
 use Rattle.bx_redo.proofs.Settled.{one_disk}
 use Rattle.bx_redo.proofs.Within.{behind_it, within_it}

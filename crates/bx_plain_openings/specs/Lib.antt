@@ -1,1 +1,2 @@
+pub use Rattle.bx_format_openings
 pub use Rattle.bx_node_openings

@@ -12,7 +12,7 @@ use Rattle.bx_plain_repair.specs.Recovering.{IsFoundOpen}
 use Rattle.bx_plain_repair.specs.Spared.{SparesOthers}
 use Rattle.bx_model.specs.declared.tree.Tree.{Tree}
 use Rattle.bx_node_calls.specs.Turns.{HasSession}
-use Rattle.bx_plain_standing.specs.bx_plain_openings.proofs.Alike.{first_members}
+use Rattle.bx_plain_standing.specs.bx_plain_openings.specs.bx_format_openings.proofs.Alike.{first_members}
 use Rattle.bx_plain_service.specs.Beginning.{RestsWith}
 use Rattle.bx_plain_service.specs.Events.{doubts_at}
 use Rattle.bx_plain_service.specs.Returning.{Recovers}

@@ -22,7 +22,7 @@ use Rattle.bx_node_machines.specs.Nodes.{NodesStand, known_of}
 use Rattle.bx_plain_openings.specs.bx_node_openings.proofs.Kept.{rests_in, settled_in}
 use Rattle.bx_facts.specs.declared.owners.Owners as owners
 use Rattle.bx_plain.specs.Begin.{plain_rows, plain_state}
-use Rattle.bx_plain_openings.proofs.Alike.{first_members}
+use Rattle.bx_plain_openings.specs.bx_format_openings.proofs.Alike.{first_members}
 use Rattle.bx_plain_openings.proofs.Left.{IsShutGate, crashed_shut, crashed_volume, slot_shut}
 use Rattle.bx_plain_openings.proofs.Recovered.{closed_rests, labels_stay, others_stay_shut}
 use Rattle.bx_plain_standing.proofs.Left.{left}

@@ -7,7 +7,7 @@ use Rattle.bx_plain_repair.specs.Left.{IsLeft}
 use Rattle.bx_model.specs.declared.tree.Tree.{Tree}
 use Rattle.bx_plain_openings.specs.bx_node_openings.specs.Resting.{VolumeRests}
 use Rattle.bx_plain.specs.Begin.{plain_state}
-use Rattle.bx_plain_openings.proofs.Alike.{first_members}
+use Rattle.bx_plain_openings.specs.bx_format_openings.proofs.Alike.{first_members}
 use Rattle.bx_plain_openings.proofs.Left.{IsShutGate}
 use Rattle.bx_service.specs.Rounds.{Doubt}
 use Rattle.bx_steps.specs.Steps.{StandsWith}

@@ -5,6 +5,15 @@ use Rattle.bx_base.specs.declared.names.Point.{Point}
 use Rattle.bx_desk.specs.Desks.{AtDesk, empty_desk}
 use Rattle.bx_desk.specs.Nodes.{IsDeskOf}
 use Rattle.bx_desk.proofs.Going.{desk_opened}
+use Rattle.bx_disk.specs.Disks.{Disks}
+use Rattle.bx_facts.specs.declared.owners.Owners as owners
+use Rattle.bx_facts.specs.declared.register.Register as register
+use Rattle.bx_facts.specs.declared.store.Store as store
+use Rattle.bx_post.specs.declared.packets.Letter.{Letter}
+use Rattle.bx_views.specs.declared.engine.Engine as engine
+use Rattle.bx_world_machines.specs.Standing as machines
+use Rattle.bx_world_machines.specs.declared.machines.Machines.{Machines}
+use Rattle.bx_world_standing.specs.Standing.{Course}
 use Rattle.bx_history.specs.Account.{AwaitsNewest}
 use Rattle.bx_history.specs.Parts.{waiting}
 use Rattle.bx_history.specs.Trace.{Entry}
@@ -14,7 +23,11 @@ use Rattle.bx_node_steps.specs.Calls.{Acting, IsThat, WaitsAt, acting_of, call_w
 use Rattle.bx_node_steps.specs.declared.machine.Machine.{Machine}
 use Rattle.bx_node_tries.specs.declared.round.Waiting.{Waiting}
 use Rattle.bx_cluster.specs.Runs.{rules}
+use Rattle.bx_rows.specs.declared.session.SessionRow.{SessionRow}
+use Rattle.bx_world.specs.Doubts.{AreOfTaken}
 use Rattle.bx_world.specs.Led.{AreDesks, AreLeft}
+use Rattle.bx_world_standing.specs.bx_world_logs.specs.Logs.{Slot}
+use Rattle.bx_world_standing.specs.bx_world_views.specs.Views.{Doubt}
 use Rattle.bx_world.specs.Outcomes.{empty_desks}
 
 pub accounts_none : {Tree : Type 0} (Step : Tree → Entry → Tree → Type 0) (AtOnce : List ℕ → Type 0) (first : Tree) → AwaitsNewest Step (rules AtOnce) first [] [] first (waiting [])
@@ -68,3 +81,16 @@ left_none machines none = record {
   waits = λ node call. (λ w. absurd (none node call w), λ there. absurd there);
   acting = λ node acts is. absurd (none node acts.call (acts_waits (slice_get machines node) acts is));
 }
+
+-- ---- what is in doubt
+
+pub doubted_none : (rows : List SessionRow) (slots : ℕ → Slot) (doubts : ℕ → Option Doubt) → ((session : ℕ) → doubts session ≡ None) → AreOfTaken [] rows slots doubts
+doubted_none rows slots doubts none = record {
+  each = λ session doubt deed is. absurd (let wrong : None ≡ Some doubt = sym (none session) ∙ is.is in cc);
+  once = λ session other doubt twin deed act is also same. absurd (let wrong : None ≡ Some doubt = sym (none session) ∙ is.is in cc);
+}
+
+-- with no letters under way
+pub stands_first : {G O S E T : Type 0} (g : register.Ghosts G) (o : owners.Ghosts O) (st : store.Ghosts S) (e : engine.Ghosts E T) (machines_are : Machines G O S E T) (letters : List Letter) (x : Disks) (tree : T) (course : Course) → letters ≡ []
+    → machines.StandsBy g o st e course machines_are [] x tree → machines.StandsBy g o st e course machines_are letters x tree
+stands_first g o st e machines_are letters x tree course none standing = subst (λ (l : List Letter). machines.StandsBy g o st e course machines_are l x tree) (sym none) standing

@@ -16,32 +16,33 @@ use Rattle.bx_post.specs.Posts.{fresh}
 use Rattle.bx_views.specs.declared.engine.Engine as engine
 use Rattle.bx_world.specs.Calls.{Turns}
 use Rattle.bx_world.specs.Outcomes.{EndsSaid}
-use Rattle.bx_world.specs.World.{IsReady, Standing, letters_in}
+use Rattle.bx_world.specs.World.{IsReady, StandsBehind, StandsBy, letters_in}
 use Rattle.bx_world.specs.declared.world.World.{World}
 use Rattle.bx_world.proofs.Ending.{ready_said}
 use Rattle.bx_world.proofs.Letters.{letters_sent}
 use Rattle.bx_world_machines.specs.Answering.{Answered}
 use Rattle.bx_world_machines.specs.Standing as machines
 use Rattle.bx_world_machines.specs.declared.machines.Machines.{Machines}
+use Rattle.bx_world_standing.specs.Standing.{Course}
 
 module _ {G O S E T : Type 0} (g : register.Ghosts G) (o : owners.Ghosts O) (st : store.Ghosts S) (e : engine.Ghosts E T) (old new : World G O S E T) (heard : Machines G O S E T) (same : new.machines ≡ heard) where
   -- what the machines come to stand for, the world does with what they send
-  pub leads_then : (x : Disks) (said : List Said) (box out : List Letter) → new.post ≡ old.post ++ map fresh out → box ≡ [] → (tree : T)
-      → (machines.Standing g o st e old.machines (letters_in old.post ++ box) x tree → Rounded e old.machines.nodes.engine (machines.Standing g o st e heard (letters_in old.post ++ out) x) tree said)
-      → Standing g o st e old x tree → Rounded e old.machines.nodes.engine (Standing g o st e new x) tree said
-  leads_then x said box out posted empty tree leads standing =
-      let rounded = leads (subst (λ (l : List Letter). machines.Standing g o st e old.machines l x tree) (sym (ap (λ (l : List Letter). letters_in old.post ++ l) empty ∙ append-nil (letters_in old.post))) standing) in
+  pub leads_then : (x : Disks) (said : List Said) (box out : List Letter) → new.post ≡ old.post ++ map fresh out → box ≡ [] → (tree : T) (c : Course)
+      → (machines.StandsBy g o st e c old.machines (letters_in old.post ++ box) x tree → Rounded e old.machines.nodes.engine (machines.StandsBehind g o st e c said heard (letters_in old.post ++ out) x) tree said)
+      → StandsBy g o st e c old x tree → Rounded e old.machines.nodes.engine (StandsBehind g o st e c said new x) tree said
+  leads_then x said box out posted empty tree c leads standing =
+      let rounded = leads (subst (λ (l : List Letter). machines.StandsBy g o st e c old.machines l x tree) (sym (ap (λ (l : List Letter). letters_in old.post ++ l) empty ∙ append-nil (letters_in old.post))) standing) in
       record {
         next = rounded.next;
         leads = rounded.leads;
-        stands = subst (λ (m : Machines G O S E T). machines.Standing g o st e m (letters_in new.post) x rounded.next) (sym same)
-            (subst (λ (l : List Letter). machines.Standing g o st e heard l x rounded.next) (sym (ap letters_in posted ∙ letters_sent old.post out)) rounded.stands);
+        stands = subst (λ (m : Machines G O S E T). machines.StandsBehind g o st e c said m (letters_in new.post) x rounded.next) (sym same)
+            (subst (λ (l : List Letter). machines.StandsBehind g o st e c said heard l x rounded.next) (sym (ap letters_in posted ∙ letters_sent old.post out)) rounded.stands);
       }
 
   -- a node had its turn
   module _ (reading node : ℕ) (x : Disks) (said : List Said) (box out : List Letter) (outcome : Outcome) (ends : EndsSaid (Node node) said out old.post new.post old.desks.items new.desks.items outcome) (empty : box ≡ []) where
     pub turns_then : Answered (Some reading) (Node node) old.machines.nodes.machines.items heard.nodes.machines.items said → heard.latest ≡ old.machines.latest → heard.nodes.engine ≡ old.machines.nodes.engine
-        → ((tree : T) → machines.Standing g o st e old.machines (letters_in old.post ++ box) x tree → Rounded e old.machines.nodes.engine (machines.Standing g o st e heard (letters_in old.post ++ out) x) tree said)
+        → ((tree : T) (c : Course) → machines.StandsBy g o st e c old.machines (letters_in old.post ++ box) x tree → Rounded e old.machines.nodes.engine (machines.StandsBehind g o st e c said heard (letters_in old.post ++ out) x) tree said)
         → Turns g o st e reading node old new x outcome
     turns_then answers latest engine leads = record {
       said = said;
@@ -50,7 +51,7 @@ module _ {G O S E T : Type 0} (g : register.Ghosts G) (o : owners.Ghosts O) (st 
       desks = ends.desks;
       latest = ap (λ (m : Machines G O S E T). m.latest) same ∙ latest;
       engine = ap (λ (m : Machines G O S E T). m.nodes.engine) same ∙ engine;
-      leads = λ tree. leads_then x said box out ends.post empty tree (leads tree);
+      leads = λ tree c. leads_then x said box out ends.post empty tree c (leads tree c);
     }
 
   pub ready_turn : (node : ℕ) (said : List Said) (out : List Letter) (outcome : Outcome) → EndsSaid (Node node) said out old.post new.post old.desks.items new.desks.items outcome → (sizes : List ℕ) → machines.IsReady g o st e heard sizes

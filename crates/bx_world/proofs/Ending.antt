@@ -30,6 +30,7 @@ use Rattle.bx_world.specs.declared.world.World.{World}
 use Rattle.bx_world.proofs.Letters.{letters_sent}
 use Rattle.bx_world_events.specs.declared.event.Event.{Event}
 use Rattle.bx_world_events.specs.Events.{reading_of}
+use Rattle.bx_world_standing.specs.Standing.{Course}
 use Rattle.bx_world_machines.specs.Answering.{Answered}
 use Rattle.bx_world_machines.specs.Machines.{is_up, up_without}
 use Rattle.bx_world_machines.specs.Standing as machines
@@ -116,7 +117,7 @@ module _ {G O S E T : Type 0} (g : register.Ghosts G) (o : owners.Ghosts O) (st 
 
     pub says_then : (reading : Option ℕ) (Tells : Type 0) (x y : Disks) (box : List Letter) → IsBy (length old.desks.items) at said → letters_in middle ≡ letters_in old.post → box ≡ []
         → Answered reading at old.machines.nodes.machines.items heard.nodes.machines.items said → heard.latest ≡ old.machines.latest → heard.nodes.engine ≡ old.machines.nodes.engine
-        → (Tells → (tree : T) → machines.Standing g o st e old.machines (letters_in old.post ++ box) x tree → Rounded e old.machines.nodes.engine (machines.Standing g o st e heard (letters_in old.post ++ out) y) tree said)
+        → (Tells → (tree : T) (c : Course) → machines.StandsBy g o st e c old.machines (letters_in old.post ++ box) x tree → Rounded e old.machines.nodes.engine (machines.StandsBehind g o st e c said heard (letters_in old.post ++ out) y) tree said)
         → Says g o st e reading at old new Tells x y outcome
     says_then reading Tells x y box by letters empty answers latest engine leads = record {
       said = said;
@@ -126,13 +127,13 @@ module _ {G O S E T : Type 0} (g : register.Ghosts G) (o : owners.Ghosts O) (st 
       desks = ends.desks;
       latest = ap (λ (m : Machines G O S E T). m.latest) same ∙ latest;
       engine = ap (λ (m : Machines G O S E T). m.nodes.engine) same ∙ engine;
-      leads = λ tells tree standing.
-          let rounded = leads tells tree (subst (λ (l : List Letter). machines.Standing g o st e old.machines l x tree) (sym (ap (λ (l : List Letter). letters_in old.post ++ l) empty ∙ append-nil (letters_in old.post))) standing) in
+      leads = λ tells tree c standing.
+          let rounded = leads tells tree c (subst (λ (l : List Letter). machines.StandsBy g o st e c old.machines l x tree) (sym (ap (λ (l : List Letter). letters_in old.post ++ l) empty ∙ append-nil (letters_in old.post))) standing) in
           record {
             next = rounded.next;
             leads = rounded.leads;
-            stands = subst (λ (m : Machines G O S E T). machines.Standing g o st e m (letters_in new.post) y rounded.next) (sym same)
-                (subst (λ (l : List Letter). machines.Standing g o st e heard l y rounded.next) (sym (ap letters_in ends.post ∙ letters_sent middle out ∙ ap (λ (l : List Letter). l ++ out) letters)) rounded.stands);
+            stands = subst (λ (m : Machines G O S E T). machines.StandsBehind g o st e c said m (letters_in new.post) y rounded.next) (sym same)
+                (subst (λ (l : List Letter). machines.StandsBehind g o st e c said heard l y rounded.next) (sym (ap letters_in ends.post ∙ letters_sent middle out ∙ ap (λ (l : List Letter). l ++ out) letters)) rounded.stands);
           };
     }
 
@@ -158,16 +159,16 @@ module _ {G O S E T : Type 0} (g : register.Ghosts G) (o : owners.Ghosts O) (st 
     }
 
     pub stops_then : (Tells : Type 0) (x y : Disks) (box : List Letter) → letters_in middle ≡ letters_in old.post → box ≡ [] → Empties at old.machines.nodes.machines.items heard.nodes.machines.items → heard.latest ≡ old.machines.latest → heard.nodes.engine ≡ old.machines.nodes.engine
-        → (Tells → (tree : T) → machines.Standing g o st e old.machines (letters_in old.post ++ box) x tree → machines.Standing g o st e heard (letters_in old.post ++ box) y tree) → Stops g o st e at old new Tells x y outcome
+        → (Tells → (tree : T) (c : Course) → machines.StandsBy g o st e c old.machines (letters_in old.post ++ box) x tree → machines.StandsBehind g o st e c [] heard (letters_in old.post ++ box) y tree) → Stops g o st e at old new Tells x y outcome
     stops_then Tells x y box letters empty empties latest engine stands = record {
       outcome_is = ends.outcome_is;
       empties = subst (λ (m : Machines G O S E T). Empties at old.machines.nodes.machines.items m.nodes.machines.items) (sym same) empties;
       desks = ends.desks;
       latest = ap (λ (m : Machines G O S E T). m.latest) same ∙ latest;
       engine = ap (λ (m : Machines G O S E T). m.nodes.engine) same ∙ engine;
-      stands = λ tells tree standing.
+      stands = λ tells tree c standing.
           let none : letters_in old.post ++ box ≡ letters_in old.post = ap (λ (l : List Letter). letters_in old.post ++ l) empty ∙ append-nil (letters_in old.post) in
-          subst (λ (m : Machines G O S E T). machines.Standing g o st e m (letters_in new.post) y tree) (sym same)
-          (subst (λ (l : List Letter). machines.Standing g o st e heard l y tree) (none ∙ sym letters ∙ sym (ap letters_in ends.post))
-          (stands tells tree (subst (λ (l : List Letter). machines.Standing g o st e old.machines l x tree) (sym none) standing)));
+          subst (λ (m : Machines G O S E T). machines.StandsBehind g o st e c [] m (letters_in new.post) y tree) (sym same)
+          (subst (λ (l : List Letter). machines.StandsBehind g o st e c [] heard l y tree) (none ∙ sym letters ∙ sym (ap letters_in ends.post))
+          (stands tells tree c (subst (λ (l : List Letter). machines.StandsBy g o st e c old.machines l x tree) (sym none) standing)));
     }

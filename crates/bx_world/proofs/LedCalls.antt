@@ -30,11 +30,12 @@ use Rattle.bx_world.specs.Calls.{Arrives, IsNewTo, IsPassed, Passes, Repeats, Ta
 use Rattle.bx_world.specs.Calls.IsPassed.{Crowded, NoCall, Waits as WaitsThere}
 use Rattle.bx_cluster.specs.Runs.{StepOf, rules}
 use Rattle.bx_world.specs.Led.{AreDesks, Led, taking_as}
-use Rattle.bx_world.specs.World.{IsReady, Standing}
+use Rattle.bx_world.specs.World.{IsReady, StandsBehind}
 use Rattle.bx_world.specs.declared.world.World.{World}
 use Rattle.bx_world.proofs.Beginning.{acts_waits}
 use Rattle.bx_world.proofs.Leading.{set_here, set_there}
 use Rattle.bx_world.proofs.Leads.{Comes, WaitsWith, answers_called, answers_same, patient}
+use Rattle.bx_world.proofs.Doubted.{behind_by}
 use Rattle.bx_world.proofs.LedOn.{AreNamed, are_named, desks_told, led_with, told_led}
 use Rattle.bx_world.proofs.Restarting.{part_told}
 use Rattle.bx_world.proofs.Saying.{answered_among, lines_told, served_back}
@@ -82,7 +83,7 @@ module _ {G O S E T : Type 0} (g : register.Ghosts G) (o : owners.Ghosts O) (st 
         repeats = sym is.no_repeat;
         sent = tt;
       })
-      turns.answers (turns.leads led.tree led.stands) turns.latest turns.desks)
+      turns.answers (turns.leads led.tree led.stands.course (led.stands, refl)) turns.latest turns.desks)
 
   -- ---- a kept answer is sent again
 
@@ -105,7 +106,11 @@ module _ {G O S E T : Type 0} (g : register.Ghosts G) (o : owners.Ghosts O) (st 
         sent = is.sent;
       })
       (answers_same (Some reading) node old.machines.nodes.machines.items)
-      (record { next = led.tree; leads = refl; stands = subst (λ (w : World G O S E T). Standing g o st e w x led.tree) repeats.same (repeats.stands led.tree led.stands) })
+      (record {
+        next = led.tree;
+        leads = refl;
+        stands = subst (λ (w : World G O S E T). StandsBehind g o st e led.stands.course [] w x led.tree) repeats.same (behind_by g o st e led.stands.course new x led.tree (repeats.stands led.tree led.stands.course (led.stands, refl)));
+      })
       led.counted
       (λ at desk there. desk_stays at parts (part_with (going (Some (arrival_of node client bytes)) (Some reading) false) None [] again ∷ parts) desk (led.desks at desk there) refl refl)))
 
@@ -195,7 +200,7 @@ module _ {G O S E T : Type 0} (g : register.Ghosts G) (o : owners.Ghosts O) (st 
         let latest : new.machines.latest ≡ suc (taken_count (trace_of parts)) = (let next = number in let is = takes.latest in omega (arith, next, is)) in
         subst (λ (out : Outcome). Led g o st e new x first (part_told (Some here) (Some reading) (Took call.number node call.client call.message ∷ []) out ∷ parts)) (sym takes.outcome_is)
         (subst (λ (l : List TraceLine). Led g o st e new x first (record { what = going (Some here) (Some reading) false; lines = l } ∷ parts)) (sym (lines_told node said (Took call.number node call.client call.message ∷ []) []))
-        (led_with g o st e old new x x first parts led named takes.engine (Some here) (Some reading) (Some taking) None node Waited written said comes answered (takes.leads led.tree led.stands) latest
+        (led_with g o st e old new x x first parts led named takes.engine (Some here) (Some reading) (Some taking) None node Waited written said comes answered (takes.leads led.tree led.stands.course (led.stands, refl)) latest
         (desks_told g o st e old new x x first parts led named takes.engine (Some here) (Some reading) (Some taking) None node Waited written said comes answered (slice_set old.desks.items node (with_call takes.desk (asked_of call))) desks_taken takes.desks)))
 
 -- ---- a datagram arrives

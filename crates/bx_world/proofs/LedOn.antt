@@ -1,6 +1,7 @@
 -- A world that is led goes on so, by what its machines hear and by datagrams that arrive.
-use Rattle.std.proofs.Common.{◌≡◌, ◌∙◌, ⊎_elim, ℕ, false, List, [], ◌∷◌, ◌++◌, length, Option, None, Some, IfSome, refl, sym, subst, map}
-use Rattle.std.specs.Prelude.{slice_get}
+use Rattle.std.proofs.Common.{◌≡◌, ◌≢◌, ◌∙◌, ⊎_elim, ℕ, ◌+◌, ◌≤◌, false, List, [], ◌∷◌, ◌++◌, length, Option, None, Some, IfSome, refl, sym, subst, map, arith}
+use Rattle.std.specs.Prelude.{reverse, slice_get}
+use Rattle.std.proofs.lemmas.Bool.{false_from_ne_true}
 use Rattle.bx_base.specs.declared.names.Actor.{Actor}
 use Rattle.bx_base.specs.declared.names.Actor.TheVariants.{Member, Node, Replica, Server}
 use Rattle.bx_cluster.specs.declared.outcome.Outcome.{Outcome}
@@ -15,26 +16,28 @@ use Rattle.bx_history.specs.Account.{AwaitsNewest}
 use Rattle.bx_history.specs.Parts.{Arrival, Part, trace_of, waiting}
 use Rattle.bx_history.specs.Placed.{Repeat}
 use Rattle.bx_history.specs.Trace.{Taking, taken_count}
-use Rattle.bx_history.proofs.OnePart.{going, part_with, took_lines}
-use Rattle.bx_history.proofs.Serving.{Served, entry_by}
+use Rattle.bx_history.proofs.OnePart.{going, lines_lack, part_with, took_lines}
+use Rattle.bx_history.proofs.Serving.{Served, entry_by, is_among}
 use Rattle.bx_node_calls.specs.Turns.{Rounded, acting_at, acting_in}
 use Rattle.bx_node_calls.specs.Waits.{Waits}
 use Rattle.bx_node_steps.proofs.Answering.{fits_numbered}
 use Rattle.bx_node_steps.specs.Calls.{Acting, CallOf}
 use Rattle.bx_node_steps.specs.Ready.{WasReady}
 use Rattle.bx_node_steps.specs.declared.machine.Machine.{Machine}
+use Rattle.bx_node_tries.specs.Tries.{LeadsBack}
 use Rattle.bx_node_tries.specs.declared.round.Said.{Said}
 use Rattle.bx_script.specs.declared.trace_line.TraceLine.{TraceLine}
 use Rattle.bx_views.specs.declared.engine.Engine as engine
 use Rattle.bx_world.specs.Going.{Says, Went}
 use Rattle.bx_cluster.specs.Runs.{StepOf, rules}
-use Rattle.bx_world.specs.Led.{AreDesks, Led}
+use Rattle.bx_world.specs.Led.{AreDesks, AreLeft, Led}
 use Rattle.bx_world.specs.Outcomes.{IsBy, desks_said, nothing, outcome_said}
-use Rattle.bx_world.specs.World.{IsReady, Standing}
+use Rattle.bx_world.specs.World.{IsReady, StandsBehind}
 use Rattle.bx_world.specs.declared.world.World.{World}
+use Rattle.bx_world.proofs.Doubted.{IsPartOf, doubted_led, lines_pointed, logged_led, none_in}
 use Rattle.bx_world.proofs.Leads.{AnswersAt, Comes, accounts_then, answers_at_node, answers_none, counted_then, desks_then, left_then}
 use Rattle.bx_world.proofs.Restarting.{part_told, stops_led}
-use Rattle.bx_world.proofs.Saying.{lines_told, served_back}
+use Rattle.bx_world.proofs.Saying.{among_answered, answered_among, lines_told, served_back}
 use Rattle.bx_world_machines.specs.Answering.{Answered}
 
 -- ---- records that are written
@@ -59,16 +62,41 @@ module _ {G O S E T : Type 0} (g : register.Ghosts G) (o : owners.Ghosts O) (st 
       abbrev now : List Part
       now = part_with (going arrives reading false) taken (served_back node said) again ∷ parts
 
-      pub led_with : Rounded e old.machines.nodes.engine (Standing g o st e new y) led.tree said → new.machines.latest ≡ taken_count (took_lines taken ++ trace_of parts) → AreDesks new.desks.items now → Led g o st e new y first now
+      accounts_now : (next : T) → LeadsBack (e.step old.machines.nodes.engine) led.tree (reverse said) next → AwaitsNewest (StepOf (e.step old.machines.nodes.engine)) (rules (e.at_once old.machines.nodes.engine)) first now (map entry_by (served_back node said) ++ led.history) next (waiting now)
+      accounts_now = accounts_then (e.step old.machines.nodes.engine) (e.at_once old.machines.nodes.engine) first parts led.history led.tree led.accounts arrives reading taken again node Waited written new.machines.nodes.machines.items said comes answers
+
+      left_now : AreLeft new.machines.nodes.machines.items now
+      left_now = left_then (e.step old.machines.nodes.engine) (e.at_once old.machines.nodes.engine) first parts led.history led.tree led.accounts arrives reading taken again node Waited written new.machines.nodes.machines.items said comes answers named
+
+      -- what is taken has a number behind all that came
+      behind_all : (number : ℕ) → number ≤ old.machines.latest → IfSome taken (λ taking. taking.call ≢ number)
+      behind_all number low = by taken comes.number
+        where
+          by : (one : Option Taking) → IfSome one (λ taking. taking.call ≡ taken_count (trace_of parts) + 1) → IfSome one (λ taking. taking.call ≢ number)
+          by None is = tt
+          by (Some taking) is = λ same. let count = led.counted in omega (arith, is, same, low, count)
+
+      is_part : IsPartOf old.machines.latest said (part_with (going arrives reading false) taken (served_back node said) again)
+      is_part = record {
+        lacks = λ number low. lines_lack taken (served_back node said) again number (behind_all number low);
+        unpointed = λ number unanswered. lines_pointed taken (served_back node said) again number ∙ false_from_ne_true (is_among (served_back node said) number) (λ is. unanswered (among_answered node said number is));
+        pointed = λ number answered. lines_pointed taken (served_back node said) again number ∙ answered_among node said number answered;
+      }
+
+      pub led_with : Rounded e old.machines.nodes.engine (StandsBehind g o st e led.stands.course said new y) led.tree said → new.machines.latest ≡ taken_count (took_lines taken ++ trace_of parts) → AreDesks new.desks.items now → Led g o st e new y first now
       led_with rounded latest desks = record {
         tree = rounded.next;
         history = map entry_by (served_back node said) ++ led.history;
         accounts = subst (λ (engine : E). AwaitsNewest (StepOf (e.step engine)) (rules (e.at_once engine)) first now (map entry_by (served_back node said) ++ led.history) rounded.next (waiting now)) (sym same_engine)
-            (accounts_then (e.step old.machines.nodes.engine) (e.at_once old.machines.nodes.engine) first parts led.history led.tree led.accounts arrives reading taken again node Waited written new.machines.nodes.machines.items said comes answers rounded.next rounded.leads);
-        stands = rounded.stands;
+            (accounts_now rounded.next rounded.leads);
+        stands = rounded.stands.stands;
+        doubted = doubted_led g o st e old new x y first rounded.next parts led (part_with (going arrives reading false) taken (served_back node said) again) said is_part rounded.stands
+            (accounts_now rounded.next rounded.leads).pending (none_in _ _ _ _ _ _ _ (accounts_now rounded.next rounded.leads)) left_now;
+        logged = logged_led g o st e old new x y first rounded.next parts led (part_with (going arrives reading false) taken (served_back node said) again) said is_part rounded.stands
+            (accounts_now rounded.next rounded.leads).pending (none_in _ _ _ _ _ _ _ (accounts_now rounded.next rounded.leads)) left_now;
         counted = latest ∙ sym (counted_then (e.step old.machines.nodes.engine) (e.at_once old.machines.nodes.engine) first parts led.history led.tree led.accounts arrives reading taken again node Waited written new.machines.nodes.machines.items said comes answers);
         desks = desks;
-        left = left_then (e.step old.machines.nodes.engine) (e.at_once old.machines.nodes.engine) first parts led.history led.tree led.accounts arrives reading taken again node Waited written new.machines.nodes.machines.items said comes answers named;
+        left = left_now;
       }
 
       pub desks_told : (before : List AtDesk) → AreDesks before (part_with (going arrives reading false) taken [] None ∷ parts) → new.desks.items ≡ desks_said (Node node) said before → AreDesks new.desks.items now
@@ -84,7 +112,7 @@ module _ {G O S E T : Type 0} (g : register.Ghosts G) (o : owners.Ghosts O) (st 
 
     -- a node answered, and its desk keeps that
     pub told_led : (arrives : Option Arrival) (reading : Option ℕ) (node : ℕ) (said : List Said) → Comes (e.at_once old.machines.nodes.engine) parts arrives reading None None (Waits old.machines.nodes.machines.items) (acting_at old.machines.nodes.machines.items) (served_back node said)
-        → Answered reading (Node node) old.machines.nodes.machines.items new.machines.nodes.machines.items said → Rounded e old.machines.nodes.engine (Standing g o st e new y) led.tree said
+        → Answered reading (Node node) old.machines.nodes.machines.items new.machines.nodes.machines.items said → Rounded e old.machines.nodes.engine (StandsBehind g o st e led.stands.course said new y) led.tree said
         → new.machines.latest ≡ old.machines.latest → new.desks.items ≡ desks_said (Node node) said old.desks.items → Led g o st e new y first (part_told arrives reading [] (outcome_said (Node node) said) ∷ parts)
     told_led arrives reading node said comes answers rounded latest desks =
         let answered = answers_at_node reading node old.machines.nodes.machines.items new.machines.nodes.machines.items said answers in
@@ -113,14 +141,14 @@ module _ {G O S E T : Type 0} (g : register.Ghosts G) (o : owners.Ghosts O) (st 
           said : List Said
           said = says.said
 
-          rounded : Rounded e old.machines.nodes.engine (Standing g o st e new y) led.tree said
-          rounded = says.leads tells led.tree led.stands
+          rounded : Rounded e old.machines.nodes.engine (StandsBehind g o st e led.stands.course said new y) led.tree said
+          rounded = says.leads tells led.tree led.stands.course (led.stands, refl)
 
           -- a machine that is no node answers nothing
           none : (who : Actor) → said ≡ [] → Answered reading who old.machines.nodes.machines.items new.machines.nodes.machines.items said → new.desks.items ≡ old.desks.items → Led g o st e new y first (part_told None reading [] nothing ∷ parts)
           none who empty answers desks =
               let answered = answers_none reading who old.machines.nodes.machines.items new.machines.nodes.machines.items (subst (Answered reading who old.machines.nodes.machines.items new.machines.nodes.machines.items) empty answers) in
-              led_with None reading None None 0 (Waits old.machines.nodes.machines.items) (acting_at old.machines.nodes.machines.items) [] (comes_none []) answered (subst (Rounded e old.machines.nodes.engine (Standing g o st e new y) led.tree) empty rounded) (says.latest ∙ led.counted)
+              led_with None reading None None 0 (Waits old.machines.nodes.machines.items) (acting_at old.machines.nodes.machines.items) [] (comes_none []) answered (subst (λ (l : List Said). Rounded e old.machines.nodes.engine (StandsBehind g o st e led.stands.course l new y) led.tree l) empty rounded) (says.latest ∙ led.counted)
               (subst (λ (l : List AtDesk). AreDesks l (part_with (going None reading false) None [] None ∷ parts)) (sym desks) (desks_untaken None reading))
 
           by : (who : Actor) → IsBy (length old.desks.items) who said → Answered reading who old.machines.nodes.machines.items new.machines.nodes.machines.items said → new.desks.items ≡ desks_said who said old.desks.items

@@ -15,7 +15,8 @@ use Rattle.bx_post.specs.declared.packets.Packet.{Packet}
 use Rattle.bx_post.specs.Posts.{Posted, fresh, is_waiting, letter_of, numbered, packet_from, settled_from}
 use Rattle.bx_views.specs.declared.engine.Engine as engine
 use Rattle.bx_world.specs.World.{letters_in}
-use Rattle.bx_world_machines.specs.Standing.{Standing}
+use Rattle.bx_world_machines.proofs.Doubts.{goes_none}
+use Rattle.bx_world_machines.specs.Standing.{Standing, StandsBehind}
 use Rattle.bx_world_machines.specs.declared.machines.Machines.{Machines}
 
 -- a packet that isn't pending any more is under way still
@@ -58,12 +59,16 @@ letter_there first number (posted ∷ rest) packet is = by (first == number) (le
 
 -- Letters are lost, and all stands.
 pub stands_fewer : {G O S E T : Type 0} (g : register.Ghosts G) (o : owners.Ghosts O) (st : store.Ghosts S) (e : engine.Ghosts E T) → HandedLaws g o st → (machines : Machines G O S E T) (letters fewer : List Letter) (x : Disks) (tree : T)
-    → ((letter : Letter) → Contains fewer letter → Contains letters letter) → Standing g o st e machines letters x tree → Standing g o st e machines fewer x tree
+    → ((letter : Letter) → Contains fewer letter → Contains letters letter) → (standing : Standing g o st e machines letters x tree) → StandsBehind g o st e standing.course [] machines fewer x tree
 stands_fewer g o st e laws machines letters fewer x tree among standing = let nodes = machines.nodes in record {
-  clocks = standing.clocks;
-  course = lettered standing.course fewer;
-  are_clocks = standing.are_clocks;
-  stands = lost g o st (e.stands nodes.engine) (e.step nodes.engine) laws nodes.register nodes.owners nodes.store x letters fewer standing.clocks (seen nodes.machines.items) standing.course tree standing.stands among;
-  told = standing.told;
-  known = standing.known;
+  stands = record {
+    clocks = standing.clocks;
+    course = lettered standing.course fewer;
+    are_clocks = standing.are_clocks;
+    stands = lost g o st (e.stands nodes.engine) (e.step nodes.engine) laws nodes.register nodes.owners nodes.store x letters fewer standing.clocks (seen nodes.machines.items) standing.course tree standing.stands among;
+    told = standing.told;
+    doubts = record { came = standing.doubts.came; over = standing.doubts.over; opening = standing.doubts.opening; once = standing.doubts.once };
+    known = standing.known;
+  };
+  goes = goes_none machines.nodes.machines.items standing.course (lettered standing.course fewer) (λ session doubt deed is. record { row = is.row; has_row = is.has_row; sent = is.sent; is = is.is; act = is.act }) refl;
 }

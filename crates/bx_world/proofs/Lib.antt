@@ -1,5 +1,6 @@
 pub mod Beginning
 pub mod CallsThen
+pub mod Doubted
 pub mod Ending
 pub mod Leading
 pub mod Letters
@@ -10,3 +11,4 @@ pub mod Saying
 pub mod Leads
 pub mod LedOn
 pub mod LedCalls
+pub mod Acting

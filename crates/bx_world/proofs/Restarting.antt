@@ -23,9 +23,11 @@ use Rattle.bx_script.specs.declared.trace_line.TraceLine.{TraceLine}
 use Rattle.bx_script.specs.declared.trace_line.TraceLine.TheVariants.{Acted}
 use Rattle.bx_views.specs.declared.engine.Engine as engine
 use Rattle.bx_world.specs.Going.{Stops}
-use Rattle.bx_world.specs.Led.{AreDesks, Led}
+use Rattle.bx_world.specs.Led.{AreDesks, AreLeft, Led}
 use Rattle.bx_world.specs.Starting.{MayStartNext, Restarts, Starts}
+use Rattle.bx_world.specs.World.{StandsBehind}
 use Rattle.bx_world.specs.declared.world.World.{World}
+use Rattle.bx_world.proofs.Doubted.{doubted_led, logged_led, none_in, part_quiet}
 use Rattle.bx_world.proofs.Leading.{desk_on, desks_ended, ending, left_ended, left_started}
 use Rattle.bx_world.proofs.Leads.{patient}
 
@@ -49,18 +51,26 @@ module _ {G O S E T : Type 0} (g : register.Ghosts G) (o : owners.Ghosts O) (st 
     tree = led.tree;
     history = led.history;
     accounts = ended ends stops.engine;
-    stands = stops.stands tells led.tree led.stands;
+    stands = behind.stands;
+    doubted = doubted_led g o st e old new x y first led.tree parts led (ending reading ends) [] (part_quiet old.machines.latest (ending reading ends) refl) behind (ended ends stops.engine).pending (none_in _ _ _ _ _ _ _ (ended ends stops.engine)) left;
+    logged = logged_led g o st e old new x y first led.tree parts led (ending reading ends) [] (part_quiet old.machines.latest (ending reading ends) refl) behind (ended ends stops.engine).pending (none_in _ _ _ _ _ _ _ (ended ends stops.engine)) left;
     counted = stops.latest ∙ led.counted;
     desks = subst (λ (l : List AtDesk). AreDesks l (ending reading ends ∷ parts)) (sym stops.desks) (desks_ended at old.desks.items parts reading ends (λ node. is_so (ends_one at node)) led.desks);
-    left = left_ended at old.machines.nodes.machines.items new.machines.nodes.machines.items parts reading ends (λ node. is_so (ends_one at node)) stops.empties led.left;
+    left = left;
   })
     where
+      behind : StandsBehind g o st e led.stands.course [] new y led.tree
+      behind = stops.stands tells led.tree led.stands.course (led.stands, refl)
+
       ends : ℕ → Bool
       ends = ends_with (Some at) none_ends
 
       is_so : (b : Bool) → (if b then true else false) ≡ b
       is_so true = refl
       is_so false = refl
+
+      left : AreLeft new.machines.nodes.machines.items (ending reading ends ∷ parts)
+      left = left_ended at old.machines.nodes.machines.items new.machines.nodes.machines.items parts reading ends (λ node. is_so (ends_one at node)) stops.empties led.left
 
   -- it starts again, where no call waited at it
   module _ (quiet : (node : ℕ) (call : CallOf) → at ≡ Node node → Waits old.machines.nodes.machines.items node call → ⊥) (may : MayStartNext g o st e old at) where
@@ -69,11 +79,19 @@ module _ {G O S E T : Type 0} (g : register.Ghosts G) (o : owners.Ghosts O) (st 
       tree = led.tree;
       history = led.history;
       accounts = ended none_ends starts.engine;
-      stands = starts.stands tells may led.tree led.stands;
+      stands = behind.stands;
+      doubted = doubted_led g o st e old new x y first led.tree parts led (ending reading none_ends) [] (part_quiet old.machines.latest (ending reading none_ends) refl) behind (ended none_ends starts.engine).pending (none_in _ _ _ _ _ _ _ (ended none_ends starts.engine)) left;
+      logged = logged_led g o st e old new x y first led.tree parts led (ending reading none_ends) [] (part_quiet old.machines.latest (ending reading none_ends) refl) behind (ended none_ends starts.engine).pending (none_in _ _ _ _ _ _ _ (ended none_ends starts.engine)) left;
       counted = starts.latest ∙ led.counted;
       desks = subst (λ (l : List AtDesk). AreDesks l (ending reading none_ends ∷ parts)) (sym starts.desks) (λ node desk there. desk_on parts reading none_ends node desk refl (led.desks node desk there));
-      left = left_started at old.machines.nodes.machines.items new.machines.nodes.machines.items parts reading quiet starts.empties led.left;
+      left = left;
     })
+      where
+        behind : StandsBehind g o st e led.stands.course [] new y led.tree
+        behind = starts.stands tells may led.tree led.stands.course (led.stands, refl)
+
+        left : AreLeft new.machines.nodes.machines.items (ending reading none_ends ∷ parts)
+        left = left_started at old.machines.nodes.machines.items new.machines.nodes.machines.items parts reading quiet starts.empties led.left
 
     pub restarts_led : Restarts g o st e at old new Tells x y outcome → Led g o st e new y first (part_told None reading [] outcome ∷ parts)
     restarts_led restarts = ⊎_elim starts_led stops_led restarts

@@ -7,23 +7,15 @@ use Rattle.bx_disk.specs.Disks.{Disks, Image}
 use Rattle.bx_facts.specs.declared.owners.Owners as owners
 use Rattle.bx_facts.specs.declared.register.Register as register
 use Rattle.bx_facts.specs.declared.store.Store as store
-use Rattle.bx_facts.specs.Chains.{last}
 use Rattle.bx_history.specs.Parts.{Part}
-use Rattle.bx_node_machines.specs.Nodes.{known_of}
-use Rattle.bx_node_steps.specs.Seen.{seen}
 use Rattle.bx_nodes.specs.Standing.{Stand}
 use Rattle.bx_nodes.specs.bx_node_events.proofs.Registered.{HandedLaws}
 use Rattle.bx_nodes.specs.bx_world_volumes.specs.Left.{MayShow}
-use Rattle.bx_nodes.specs.bx_world_volumes.proofs.Left.{image_has}
-use Rattle.bx_nodes.specs.bx_world_volumes.proofs.Volumes.{shown_after}
 use Rattle.bx_post.specs.declared.packets.Letter.{Letter}
-use Rattle.bx_views.specs.Truths.{no_hints}
 use Rattle.bx_views.specs.declared.engine.Engine as engine
+use Rattle.bx_world.specs.Laws.{shown_from}
 use Rattle.bx_world.specs.Led.{Led}
-use Rattle.bx_world.specs.Doubts.{AreOfTaken}
-use Rattle.bx_world.specs.Shown.{ComesAfter, Shown}
-use Rattle.bx_world.specs.Shown.ComesAfter.{Here, Then}
-use Rattle.bx_world.specs.World.{letters_in}
+use Rattle.bx_world.specs.Shown.{Shown}
 use Rattle.bx_world.specs.declared.world.World.{World}
 use Rattle.bx_world_machines.specs.Standing.{Standing}
 use Rattle.bx_world_machines.specs.declared.machines.Machines.{Machines}
@@ -37,38 +29,12 @@ module _ {G O S E T : Type 0} (g : register.Ghosts G) (o : owners.Ghosts O) (st 
     are_clocks = standing.are_clocks;
     stands = subst (λ (l : List Letter). Stand g o st e machines.nodes x l standing.clocks standing.course tree) (sym (ap (λ (l : List Letter). letters ++ l) empty ∙ append-nil letters)) standing.stands;
     told = standing.told;
+    doubts = standing.doubts;
     known = standing.known;
   }
 
-  -- An image that shows what the course has shows the tree, or one after some of the calls in doubt.
-  pub shown_from : HandedLaws g o st → (world : World G O S E T) (x : Disks) (first : T) (parts : List Part) (led : Led g o st e world x first parts)
-      → AreOfTaken parts (last led.stands.course.register.chain).sessions led.stands.course.slots led.stands.course.doubts → (image : Image)
-      → MayShow (g.reads_as (g.made world.machines.nodes.register) x.sizes) (st.made world.machines.nodes.store) x.sizes led.stands.course image → Shown g o st e world x.sizes image first parts
-  shown_from laws world x first parts led doubted image shows is_of =
-      let nodes = world.machines.nodes in
-      let at = led.stands.stands.at in
-      let course = led.stands.course in
-      record {
-        tree = led.tree;
-        history = led.history;
-        accounts = led.accounts;
-        rows = (last course.register.chain).sessions;
-        slots = course.slots;
-        doubts = course.doubts;
-        doubted = doubted;
-        has = image_has (g.reads_as (g.made nodes.register) x.sizes image) (st.made nodes.store) x.sizes image course
-            (λ truth. (after : T) × ComesAfter (e.stands nodes.engine) (e.step nodes.engine) (last course.register.chain).sessions course.slots course.doubts led.tree after × e.stands nodes.engine truth no_hints after) at.logs.volume.most_devices
-            (shown_after g o st (e.stands nodes.engine) (e.step nodes.engine) nodes.register nodes.owners nodes.store x
-            (known_of g o st (e.stands nodes.engine) (e.step nodes.engine) nodes.register nodes.owners nodes.store x (letters_in world.post) led.stands.clocks (seen nodes.machines.items)) course led.tree at
-            (record { each = λ s there. laws.allowed nodes.register x course.register s at.parts.register_keeps there })
-            (ComesAfter (e.stands nodes.engine) (e.step nodes.engine) (last course.register.chain).sessions course.slots course.doubts led.tree) Here
-            (λ session row doubt old new has_row sent has before step. Then session row doubt old new has_row sent has before step))
-            (shows is_of);
-      }
-
-  -- so does each that a crash may leave inside an event
-  pub left_shown : HandedLaws g o st → (world : World G O S E T) (x : Disks) (first : T) (parts : List Part) (led : Led g o st e world x first parts)
-      → AreOfTaken parts (last led.stands.course.register.chain).sessions led.stands.course.slots led.stands.course.doubts → (before now : ℕ) (past since : ℕ → Image → Type 0)
+  -- An image that a crash may leave inside an event shows the tree, or one after some of the calls in doubt.
+  pub left_shown : HandedLaws g o st → (world : World G O S E T) (x : Disks) (first : T) (parts : List Part) (led : Led g o st e world x first parts) → (before now : ℕ) (past since : ℕ → Image → Type 0)
       → LeavesOnly before now past since (MayShow (g.reads_as (g.made world.machines.nodes.register) x.sizes) (st.made world.machines.nodes.store) x.sizes led.stands.course)
       → LeavesOnly before now past since (λ image. Shown g o st e world x.sizes image first parts)
-  left_shown laws world x first parts led doubted before now past since left = leaves_implies before now past since _ _ left (λ image shows. shown_from laws world x first parts led doubted image shows)
+  left_shown laws world x first parts led before now past since left = leaves_implies before now past since _ _ left (λ image shows. shown_from g o st e laws world x first parts led image shows)

@@ -17,11 +17,12 @@ use Rattle.bx_replies.specs.Answers.{IsApart, reply_of}
 use Rattle.bx_rpc.specs.Message.{is_message}
 use Rattle.bx_views.specs.declared.engine.Engine as engine
 use Rattle.bx_world.specs.Outcomes.{desks_said, nothing, outcome_said}
-use Rattle.bx_world.specs.World.{Standing}
+use Rattle.bx_world.specs.World.{StandsBehind, StandsBy}
 use Rattle.bx_world.specs.declared.calls.Heard.{Heard}
 use Rattle.bx_world.specs.declared.calls.Heard.TheVariants.{New, Again, Passed}
 use Rattle.bx_world.specs.declared.world.World.{World}
 use Rattle.bx_world_machines.specs.Answering.{Answered, Called}
+use Rattle.bx_world_standing.specs.Standing.{Course}
 
 -- ---- what it is to the node
 
@@ -68,7 +69,7 @@ module _ {G O S E T : Type 0} (g : register.Ghosts G) (o : owners.Ghosts O) (st 
     pub desks : new.desks.items ≡ desks_said (Node node) said old.desks.items
     pub latest : new.machines.latest ≡ old.machines.latest
     pub engine : new.machines.nodes.engine ≡ old.machines.nodes.engine
-    pub leads : (tree : T) → Standing g o st e old x tree → Rounded e old.machines.nodes.engine (Standing g o st e new x) tree said
+    pub leads : (tree : T) (c : Course) → StandsBy g o st e c old x tree → Rounded e old.machines.nodes.engine (StandsBehind g o st e c said new x) tree said
 
   -- A call was taken, with the next number: it waits on the desk, and the node had its turn then, in which it is answered if it touches no block.
   pub record Takes (reading node client : ℕ) (bytes : List ℕ) (old new : World G O S E T) (x : Disks) (outcome : Outcome) : Type 0 where
@@ -85,7 +86,7 @@ module _ {G O S E T : Type 0} (g : register.Ghosts G) (o : owners.Ghosts O) (st 
     pub desks : new.desks.items ≡ desks_said (Node node) said (slice_set old.desks.items node (with_call desk (asked_of call)))
     pub latest : new.machines.latest ≡ call.number
     pub engine : new.machines.nodes.engine ≡ old.machines.nodes.engine
-    pub leads : (tree : T) → Standing g o st e old x tree → Rounded e old.machines.nodes.engine (Standing g o st e new x) tree said
+    pub leads : (tree : T) (c : Course) → StandsBy g o st e c old x tree → Rounded e old.machines.nodes.engine (StandsBehind g o st e c said new x) tree said
 
   -- It isn't taken, and nothing is sent again: the node had its turn.
   pub record Passes (reading node client : ℕ) (bytes : List ℕ) (old new : World G O S E T) (x : Disks) (outcome : Outcome) : Type 0 where
@@ -102,7 +103,7 @@ module _ {G O S E T : Type 0} (g : register.Ghosts G) (o : owners.Ghosts O) (st 
     pub kept : IsKeptAt desk client bytes reply
     pub outcome_is : outcome ≡ sent_again node client reply
     pub same : new ≡ record old { machines = record old.machines { clock = max old.machines.clock reading }; events = old.events + 1 }
-    pub stands : (tree : T) → Standing g o st e old x tree → Standing g o st e new x tree
+    pub stands : (tree : T) (c : Course) → StandsBy g o st e c old x tree → StandsBy g o st e c new x tree
 
   -- A call is taken exactly where it is new to the desk of its node; and where it was answered, and the answer is kept, that is sent again.
   abbrev pub Arrives : ℕ → ℕ → ℕ → List ℕ → World G O S E T → World G O S E T → Disks → Outcome → Type 0

@@ -1,17 +1,17 @@
 -- What the logs of a course have of the calls of a run: records of calls that have their points, and, in doubt, such as are of calls without one.
-use Rattle.std.specs.Prelude.{◌≡◌, ℕ, true, false, List, Contains, Option, Some}
+use Rattle.std.specs.Prelude.{◌≡◌, ℕ, false, List, Contains, Option}
 use Rattle.bx_cluster.specs.Closing.{lacks_point}
 use Rattle.bx_history.specs.Account.{LacksPoint}
 use Rattle.bx_history.specs.Parts.{Part, trace_of}
 use Rattle.bx_history.specs.Placed.{HasReadingSince}
 use Rattle.bx_history.specs.Trace.{Taking}
-use Rattle.bx_rows.specs.Words.{row_in}
 use Rattle.bx_rows.specs.declared.session.SessionRow.{SessionRow}
 use Rattle.bx_views.specs.Attempts.{Deed}
 use Rattle.bx_volume.specs.Overlay.{Logs}
 use Rattle.bx_volume.specs.Records.{Logged}
-use Rattle.bx_world_standing.specs.bx_world_logs.specs.Logs.{Slot, opens}
-use Rattle.bx_world_standing.specs.bx_world_views.specs.Views.{Doubt, OfCall}
+pub use Rattle.bx_world_machines.specs.Doubts.{MayBeOpen}
+use Rattle.bx_world_standing.specs.bx_world_logs.specs.Logs.{Slot}
+use Rattle.bx_world_standing.specs.bx_world_views.specs.Views.{Doubt}
 
 -- A record in doubt is of a call that was taken and has no point; it is to act at a reading since.
 pub record IsOfTaken (parts : List Part) (doubt : Doubt) (deed : Deed) : Type 0 where
@@ -21,14 +21,6 @@ pub record IsOfTaken (parts : List Part) (doubt : Doubt) (deed : Deed) : Type 0 
   pub client : deed.client ≡ taking.client
   pub bytes : deed.call ≡ taking.bytes
   pub since : HasReadingSince taking.call deed.moment parts
-
--- a session's record in doubt is of this call, and its gate may be open: it was sent
-pub record MayBeOpen (rows : List SessionRow) (slots : ℕ → Slot) (doubts : ℕ → Option Doubt) (session : ℕ) (doubt : Doubt) (deed : Deed) : Type 0 where
-  pub row : SessionRow
-  pub has_row : row_in rows session ≡ Some row
-  pub sent : opens (slots row.slot).activity ≡ true
-  pub is : doubts session ≡ Some doubt
-  pub act : doubt.act ≡ OfCall deed
 
 -- Records whose gates may be open are of such calls, no two of one.
 pub record AreOfTaken (parts : List Part) (rows : List SessionRow) (slots : ℕ → Slot) (doubts : ℕ → Option Doubt) : Type 0 where

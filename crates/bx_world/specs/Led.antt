@@ -4,6 +4,7 @@ use Rattle.bx_cluster.specs.Runs.{StepOf, rules}
 use Rattle.bx_desk.specs.Desks.{AtDesk}
 use Rattle.bx_desk.specs.Nodes.{IsDeskOf}
 use Rattle.bx_disk.specs.Disks.{Disks}
+use Rattle.bx_facts.specs.Chains.{last}
 use Rattle.bx_facts.specs.declared.register.Register as register
 use Rattle.bx_facts.specs.declared.store.Store as store
 use Rattle.bx_history.specs.Account.{AwaitsNewest}
@@ -17,6 +18,7 @@ use Rattle.bx_node_steps.specs.Calls.{Acting, CallOf}
 use Rattle.bx_node_steps.specs.declared.machine.Machine.{Machine}
 use Rattle.bx_facts.specs.declared.owners.Owners as owners
 use Rattle.bx_views.specs.declared.engine.Engine as engine
+use Rattle.bx_world.specs.Doubts.{AreOfTaken, HavePoints}
 use Rattle.bx_world.specs.World.{Standing}
 use Rattle.bx_world.specs.declared.world.World.{World}
 
@@ -35,12 +37,14 @@ AreDesks desks parts = (node : ℕ) (desk : AtDesk) → slice_get desks node ≡
 
 module _ {G O S E T : Type 0} (g : register.Ghosts G) (o : owners.Ghosts O) (st : store.Ghosts S) (e : engine.Ghosts E T) where
   -- These parts, the newest first, spell one history, which leads from the first tree to one for which the world stands on these disks. What waits and what the desks have is
-  -- what the parts leave, and the greatest number of a call is how many were taken.
+  -- what the parts leave, and the greatest number of a call is how many were taken. Records whose gates may be open are of calls that were taken and have no point, and those of the logs of none such.
   pub record Led (world : World G O S E T) (x : Disks) (first : T) (parts : List Part) : Type 0 where
     pub tree : T
     pub history : List traces.Entry
     pub accounts : AwaitsNewest (StepOf (e.step world.machines.nodes.engine)) (rules (e.at_once world.machines.nodes.engine)) first parts history tree (waiting parts)
     pub stands : Standing g o st e world x tree
+    pub doubted : AreOfTaken parts (last stands.course.register.chain).sessions stands.course.slots stands.course.doubts
+    pub logged : HavePoints parts stands.course.logs
     pub counted : world.machines.latest ≡ traces.taken_count (trace_of parts)
     pub desks : AreDesks world.desks.items parts
     pub left : AreLeft world.machines.nodes.machines.items parts

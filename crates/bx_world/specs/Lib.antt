@@ -1,8 +1,11 @@
 pub mod Calls
 pub mod Doubts
 pub mod Going
+pub mod Laws
 pub mod Led
 pub mod Outcomes
+pub mod Room
 pub mod Shown
 pub mod Starting
+pub mod Trees
 pub mod World

@@ -1,5 +1,5 @@
 -- What comes of a machine of the world that starts again.
-use Rattle.std.specs.Prelude.{◌≡◌, ◌⊎◌, ℕ, ◌+◌}
+use Rattle.std.specs.Prelude.{◌≡◌, ◌⊎◌, ℕ, ◌+◌, []}
 use Rattle.bx_base.specs.declared.names.Actor.{Actor}
 use Rattle.bx_base.specs.declared.names.Actor.TheVariants.{Node}
 use Rattle.bx_cluster.specs.declared.outcome.Outcome.{Outcome}
@@ -12,8 +12,9 @@ use Rattle.bx_nodes.specs.Stopping.{Empties}
 use Rattle.bx_views.specs.declared.engine.Engine as engine
 use Rattle.bx_world.specs.Going.{Stops}
 use Rattle.bx_world.specs.Outcomes.{nothing}
-use Rattle.bx_world.specs.World.{Standing}
+use Rattle.bx_world.specs.World.{StandsBehind, StandsBy}
 use Rattle.bx_world.specs.declared.world.World.{World}
+use Rattle.bx_world_standing.specs.Standing.{Course}
 
 module _ {G O S E T : Type 0} (g : register.Ghosts G) (o : owners.Ghosts O) (st : store.Ghosts S) (e : engine.Ghosts E T) where
   -- A machine may start, in the boot after all that there were; a node only where each machine's part is its own, and no live session of it is of this boot.
@@ -27,7 +28,7 @@ module _ {G O S E T : Type 0} (g : register.Ghosts G) (o : owners.Ghosts O) (st 
     pub desks : new.desks.items ≡ old.desks.items
     pub latest : new.machines.latest ≡ old.machines.latest
     pub engine : new.machines.nodes.engine ≡ old.machines.nodes.engine
-    pub stands : Tells → MayStartNext old who → (tree : T) → Standing g o st e old x tree → Standing g o st e new y tree
+    pub stands : Tells → MayStartNext old who → (tree : T) (c : Course) → StandsBy g o st e c old x tree → StandsBehind g o st e c [] new y tree
 
   -- It started; or a disk failed, and it stays down.
   abbrev pub Restarts : Actor → World G O S E T → World G O S E T → Type 0 → Disks → Disks → Outcome → Type 0

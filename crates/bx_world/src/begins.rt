@@ -1,12 +1,13 @@
 //! How a world begins.
 
-ghost use Rattle.std.specs.Prelude.{◌≡◌, ℕ, [], IfOk, List};
+ghost use Rattle.std.specs.Prelude.{◌≡◌, ℕ, [], IfOk, List, None};
 ghost use Rattle.bx_disk.specs.Disks.{Disks};
 ghost use Rattle.bx_node_calls.specs.Waits.{NoneWaits};
 ghost use Rattle.bx_world.specs.Led.{Led};
 ghost use Rattle.bx_world.specs.Outcomes.{empty_desks};
 ghost use Rattle.bx_world.specs.World.{IsReady};
 ghost use Rattle.bx_world_machines.specs.Standing as standing;
+ghost use Rattle.bx_world_standing.specs.Standing.{Course};
 
 use crate::world::World;
 use bx_base::OutOfMemory;
@@ -23,7 +24,7 @@ impl<G: Register, O: Owners, S: Store, E: Engine> World<G, O, S, E> {
         machines: Machines<G, O, S, E>,
     ) -> Result<World<G, O, S, E>, OutOfMemory>
         requires first { machines.latest ≡ 0 }
-        ensures led { (x : Disks) (tree : E.Tree) → standing.Standing G.Register O.Owners S.Store E.Engine machines [] x tree → NoneWaits machines.nodes.machines.items
+        ensures led { (x : Disks) (tree : E.Tree) (c : Course) → standing.StandsBy G.Register O.Owners S.Store E.Engine c machines [] x tree → ((session : ℕ) → c.doubts session ≡ None) → NoneWaits machines.nodes.machines.items
             → IfOk result (λ world. Led G.Register O.Owners S.Store E.Engine world x tree []) }
         ensures ready { (sizes : List ℕ) → standing.IsReady G.Register O.Owners S.Store E.Engine machines sizes → IfOk result (λ world. IsReady G.Register O.Owners S.Store E.Engine world sizes) }
         ensures begins { IfOk result (λ world. (world.machines ≡ machines) × (world.post ≡ []) × (world.desks.items ≡ empty_desks machines.count) × (world.events ≡ 0)) }

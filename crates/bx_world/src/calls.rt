@@ -9,10 +9,11 @@ ghost use Rattle.bx_disk.specs.Disks.{Disks};
 ghost use Rattle.bx_history.specs.Parts.{Part};
 ghost use Rattle.bx_world.specs.Calls.{Arrives, Hears, Takes, Turns, asked_of, sent_again};
 ghost use Rattle.bx_world.specs.Led.{Led};
-ghost use Rattle.bx_world.specs.World.{IsReady, Standing, seen};
+ghost use Rattle.bx_world.specs.World.{IsReady, StandsBy, seen};
 ghost use Rattle.bx_world_events.specs.declared.event.Event.TheVariants.{Call};
 ghost use Rattle.bx_world_events.specs.declared.event.EventError.TheVariants.{OutOfMemory as NoMemory};
 ghost use Rattle.bx_world_machines.specs.Machines.{is_up};
+ghost use Rattle.bx_world_standing.specs.Standing.{Course};
 
 use crate::tells::nothing;
 use crate::world::World;
@@ -89,6 +90,7 @@ impl<G: Register, O: Owners, S: Store, E: Engine> World<G, O, S, E> {
         ensures ready { (sizes : List ℕ) → IsReady G.Register O.Owners S.Store E.Engine self.old sizes → OnOk result (IsReady G.Register O.Owners S.Store E.Engine self.new sizes) }
         ensures error { IfErr result (λ error. error ≡ NoMemory) }
         ensures events { OnOk result (self.new.events ≡ self.old.events + 1) }
+        ensures stays { (self.new.machines.boots ≡ self.old.machines.boots) × (S.made self.new.machines.nodes.store ≡ S.made self.old.machines.nodes.store) }
     {
         match hear(alloc, &self.desks[node as usize], client, bytes)? {
             Heard::New(message) => self.take(alloc, reading, node, client, message),
@@ -116,6 +118,7 @@ impl<G: Register, O: Owners, S: Store, E: Engine> World<G, O, S, E> {
         ensures ready { (sizes : List ℕ) → IsReady G.Register O.Owners S.Store E.Engine self.old sizes → OnOk result (IsReady G.Register O.Owners S.Store E.Engine self.new sizes) }
         ensures error { IfErr result (λ error. error ≡ NoMemory) }
         ensures events { OnOk result (self.new.events ≡ self.old.events + 1) }
+        ensures stays { (self.new.machines.boots ≡ self.old.machines.boots) × (S.made self.new.machines.nodes.store ≡ S.made self.old.machines.nodes.store) }
     {
         self.events += 1;
         let number = self.machines.latest() + 1;
@@ -150,7 +153,7 @@ impl<G: Register, O: Owners, S: Store, E: Engine> World<G, O, S, E> {
         ensures shows { (bytes : Bor (List ℕ)) → Shown (Call reading node client bytes) result.stopped (seen S.Store self.old) (seen S.Store self.new) }
         ensures outcome { result ≡ sent_again node client reply }
         ensures same { self.new ≡ record self.old { machines = record self.old.machines { clock = max self.old.machines.clock reading }; events = self.old.events + 1 } }
-        ensures stands { (x : Disks) (tree : E.Tree) → Standing G.Register O.Owners S.Store E.Engine self.old x tree → Standing G.Register O.Owners S.Store E.Engine self.new x tree }
+        ensures stands { (x : Disks) (tree : E.Tree) (c : Course) → StandsBy G.Register O.Owners S.Store E.Engine c self.old x tree → StandsBy G.Register O.Owners S.Store E.Engine c self.new x tree }
         ensures ready { (sizes : List ℕ) → IsReady G.Register O.Owners S.Store E.Engine self.old sizes → IsReady G.Register O.Owners S.Store E.Engine self.new sizes }
     {
         self.events += 1;
@@ -178,6 +181,7 @@ impl<G: Register, O: Owners, S: Store, E: Engine> World<G, O, S, E> {
         ensures ready { (sizes : List ℕ) → IsReady G.Register O.Owners S.Store E.Engine self.old sizes → OnOk result (IsReady G.Register O.Owners S.Store E.Engine self.new sizes) }
         ensures error { IfErr result (λ error. error ≡ NoMemory) }
         ensures events { OnOk result (self.new.events ≡ self.old.events + 1) }
+        ensures stays { (self.new.machines.boots ≡ self.old.machines.boots) × (S.made self.new.machines.nodes.store ≡ S.made self.old.machines.nodes.store) }
     {
         self.events += 1;
         let mut out = Outbox::new(alloc);

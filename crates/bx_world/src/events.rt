@@ -6,11 +6,9 @@ ghost use Rattle.bx_calls.specs.Calls.{LeavesOnly};
 ghost use Rattle.bx_cluster.specs.Steps.{Shown, part_at};
 ghost use Rattle.bx_disk.specs.Counts.{NoneFalls};
 ghost use Rattle.bx_history.specs.Parts.{Part};
-ghost use Rattle.bx_facts.specs.Chains.{last};
 ghost use Rattle.bx_facts.specs.declared.input.FactError.TheVariants.{Disk as DiskFails, OutOfMemory as MemoryFails};
 ghost use Rattle.bx_post.specs.Posts.{packet_from};
 ghost use Rattle.bx_world.specs.Led.{Led};
-ghost use Rattle.bx_world.specs.Doubts.{AreOfTaken};
 ghost use Rattle.bx_world.specs.Shown as shown;
 ghost use Rattle.bx_world.specs.Outcomes.{EndsSaid, EndsStopped, IsBy};
 ghost use Rattle.bx_world.specs.World.{IsReady, seen};
@@ -45,12 +43,13 @@ impl<G: Register, O: Owners, S: Store, E: Engine> World<G, O, S, E> {
         ensures shows { IfOk result (λ outcome. Shown (Tick reading at) outcome.stopped (seen S.Store self.old) (seen S.Store self.new)) }
         ensures went { IfOk result (Went G.Register O.Owners S.Store E.Engine (Some reading) at self.old self.new (R.tells rack.old) (R.state rack.old) (R.state rack.new)) }
         ensures led { (first : E.Tree) (parts : List Part) → R.tells rack.old → Led G.Register O.Owners S.Store E.Engine self.old (R.state rack.old) first parts → IfOk result (λ outcome. Led G.Register O.Owners S.Store E.Engine self.new (R.state rack.new) first (part_at (Tick reading at) outcome ∷ parts)) }
-        ensures any_moment { (first : E.Tree) (parts : List Part) → R.tells rack.old → (led : Led G.Register O.Owners S.Store E.Engine self.old (R.state rack.old) first parts) → AreOfTaken parts (last led.stands.course.register.chain).sessions led.stands.course.slots led.stands.course.doubts
+        ensures any_moment { (first : E.Tree) (parts : List Part) → R.tells rack.old → Led G.Register O.Owners S.Store E.Engine self.old (R.state rack.old) first parts
             → LeavesOnly (R.moment rack.old) (R.moment rack.new) (R.left_since rack.old) (R.left_since rack.new) (λ image. shown.Shown G.Register O.Owners S.Store E.Engine self.old (R.state rack.old).sizes image first parts) }
         ensures ready { (sizes : List ℕ) → IsReady G.Register O.Owners S.Store E.Engine self.old sizes → OnOk result (IsReady G.Register O.Owners S.Store E.Engine self.new sizes) }
         ensures stopped { IfOk result (λ outcome. IsSome outcome.stopped → Rose (R.faults rack.old) (R.faults rack.new)) }
         ensures error { IfErr result (λ error. error ≡ NoMemory) }
         ensures events { self.new.events ≡ self.old.events }
+        ensures stays { (self.new.machines.boots ≡ self.old.machines.boots) × (S.made self.new.machines.nodes.store ≡ S.made self.old.machines.nodes.store) }
         ensures later { NoneFalls (R.faults rack.old) (R.faults rack.new) (R.faults_of rack.old) (R.faults_of rack.new) }
         ensures sizes { (R.state rack.new).sizes ≡ (R.state rack.old).sizes }
         ensures keeps_telling { R.tells rack.old → R.tells rack.new }
@@ -74,12 +73,13 @@ impl<G: Register, O: Owners, S: Store, E: Engine> World<G, O, S, E> {
         ensures shows { IfOk result (λ outcome. Shown (Sync at) outcome.stopped (seen S.Store self.old) (seen S.Store self.new)) }
         ensures went { IfOk result (Went G.Register O.Owners S.Store E.Engine None at self.old self.new (R.tells rack.old) (R.state rack.old) (R.state rack.new)) }
         ensures led { (first : E.Tree) (parts : List Part) → R.tells rack.old → Led G.Register O.Owners S.Store E.Engine self.old (R.state rack.old) first parts → IfOk result (λ outcome. Led G.Register O.Owners S.Store E.Engine self.new (R.state rack.new) first (part_at (Sync at) outcome ∷ parts)) }
-        ensures any_moment { (first : E.Tree) (parts : List Part) → R.tells rack.old → (led : Led G.Register O.Owners S.Store E.Engine self.old (R.state rack.old) first parts) → AreOfTaken parts (last led.stands.course.register.chain).sessions led.stands.course.slots led.stands.course.doubts
+        ensures any_moment { (first : E.Tree) (parts : List Part) → R.tells rack.old → Led G.Register O.Owners S.Store E.Engine self.old (R.state rack.old) first parts
             → LeavesOnly (R.moment rack.old) (R.moment rack.new) (R.left_since rack.old) (R.left_since rack.new) (λ image. shown.Shown G.Register O.Owners S.Store E.Engine self.old (R.state rack.old).sizes image first parts) }
         ensures ready { (sizes : List ℕ) → IsReady G.Register O.Owners S.Store E.Engine self.old sizes → OnOk result (IsReady G.Register O.Owners S.Store E.Engine self.new sizes) }
         ensures stopped { IfOk result (λ outcome. IsSome outcome.stopped → Rose (R.faults rack.old) (R.faults rack.new)) }
         ensures error { IfErr result (λ error. error ≡ NoMemory) }
         ensures events { self.new.events ≡ self.old.events }
+        ensures stays { (self.new.machines.boots ≡ self.old.machines.boots) × (S.made self.new.machines.nodes.store ≡ S.made self.old.machines.nodes.store) }
         ensures later { NoneFalls (R.faults rack.old) (R.faults rack.new) (R.faults_of rack.old) (R.faults_of rack.new) }
         ensures sizes { (R.state rack.new).sizes ≡ (R.state rack.old).sizes }
         ensures keeps_telling { R.tells rack.old → R.tells rack.new }
@@ -104,12 +104,13 @@ impl<G: Register, O: Owners, S: Store, E: Engine> World<G, O, S, E> {
         ensures shows { IfOk result (λ outcome. Shown (Deliver reading number) outcome.stopped (seen S.Store self.old) (seen S.Store self.new)) }
         ensures went { IsSomeAnd (packet_from 1 number self.old.post) (λ packet. IfOk result (Went G.Register O.Owners S.Store E.Engine (Some reading) packet.to self.old self.new (R.tells rack.old) (R.state rack.old) (R.state rack.new))) }
         ensures led { (first : E.Tree) (parts : List Part) → R.tells rack.old → Led G.Register O.Owners S.Store E.Engine self.old (R.state rack.old) first parts → IfOk result (λ outcome. Led G.Register O.Owners S.Store E.Engine self.new (R.state rack.new) first (part_at (Deliver reading number) outcome ∷ parts)) }
-        ensures any_moment { (first : E.Tree) (parts : List Part) → R.tells rack.old → (led : Led G.Register O.Owners S.Store E.Engine self.old (R.state rack.old) first parts) → AreOfTaken parts (last led.stands.course.register.chain).sessions led.stands.course.slots led.stands.course.doubts
+        ensures any_moment { (first : E.Tree) (parts : List Part) → R.tells rack.old → Led G.Register O.Owners S.Store E.Engine self.old (R.state rack.old) first parts
             → LeavesOnly (R.moment rack.old) (R.moment rack.new) (R.left_since rack.old) (R.left_since rack.new) (λ image. shown.Shown G.Register O.Owners S.Store E.Engine self.old (R.state rack.old).sizes image first parts) }
         ensures ready { (sizes : List ℕ) → IsReady G.Register O.Owners S.Store E.Engine self.old sizes → OnOk result (IsReady G.Register O.Owners S.Store E.Engine self.new sizes) }
         ensures stopped { IfOk result (λ outcome. IsSome outcome.stopped → Rose (R.faults rack.old) (R.faults rack.new)) }
         ensures error { IfErr result (λ error. error ≡ NoMemory) }
         ensures events { self.new.events ≡ self.old.events }
+        ensures stays { (self.new.machines.boots ≡ self.old.machines.boots) × (S.made self.new.machines.nodes.store ≡ S.made self.old.machines.nodes.store) }
         ensures later { NoneFalls (R.faults rack.old) (R.faults rack.new) (R.faults_of rack.old) (R.faults_of rack.new) }
         ensures sizes { (R.state rack.new).sizes ≡ (R.state rack.old).sizes }
         ensures keeps_telling { R.tells rack.old → R.tells rack.new }

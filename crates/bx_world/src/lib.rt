@@ -3,10 +3,12 @@
 
 mod begins;
 mod calls;
+mod cluster;
 mod events;
 mod packets;
 mod shows;
 mod starts;
+mod steps;
 mod stops;
 mod tells;
 mod world;

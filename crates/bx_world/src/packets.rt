@@ -1,11 +1,12 @@
 //! The packets between the machines.
 
-ghost use Rattle.std.specs.Prelude.{◌≡◌, filter, ℕ, List};
+ghost use Rattle.std.specs.Prelude.{◌≡◌, [], filter, ℕ, List};
 ghost use Rattle.bx_disk.specs.Disks.{Disks};
 ghost use Rattle.bx_history.specs.Parts.{Part};
 ghost use Rattle.bx_post.specs.Posts.{is_waiting, next_from, passing_from, settled_from};
 ghost use Rattle.bx_world.specs.Led.{Led};
-ghost use Rattle.bx_world.specs.World.{IsReady, Standing, seen};
+ghost use Rattle.bx_world.specs.World.{IsReady, StandsBehind, StandsBy, seen};
+ghost use Rattle.bx_world_standing.specs.Standing.{Course};
 
 use crate::world::World;
 use bx_facts::{Owners, Register, Store};
@@ -37,7 +38,7 @@ impl<G: Register, O: Owners, S: Store, E: Engine> World<G, O, S, E> {
     /// Makes a packet not pending. It may arrive again still. It takes no memory.
     pub fn settle(&mut self, number: u64)
         ensures shows { seen S.Store self.new ≡ record (seen S.Store self.old) { post = settled_from 1 number (seen S.Store self.old).post } }
-        ensures stands { (x : Disks) (tree : E.Tree) → Standing G.Register O.Owners S.Store E.Engine self.old x tree → Standing G.Register O.Owners S.Store E.Engine self.new x tree }
+        ensures stands { (x : Disks) (tree : E.Tree) (c : Course) → StandsBy G.Register O.Owners S.Store E.Engine c self.old x tree → StandsBy G.Register O.Owners S.Store E.Engine c self.new x tree }
         ensures led { (x : Disks) (first : E.Tree) (parts : List Part) → Led G.Register O.Owners S.Store E.Engine self.old x first parts → Led G.Register O.Owners S.Store E.Engine self.new x first parts }
         ensures ready { (sizes : List ℕ) → IsReady G.Register O.Owners S.Store E.Engine self.old sizes → IsReady G.Register O.Owners S.Store E.Engine self.new sizes }
         ensures same { self.new ≡ record self.old { post = self.new.post } }
@@ -48,7 +49,7 @@ impl<G: Register, O: Owners, S: Store, E: Engine> World<G, O, S, E> {
     /// Drops the packets that aren't pending, and numbers the others from 1: none of those that are dropped arrives any more. It takes no memory.
     pub fn forget(&mut self)
         ensures shows { seen S.Store self.new ≡ record (seen S.Store self.old) { post = filter is_waiting (seen S.Store self.old).post } }
-        ensures stands { (x : Disks) (tree : E.Tree) → Standing G.Register O.Owners S.Store E.Engine self.old x tree → Standing G.Register O.Owners S.Store E.Engine self.new x tree }
+        ensures stands { (x : Disks) (tree : E.Tree) (c : Course) → StandsBy G.Register O.Owners S.Store E.Engine c self.old x tree → StandsBehind G.Register O.Owners S.Store E.Engine c [] self.new x tree }
         ensures led { (x : Disks) (first : E.Tree) (parts : List Part) → Led G.Register O.Owners S.Store E.Engine self.old x first parts → Led G.Register O.Owners S.Store E.Engine self.new x first parts }
         ensures ready { (sizes : List ℕ) → IsReady G.Register O.Owners S.Store E.Engine self.old sizes → IsReady G.Register O.Owners S.Store E.Engine self.new sizes }
         ensures same { self.new ≡ record self.old { post = self.new.post } }

@@ -5,9 +5,7 @@ ghost use Rattle.bx_base.specs.Faults.{Rose};
 ghost use Rattle.bx_calls.specs.Calls.{LeavesOnly};
 ghost use Rattle.bx_cluster.specs.Steps.{Shown, part_at};
 ghost use Rattle.bx_disk.specs.Counts.{NoneFalls};
-ghost use Rattle.bx_facts.specs.Chains.{last};
 ghost use Rattle.bx_history.specs.Parts.{Part};
-ghost use Rattle.bx_world.specs.Doubts.{AreOfTaken};
 ghost use Rattle.bx_world.specs.Led.{Led};
 ghost use Rattle.bx_world.specs.Shown as shown;
 ghost use Rattle.bx_world.specs.Starting.{MayStartNext, Restarts};
@@ -44,10 +42,11 @@ impl<G: Register, O: Owners, S: Store, E: Engine> World<G, O, S, E> {
         ensures shows { IfOk result (λ outcome. Shown (Restart reading who) outcome.stopped (seen S.Store self.old) (seen S.Store self.new)) }
         ensures restarts { IfOk result (Restarts G.Register O.Owners S.Store E.Engine who self.old self.new (R.tells rack.old) (R.state rack.old) (R.state rack.new)) }
         ensures led { (first : E.Tree) (parts : List Part) → R.tells rack.old → MayStartNext G.Register O.Owners S.Store E.Engine self.old who → Led G.Register O.Owners S.Store E.Engine self.old (R.state rack.old) first parts → IfOk result (λ outcome. Led G.Register O.Owners S.Store E.Engine self.new (R.state rack.new) first (part_at (Restart reading who) outcome ∷ parts)) }
-        ensures any_moment { (first : E.Tree) (parts : List Part) → R.tells rack.old → (led : Led G.Register O.Owners S.Store E.Engine self.old (R.state rack.old) first parts) → AreOfTaken parts (last led.stands.course.register.chain).sessions led.stands.course.slots led.stands.course.doubts
+        ensures any_moment { (first : E.Tree) (parts : List Part) → R.tells rack.old → Led G.Register O.Owners S.Store E.Engine self.old (R.state rack.old) first parts
             → LeavesOnly (R.moment rack.old) (R.moment rack.new) (R.left_since rack.old) (R.left_since rack.new) (λ image. shown.Shown G.Register O.Owners S.Store E.Engine self.old (R.state rack.old).sizes image first parts) }
         ensures ready { (sizes : List ℕ) → S.is_separate → IsReady G.Register O.Owners S.Store E.Engine self.old sizes → OnOk result (IsReady G.Register O.Owners S.Store E.Engine self.new sizes) }
         ensures boots { self.new.machines.boots ≡ self.old.machines.boots + 1 }
+        ensures made { S.made self.new.machines.nodes.store ≡ S.made self.old.machines.nodes.store }
         ensures stopped { IfOk result (λ outcome. IsSome outcome.stopped → Rose (R.faults rack.old) (R.faults rack.new)) }
         ensures error { IfErr result (λ error. error ≡ NoMemory) }
         ensures events { self.new.events ≡ self.old.events + 1 }

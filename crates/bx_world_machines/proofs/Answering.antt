@@ -1,6 +1,6 @@
 -- What comes of the calls that wait, from one step of a node to the next.
 use Rattle.std.proofs.Common.{◌≡◌, ◌⊎◌, ⊎_elim, inl, inr, ◌∙◌, ℕ, ◌<◌, Bool, List, [], length, Contains, Option, Some, None, IfSome, IsSomeAnd, refl, sym, ap, subst, arith}
-use Rattle.std.specs.Prelude.{◌↔◌, slice_get}
+use Rattle.std.specs.Prelude.{◌↔◌, option_map, slice_get}
 use Rattle.bx_base.specs.declared.names.Actor.{Actor}
 use Rattle.bx_base.specs.declared.names.Actor.TheVariants.{Member, Node, Replica, Server}
 use Rattle.bx_facts.proofs.Lists.{nothing}
@@ -12,7 +12,8 @@ use Rattle.bx_nodes.proofs.Machines.{of_there, two_there}
 use Rattle.bx_node_calls.proofs.Found.{and_some, same_or, some_and}
 use Rattle.bx_node_calls.proofs.Ticking.{still_ticked, waits_ticked}
 use Rattle.bx_node_calls.proofs.Turning.{there_then}
-use Rattle.bx_node_steps.specs.Calls.{Acting, ActsAt, Answers, AnswersCalls, AreApart, CallOf, IsAnswered, KeepsCalls, WaitsAt, acting_said, under_way}
+use Rattle.bx_node_steps.proofs.Acting.{acts_same as unchanged}
+use Rattle.bx_node_steps.specs.Calls.{Acting, ActsAt, Answers, AnswersCalls, AreApart, CallOf, IsAnswered, IsToAct, KeepsCalls, WaitsAt, acting_said, call_written, is_opening, under_way}
 use Rattle.bx_node_steps.specs.Tidying.{Ticks}
 use Rattle.bx_node_steps.specs.declared.machine.Machine.{Machine}
 use Rattle.bx_node_tries.specs.declared.round.Said.{Said}
@@ -23,27 +24,31 @@ use Rattle.bx_nodes.specs.Turns.{IsOldOrTold, OnlyMachine}
 use Rattle.bx_nodes.specs.declared.nodes.Nodes.{Nodes}
 use Rattle.bx_world_standing.specs.bx_volume.specs.Overlay.{Logs}
 use Rattle.bx_world_standing.specs.bx_volume.specs.Records.{Logged}
+use Rattle.bx_world_machines.specs.Acts.{ActThen, MayActAt, OpenStill}
 use Rattle.bx_world_machines.specs.Answering.{Answered, AtNode}
+use Rattle.bx_world_machines.proofs.Acts.{acts_on, acts_one, acts_same, before_all, opened_here, renewed_session}
 
--- The same calls wait at each node, and none writes a record that it didn't write.
+-- The same calls wait at each node, none writes a record that it didn't write, and none may act that might not.
 pub record Wakes (old new : List Machine) : Type 0 where
   pub waits : (node : ℕ) (call : CallOf) → Waits new node call ↔ Waits old node call
   pub acting : (node : ℕ) (acts : Acting) → acting_at new node ≡ Some acts → acting_at old node ≡ Some acts
+  pub acts : ActThen old new
 
 pub wakes_same : (old new : List Machine) → new ≡ old → Wakes old new
-wakes_same old new same = subst (λ (l : List Machine). Wakes old l) (sym same) (record { waits = λ node call. (λ w. w, λ w. w); acting = λ node acts is. is })
+wakes_same old new same = subst (λ (l : List Machine). Wakes old l) (sym same) (record { waits = λ node call. (λ w. w, λ w. w); acting = λ node acts is. is; acts = acts_same old old refl })
 
 pub wakes_on : (old middle new : List Machine) → Wakes old middle → Wakes middle new → Wakes old new
 wakes_on old middle new one two = record {
   waits = λ node call. (λ w. (one.waits node call).0 ((two.waits node call).0 w), λ w. (two.waits node call).1 ((one.waits node call).1 w));
   acting = λ node acts is. one.acting node acts (two.acting node acts is);
+  acts = acts_on old middle new one.acts two.acts;
 }
 
 -- ---- one node changes
 
 module _ (node : ℕ) (old new : List Machine) (before after : Machine) (was : slice_get old node ≡ Some before) (is : slice_get new node ≡ Some after) (others : OnlyMachine node old new) where
-  pub wakes_one : ((call : CallOf) → WaitsAt after call ↔ WaitsAt before call) → ((acts : Acting) → under_way after ≡ Some acts → under_way before ≡ Some acts) → Wakes old new
-  wakes_one same acting = record { waits = waits; acting = acts_on }
+  pub wakes_one : ((call : CallOf) → WaitsAt after call ↔ WaitsAt before call) → ((acts : Acting) → under_way after ≡ Some acts → under_way before ≡ Some acts) → ActThen old new → Wakes old new
+  wakes_one same acting acts = record { waits = waits; acting = acting_on; acts = acts }
     where
       waits : (n : ℕ) (call : CallOf) → Waits new n call ↔ Waits old n call
       waits n call = ⊎_elim
@@ -54,8 +59,8 @@ module _ (node : ℕ) (old new : List Machine) (before after : Machine) (was : s
           (λ ne. rw (others.others n ne) ((λ w. w), (λ w. w)))
           (same_or n node)
 
-      acts_on : (n : ℕ) (acts : Acting) → acting_at new n ≡ Some acts → acting_at old n ≡ Some acts
-      acts_on n acts on = ⊎_elim
+      acting_on : (n : ℕ) (acts : Acting) → acting_at new n ≡ Some acts → acting_at old n ≡ Some acts
+      acting_on n acts on = ⊎_elim
           (λ here. subst (λ (k : ℕ). acting_at old k ≡ Some acts) (sym here) (ap acting_in was ∙ acting acts (sym (ap acting_in is) ∙ subst (λ (k : ℕ). acting_at new k ≡ Some acts) here on)))
           (λ ne. sym (ap acting_in (others.others n ne)) ∙ on)
           (same_or n node)
@@ -65,10 +70,15 @@ module _ {G O S E T : Type 0} (node : ℕ) (old new : Nodes G O S E T) (there : 
   pub wakes_renewed : (own : Option ℕ) (known : GlobalState) (reads : Bool) → OfBoth old new node (λ old new. AreApart old → KeepsCalls old new) → OfBoth old new node (Renews own known reads) → OfNode old node AreApart → Wakes old.machines.items new.machines.items
   wakes_renewed own known reads calls renews apart = wakes_one node old.machines.items new.machines.items pair.before pair.after pair.was pair.is others
       (λ call. (pair.says (of_there AreApart (slice_get old.machines.items node) pair.before pair.was apart)).same call)
-      (by (two_there (Renews own known reads) (slice_get old.machines.items node) (slice_get new.machines.items node) pair.before pair.after pair.was pair.is renews))
+      (by its)
+      (acts_one node old.machines.items new.machines.items pair.before pair.after pair.was pair.is others [] (pair.says (of_there AreApart (slice_get old.machines.items node) pair.before pair.was apart)).acts
+      (renewed_session own known reads pair.before pair.after its))
     where
       pair : Changed node old new (λ old new. AreApart old → KeepsCalls old new)
       pair = changed_at node old new (λ old new. AreApart old → KeepsCalls old new) there count calls
+
+      its : Renews own known reads pair.before pair.after
+      its = two_there (Renews own known reads) (slice_get old.machines.items node) (slice_get new.machines.items node) pair.before pair.after pair.was pair.is renews
 
       by : Renews own known reads pair.before pair.after → (acts : Acting) → under_way pair.after ≡ Some acts → under_way pair.before ≡ Some acts
       by (Stays mine same) acts is = sym (ap under_way same) ∙ is
@@ -79,7 +89,13 @@ module _ {G O S E T : Type 0} (node : ℕ) (old new : Nodes G O S E T) (there : 
   wakes_ticked ticks = record {
     waits = waits_ticked node old new there count ticks others;
     acting = λ n acts is. sym ((still_ticked node old new there count ticks others).acting n) ∙ is;
+    acts = acts_one node old.machines.items new.machines.items pair.before pair.after pair.was pair.is others []
+        (unchanged pair.before pair.after (ap (λ (m : Machine). m.calls.items) pair.says.only) (ap (λ (m : Machine). call_written m.stage) pair.says.only) (ap (λ (m : Machine). is_opening m.log.work) pair.says.only))
+        (λ number opens. ap (λ (m : Machine). m.session) pair.says.only);
   }
+    where
+      pair : Changed node old new Ticks
+      pair = changed_at node old new Ticks there count ticks
 
 -- ---- what is answered
 
@@ -91,6 +107,8 @@ none_answered reading at old new wakes = record {
   once = tt;
   left = λ node call. (λ w. ((wakes.waits node call).0 w, λ answered. nothing answered.one answered.there), λ both. (wakes.waits node call).1 both.0);
   acting = λ node acts is. inl (wakes.acting node acts is);
+  acts = wakes.acts;
+  acted = λ number is. absurd (nothing is.one is.there);
 }
 
 -- what is answered behind steps that answer nothing
@@ -107,6 +125,9 @@ answered_behind reading at old middle new said wakes is = record {
     λ both. (is.left node call).1 ((wakes.waits node call).1 both.0, both.1),
   );
   acting = λ node acts on. ⊎_elim (λ before. inl (wakes.acting node acts before)) (λ begins. inr begins) (is.acting node acts on);
+  acts = acts_on old middle new wakes.acts is.acts;
+  acted = λ number answered. moved at (λ node. MayActAt middle node number ⊎ OpenStill middle new node number) (λ node. MayActAt old node number ⊎ OpenStill old new node number)
+      (λ node either. before_all old middle new node number wakes.acts either) (is.acted number answered);
 }
   where
     moved : (who : Actor) (P Q : ℕ → Type 0) → ((node : ℕ) → P node → Q node) → AtNode who P → AtNode who Q
@@ -163,8 +184,23 @@ module _ (moment node latest : ℕ) (old new : List Machine) (said : List Said) 
           (λ both. inr (ap Node (sym here), ap (λ (m : ℕ). Some m) (sym both.0)))
           at
 
+  same_session : now.0.session ≡ machine.session
+  same_session = let e : Some now.0.session ≡ Some machine.session = sym (ap (option_map (λ (m : Machine). m.session)) now.1) ∙ turn.sessions ∙ ap (option_map (λ (m : Machine). m.session)) there in cc
+
+  only : OnlyMachine node old new
+  only = record { others = turn.others }
+
+  acts : ActThen old new
+  acts = acts_one node old new machine now.0 there now.1 only said now.2.acts (λ number opens. same_session)
+
+  acted : (number : ℕ) → IsAnswered said number → MayActAt old node number ⊎ OpenStill old new node number
+  acted number is = ⊎_elim
+      (λ may. inl (and_some (λ m. IsToAct m number) (slice_get old node) machine there may))
+      (λ opens. inr (opened_here node old new machine now.0 there now.1 only node number refl same_session opens))
+      (now.2.acts.answered number is)
+
   pub turn_answers : Answered (Some moment) (Node node) old new said
-  turn_answers = record { waited = answered_waited; points = points; once = its.once; left = left; acting = begins }
+  turn_answers = record { waited = answered_waited; points = points; once = its.once; left = left; acting = begins; acts = acts; acted = acted }
 
 -- ---- what goes on
 

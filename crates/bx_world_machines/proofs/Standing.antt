@@ -1,5 +1,5 @@
 -- How the machines stand once one of them heard something.
-use Rattle.std.proofs.Common.{◌≡◌, ⊎_elim, ◌∙◌, ℕ, ◌<◌, true, false, List, length, Option, Some, None, IfSome, IsSomeAnd, inl, refl, sym, ap, subst, arith}
+use Rattle.std.proofs.Common.{◌≡◌, ⊎_elim, ◌∙◌, ℕ, ◌<◌, true, false, List, [], length, Option, Some, None, IfSome, IsSomeAnd, inl, refl, sym, ap, subst, arith}
 use Rattle.std.specs.Prelude.{max, not, slice_get}
 use Rattle.bx_base.specs.declared.names.Actor.{Actor}
 use Rattle.bx_base.specs.declared.names.Actor.TheVariants.{Node}
@@ -13,6 +13,7 @@ use Rattle.bx_facts.specs.Chains.{Chain, IsPlace, last}
 use Rattle.bx_facts.specs.Inputs.{greatest_with}
 use Rattle.bx_facts.specs.Machines.{put_at}
 use Rattle.bx_facts.specs.Pasts.{RegisterPast}
+use Rattle.bx_global.specs.Allowed.{IsAllowed}
 use Rattle.bx_global.specs.declared.state.GlobalState.{GlobalState}
 use Rattle.bx_node_calls.specs.Turns.{Rounded}
 use Rattle.bx_node_calls.specs.Waits.{AreNumbered, AreTold, Waits}
@@ -23,21 +24,27 @@ use Rattle.bx_node_steps.specs.declared.machine.Machine.{Machine}
 use Rattle.bx_node_tries.specs.declared.round.Said.{Said}
 use Rattle.bx_node_tries.specs.declared.round.Waiting.{Waiting}
 use Rattle.bx_nodes.specs.Calls.{AddsCall, IsNewest, WaitsBehind}
-use Rattle.bx_nodes.specs.Standing.{BeReady, OfBoth, Stand}
+use Rattle.bx_nodes.specs.Standing.{BeReady, OfBoth, OfNode, Stand}
 use Rattle.bx_nodes.specs.Stopping.{Empties, with_down}
 use Rattle.bx_nodes.specs.Taking.{Hears, with_reading}
-use Rattle.bx_nodes.specs.Turns.{IsOldOrTold, OnlyMachine, Turned}
+use Rattle.bx_nodes.specs.Turns.{IsOldOrTold, OnlyMachine, Turned, TurnedUnder}
+use Rattle.bx_nodes.specs.bx_node_events.proofs.Works.{keeps_all}
 use Rattle.bx_nodes.specs.declared.nodes.Nodes.{Nodes}
 use Rattle.bx_nodes.proofs.Calling.{none_wait}
 use Rattle.bx_nodes.proofs.Emptied.{emptied}
 use Rattle.bx_facts.specs.declared.owners.Owners as owners
 use Rattle.bx_post.specs.declared.packets.Letter.{Letter}
 use Rattle.bx_views.specs.declared.engine.Engine as engine
-use Rattle.bx_world_machines.specs.Answering.{Answered, Comes, reading_in}
+use Rattle.bx_world_machines.specs.Answering.{Answered, AtNode, Comes, reading_in}
+use Rattle.bx_world_machines.specs.Doubts.{AreInDoubt, IsUsed}
 use Rattle.bx_world_machines.specs.Machines.{greater, is_up, up_without}
-use Rattle.bx_world_machines.specs.Standing.{AreClocks, AreNodes, AreReady, IsReady, Standing}
+use Rattle.bx_world_machines.specs.Standing.{AreClocks, AreNodes, AreReady, IsReady, Standing, StandsBehind}
 use Rattle.bx_world_machines.specs.declared.machines.Machines.{Machines}
 use Rattle.bx_world_machines.proofs.Answering.{numbers_then, told_answered}
+use Rattle.bx_world_machines.proofs.Acts.{may_with, opens_with}
+use Rattle.bx_world_machines.proofs.Doubts.{WereOpen, goes_none, in_doubt_with, open_before}
+use Rattle.bx_world_machines.proofs.Emptied.{in_doubt_emptied}
+use Rattle.bx_world_machines.proofs.Goes.{doubts_go, in_doubt_then}
 use Rattle.bx_world_machines.proofs.Known.{known_heard}
 use Rattle.bx_world_machines.proofs.Nodes.{nodes_with}
 use Rattle.bx_world_machines.proofs.WhoIsUp.{down_then, down_without, was_up}
@@ -96,30 +103,41 @@ module _ {G O S E T : Type 0} (g : register.Ghosts G) (o : owners.Ghosts O) (st 
 
     -- it went on, and answered calls
     pub stands_heard : AreReady g o st e old → (at : Actor) (letters letters_then : List Letter) (x y : Disks) (tree : T) (said : List Said) → Answered (reading_in input) at old.nodes.machines.items new.nodes.machines.items said → (standing : Standing g o st e old letters x tree)
-        → (known : GlobalState) → (heard : Hears known (λ later. Turned (e.step old.nodes.engine) (Stand g o st e new.nodes y letters_then (with_reading standing.clocks input)) later tree said) standing.course) → new.state ≡ last heard.stands.later.register.chain
-        → Rounded e old.nodes.engine (Standing g o st e new letters_then y) tree said
-    stands_heard ready at letters letters_then x y tree said answers standing known heard state = record {
-      next = heard.stands.next;
-      leads = heard.stands.leads;
+        → standing.clocks.down at ≡ false → ((n : ℕ) → OfNode new.nodes n AreApart)
+        → (known : GlobalState) → (heard : Hears known (λ later. TurnedUnder (λ session. AtNode at (λ node. IsUsed o new.nodes node session)) (e.step old.nodes.engine) (Stand g o st e new.nodes y letters_then (with_reading standing.clocks input)) later tree said) standing.course) → WereOpen standing.course heard.later
+        → new.state ≡ last heard.stands.turned.later.register.chain → Rounded e old.nodes.engine (StandsBehind g o st e standing.course said new letters_then y) tree said
+    stands_heard ready at letters letters_then x y tree said answers standing is_up_then apart known heard before state = record {
+      next = heard.stands.turned.next;
+      leads = heard.stands.turned.leads;
       stands = record {
-        clocks = with_reading standing.clocks input;
-        course = heard.stands.later;
-        are_clocks = clocks_then standing.clocks standing.are_clocks;
-        stands = heard.stands.stands;
-        told = subst (λ (n : ℕ). AreTold n new.nodes.machines.items heard.stands.later.logs) (sym latest)
-            (told_answered (reading_in input) at old.latest old.nodes.machines.items new.nodes.machines.items said answers ready.numbered standing.course.logs heard.stands.later.logs standing.told
-            (λ slot one has. subst (λ (logs : Logs). IsOldOrTold logs said slot one) heard.logs (heard.stands.logged slot one has)));
-        known = state;
+        stands = record {
+          clocks = with_reading standing.clocks input;
+          course = heard.stands.turned.later;
+          are_clocks = clocks_then standing.clocks standing.are_clocks;
+          stands = heard.stands.turned.stands;
+          told = subst (λ (n : ℕ). AreTold n new.nodes.machines.items heard.stands.turned.later.logs) (sym latest)
+              (told_answered (reading_in input) at old.latest old.nodes.machines.items new.nodes.machines.items said answers ready.numbered standing.course.logs heard.stands.turned.later.logs standing.told
+              (λ slot one has. subst (λ (logs : Logs). IsOldOrTold logs said slot one) heard.logs (heard.stands.turned.logged slot one has)));
+          doubts = subst (λ (n : ℕ). AreInDoubt n new.nodes.machines.items heard.stands.turned.later) (sym latest)
+              (in_doubt_then g o st e (e.step old.nodes.engine) new.nodes y letters_then (with_reading standing.clocks input) old.latest at old.nodes.machines.items said standing.course heard.later tree before heard.logs standing.doubts
+              (numbers_then (reading_in input) at old.latest old.nodes.machines.items new.nodes.machines.items said answers ready.numbered) apart is_up_then answers.acts answers.acted heard.stands);
+          known = state;
+        };
+        goes = doubts_go g o st e (e.step old.nodes.engine) new.nodes y letters_then (with_reading standing.clocks input) old.latest at old.nodes.machines.items said standing.course heard.later tree before heard.logs standing.doubts
+            (numbers_then (reading_in input) at old.latest old.nodes.machines.items new.nodes.machines.items said answers ready.numbered) apart is_up_then answers.acts answers.acted heard.stands;
       };
     }
 
     -- .. where the state that it knows then is kept if that is greater
     pub stands_learnt : AreReady g o st e old → (at : Actor) (letters letters_then : List Letter) (x y : Disks) (tree : T) (said : List Said) → Answered (reading_in input) at old.nodes.machines.items new.nodes.machines.items said → (standing : Standing g o st e old letters x tree)
+        → standing.clocks.down at ≡ false → ((n : ℕ) → OfNode new.nodes n AreApart) → IsAllowed (last standing.course.register.chain)
         → ((past : RegisterPast) → g.keeps new.nodes.register y past → IsPlace past.chain (g.knows new.nodes.register at)) → new.state ≡ greater old.state (g.knows new.nodes.register at)
-        → Hears (g.knows new.nodes.register at) (λ later. Turned (e.step old.nodes.engine) (Stand g o st e new.nodes y letters_then (with_reading standing.clocks input)) later tree said) standing.course → Rounded e old.nodes.engine (Standing g o st e new letters_then y) tree said
-    stands_learnt ready at letters letters_then x y tree said answers standing places is heard = stands_heard ready at letters letters_then x y tree said answers standing (g.knows new.nodes.register at) heard
-        (is ∙ known_heard old.state (g.knows new.nodes.register at) (λ later. Turned (e.step old.nodes.engine) (Stand g o st e new.nodes y letters_then (with_reading standing.clocks input)) later tree said) standing.course heard heard.stands.later.register.chain
-        heard.stands.chain standing.known (places heard.stands.later.register heard.stands.stands.at.parts.register_keeps))
+        → Hears (g.knows new.nodes.register at) (λ later. TurnedUnder (λ session. AtNode at (λ node. IsUsed o new.nodes node session)) (e.step old.nodes.engine) (Stand g o st e new.nodes y letters_then (with_reading standing.clocks input)) later tree said) standing.course
+        → Rounded e old.nodes.engine (StandsBehind g o st e standing.course said new letters_then y) tree said
+    stands_learnt ready at letters letters_then x y tree said answers standing is_up_then apart allowed places is heard =
+        stands_heard ready at letters letters_then x y tree said answers standing is_up_then apart (g.knows new.nodes.register at) heard (open_before standing.course heard.later allowed standing.stands.at.doubted heard.works heard.grows)
+        (is ∙ known_heard old.state (g.knows new.nodes.register at) (λ later. TurnedUnder (λ session. AtNode at (λ node. IsUsed o new.nodes node session)) (e.step old.nodes.engine) (Stand g o st e new.nodes y letters_then (with_reading standing.clocks input)) later tree said) standing.course heard heard.stands.turned.later.register.chain
+        heard.stands.turned.chain standing.known (places heard.stands.turned.later.register heard.stands.turned.stands.at.parts.register_keeps))
 
   module _ (at : Actor) (up : new.up.items ≡ up_without at old.up.items) (empties : Empties at old.nodes.machines.items new.nodes.machines.items) where
     clocks_stopped : (clocks : Clocks) → AreClocks g o st e old clocks → AreClocks g o st e new (with_down (with_reading clocks input) at)
@@ -134,22 +152,29 @@ module _ {G O S E T : Type 0} (g : register.Ghosts G) (o : owners.Ghosts O) (st 
 
     -- it stopped
     pub stands_stopped : (letters : List Letter) (x y : Disks) (tree : T) → (standing : Standing g o st e old letters x tree)
-        → (known : GlobalState) → (heard : Hears known (λ later. Stand g o st e new.nodes y letters (with_down (with_reading standing.clocks input) at) later tree) standing.course) → new.state ≡ last heard.later.register.chain → Standing g o st e new letters y tree
-    stands_stopped letters x y tree standing known heard state = record {
-      clocks = with_down (with_reading standing.clocks input) at;
-      course = heard.later;
-      are_clocks = clocks_stopped standing.clocks standing.are_clocks;
-      stands = heard.stands;
-      told = subst (λ (n : ℕ). AreTold n new.nodes.machines.items heard.later.logs) (sym latest)
-          (told_on old.latest old.nodes.machines.items new.nodes.machines.items (waited_before at old.nodes.machines.items new.nodes.machines.items empties) heard.later.logs
-          (subst (λ (logs : Logs). AreTold old.latest old.nodes.machines.items logs) (sym heard.logs) standing.told));
-      known = state;
+        → (known : GlobalState) → (heard : Hears known (λ later. Stand g o st e new.nodes y letters (with_down (with_reading standing.clocks input) at) later tree) standing.course) → WereOpen standing.course heard.later → new.state ≡ last heard.later.register.chain
+        → StandsBehind g o st e standing.course [] new letters y tree
+    stands_stopped letters x y tree standing known heard before state = record {
+      stands = record {
+        clocks = with_down (with_reading standing.clocks input) at;
+        course = heard.later;
+        are_clocks = clocks_stopped standing.clocks standing.are_clocks;
+        stands = heard.stands;
+        told = subst (λ (n : ℕ). AreTold n new.nodes.machines.items heard.later.logs) (sym latest)
+            (told_on old.latest old.nodes.machines.items new.nodes.machines.items (waited_before at old.nodes.machines.items new.nodes.machines.items empties) heard.later.logs
+            (subst (λ (logs : Logs). AreTold old.latest old.nodes.machines.items logs) (sym heard.logs) standing.told));
+        doubts = subst (λ (n : ℕ). AreInDoubt n new.nodes.machines.items heard.later) (sym latest)
+            (in_doubt_emptied old.latest at old.nodes.machines.items new.nodes.machines.items empties standing.course heard.later before standing.doubts);
+        known = state;
+      };
+      goes = goes_none new.nodes.machines.items standing.course heard.later before heard.logs;
     }
 
     pub stopped_learnt : (letters : List Letter) (x y : Disks) (tree : T) → (standing : Standing g o st e old letters x tree)
-        → ((past : RegisterPast) → g.keeps new.nodes.register y past → IsPlace past.chain (g.knows new.nodes.register at)) → new.state ≡ greater old.state (g.knows new.nodes.register at)
-        → Hears (g.knows new.nodes.register at) (λ later. Stand g o st e new.nodes y letters (with_down (with_reading standing.clocks input) at) later tree) standing.course → Standing g o st e new letters y tree
-    stopped_learnt letters x y tree standing places is heard = stands_stopped letters x y tree standing (g.knows new.nodes.register at) heard
+        → IsAllowed (last standing.course.register.chain) → ((past : RegisterPast) → g.keeps new.nodes.register y past → IsPlace past.chain (g.knows new.nodes.register at)) → new.state ≡ greater old.state (g.knows new.nodes.register at)
+        → Hears (g.knows new.nodes.register at) (λ later. Stand g o st e new.nodes y letters (with_down (with_reading standing.clocks input) at) later tree) standing.course → StandsBehind g o st e standing.course [] new letters y tree
+    stopped_learnt letters x y tree standing allowed places is heard =
+        stands_stopped letters x y tree standing (g.knows new.nodes.register at) heard (open_before standing.course heard.later allowed standing.stands.at.doubted heard.works heard.grows)
         (is ∙ known_heard old.state (g.knows new.nodes.register at) (λ later. Stand g o st e new.nodes y letters (with_down (with_reading standing.clocks input) at) later tree) standing.course heard heard.later.register.chain refl standing.known
         (places heard.later.register heard.stands.at.parts.register_keeps))
 
@@ -180,7 +205,15 @@ node_there g o st e machines node ready up = let less = ready.there (Node node) 
 module _ {G O S E T : Type 0} (g : register.Ghosts G) (o : owners.Ghosts O) (st : store.Ghosts S) (e : engine.Ghosts E T) (old new : Machines G O S E T) (middle : Nodes G O S E T) (node reading : ℕ) (call : Waiting) (ready : AreReady g o st e old) (there : node < length old.nodes.machines.items)
     (later : old.latest < call.number) (count : length middle.machines.items ≡ length old.nodes.machines.items) (behind : OfBoth old.nodes middle node (WaitsBehind call)) (others : OnlyMachine node old.nodes.machines.items middle.machines.items) where
   pub comes_to : Comes node call old.nodes.machines.items middle.machines.items
-  comes_to = record { waits = each_called node call old.nodes middle there count behind others; acting = (still_called node call old.nodes middle there count behind others).acting }
+  comes_to = record {
+    waits = each_called node call old.nodes middle there count behind others;
+    acting = (still_called node call old.nodes middle there count behind others).acting;
+    to_act = may_with node old.nodes.machines.items middle.machines.items pair.before pair.after pair.was pair.is others call pair.says;
+    opening = opens_with node old.nodes.machines.items middle.machines.items pair.before pair.after pair.was pair.is others call pair.says;
+  }
+    where
+      pair : Changed node old.nodes middle (WaitsBehind call)
+      pair = changed_at node old.nodes middle (WaitsBehind call) there count behind
 
   pub numbers_with : AreNumbered call.number middle.machines.items
   numbers_with = numbered_with old.latest node old.nodes.machines.items middle.machines.items call later (λ at other. (comes_to.waits at other).0) ready.numbered
@@ -200,25 +233,42 @@ module _ {G O S E T : Type 0} (g : register.Ghosts G) (o : owners.Ghosts O) (st 
 
   module _ (boots : new.boots ≡ old.boots) (same_count : new.count ≡ old.count) (devices : new.devices ≡ old.devices) (up : new.up.items ≡ old.up.items) (latest : new.latest ≡ call.number) (clock : new.clock ≡ max old.clock reading) where
     pub stands_called : (letters letters_then : List Letter) (x : Disks) (tree : T) (said : List Said) → Answered (Some reading) (Node node) middle.machines.items new.nodes.machines.items said → new.state ≡ old.state → (standing : Standing g o st e old letters x tree)
-        → Turned (e.step old.nodes.engine) (Stand g o st e new.nodes x letters_then (with_reading standing.clocks (Tick reading))) standing.course tree said → Rounded e old.nodes.engine (Standing g o st e new letters_then x) tree said
-    stands_called letters letters_then x tree said answers state standing turned = record {
+        → standing.clocks.down (Node node) ≡ false → ((n : ℕ) → OfNode new.nodes n AreApart)
+        → TurnedUnder (IsUsed o new.nodes node) (e.step old.nodes.engine) (Stand g o st e new.nodes x letters_then (with_reading standing.clocks (Tick reading))) standing.course tree said → Rounded e old.nodes.engine (StandsBehind g o st e standing.course said new letters_then x) tree said
+    stands_called letters letters_then x tree said answers state standing is_up_then apart under = record {
       next = turned.next;
       leads = turned.leads;
       stands = record {
-        clocks = with_reading standing.clocks (Tick reading);
-        course = turned.later;
-        are_clocks = record {
-          down = λ who has. standing.are_clocks.down who (rw (sym same_count, sym devices) has) ∙ ap (λ l. not (is_up l who)) (sym up);
-          boots = standing.are_clocks.boots ∙ sym boots;
-          greatest = ap (λ n. max n reading) standing.are_clocks.greatest ∙ sym clock;
+        stands = record {
+          clocks = with_reading standing.clocks (Tick reading);
+          course = turned.later;
+          are_clocks = record {
+            down = λ who has. standing.are_clocks.down who (rw (sym same_count, sym devices) has) ∙ ap (λ l. not (is_up l who)) (sym up);
+            boots = standing.are_clocks.boots ∙ sym boots;
+            greatest = ap (λ n. max n reading) standing.are_clocks.greatest ∙ sym clock;
+          };
+          stands = turned.stands;
+          told = subst (λ (n : ℕ). AreTold n new.nodes.machines.items turned.later.logs) (sym latest)
+              (told_answered (Some reading) (Node node) call.number middle.machines.items new.nodes.machines.items said answers numbers_with standing.course.logs turned.later.logs
+              (told_with old.latest node old.nodes.machines.items middle.machines.items call later (λ at other. (comes_to.waits at other).0) standing.course.logs standing.told) turned.logged);
+          doubts = subst (λ (n : ℕ). AreInDoubt n new.nodes.machines.items turned.later) (sym latest)
+              (in_doubt_then g o st e (e.step old.nodes.engine) new.nodes x letters_then (with_reading standing.clocks (Tick reading)) call.number (Node node) middle.machines.items said standing.course standing.course tree
+              (λ session doubt deed is. is) refl in_doubt_with_it numbers_last apart is_up_then answers.acts answers.acted under);
+          known = state ∙ standing.known ∙ ap (λ (chain : Chain). last chain) (sym turned.chain);
         };
-        stands = turned.stands;
-        told = subst (λ (n : ℕ). AreTold n new.nodes.machines.items turned.later.logs) (sym latest)
-            (told_answered (Some reading) (Node node) call.number middle.machines.items new.nodes.machines.items said answers numbers_with standing.course.logs turned.later.logs
-            (told_with old.latest node old.nodes.machines.items middle.machines.items call later (λ at other. (comes_to.waits at other).0) standing.course.logs standing.told) turned.logged);
-        known = state ∙ standing.known ∙ ap (λ (chain : Chain). last chain) (sym turned.chain);
+        goes = doubts_go g o st e (e.step old.nodes.engine) new.nodes x letters_then (with_reading standing.clocks (Tick reading)) call.number (Node node) middle.machines.items said standing.course standing.course tree
+            (λ session doubt deed is. is) refl in_doubt_with_it numbers_last apart is_up_then answers.acts answers.acted under;
       };
     }
+      where
+        turned : Turned under.own (e.step old.nodes.engine) (Stand g o st e new.nodes x letters_then (with_reading standing.clocks (Tick reading))) standing.course tree said
+        turned = under.turned
+
+        numbers_last : AreNumbered call.number new.nodes.machines.items
+        numbers_last = numbers_then (Some reading) (Node node) call.number middle.machines.items new.nodes.machines.items said answers numbers_with
+
+        in_doubt_with_it : AreInDoubt call.number middle.machines.items standing.course
+        in_doubt_with_it = in_doubt_with old.latest call.number old.nodes.machines.items middle.machines.items standing.course later comes_to.to_act comes_to.opening standing.doubts
 
     pub ready_called : is_up old.up.items (Node node) ≡ true → (sizes : List ℕ) (said : List Said) → Answered (Some reading) (Node node) middle.machines.items new.nodes.machines.items said → IsReady g o st e old sizes → AreNodes g o st e new.nodes → st.made new.nodes.store ≡ st.made old.nodes.store
         → length new.nodes.machines.items ≡ length old.nodes.machines.items → IsReady g o st e new sizes
@@ -258,7 +308,8 @@ module _ {G O S E T : Type 0} (g : register.Ghosts G) (o : owners.Ghosts O) (st 
     members = rw (devices, made) is.members;
   }
 
-  pub stands_turned : (letters letters_then : List Letter) (x : Disks) (tree : T) → new.state ≡ old.state → (standing : Standing g o st e old letters x tree) → Turned (e.step old.nodes.engine) (Stand g o st e new.nodes x letters_then (with_reading standing.clocks (Tick reading))) standing.course tree said
-      → Rounded e old.nodes.engine (Standing g o st e new letters_then x) tree said
-  stands_turned letters letters_then x tree state standing turned = stands_heard g o st e old new (Tick reading) boots count devices latest clock up ready (Node node) letters letters_then x x tree said answers standing old.state
-      (record { later = standing.course; grows = inl refl; told = inl refl; logs = refl; stands = turned }) (state ∙ standing.known ∙ ap (λ (chain : Chain). last chain) (sym turned.chain))
+  pub stands_turned : (letters letters_then : List Letter) (x : Disks) (tree : T) → new.state ≡ old.state → (standing : Standing g o st e old letters x tree) → standing.clocks.down (Node node) ≡ false → ((n : ℕ) → OfNode new.nodes n AreApart)
+      → TurnedUnder (IsUsed o new.nodes node) (e.step old.nodes.engine) (Stand g o st e new.nodes x letters_then (with_reading standing.clocks (Tick reading))) standing.course tree said → Rounded e old.nodes.engine (StandsBehind g o st e standing.course said new letters_then x) tree said
+  stands_turned letters letters_then x tree state standing is_up_then apart under =
+      stands_heard g o st e old new (Tick reading) boots count devices latest clock up ready (Node node) letters letters_then x x tree said answers standing is_up_then apart old.state
+      (record { later = standing.course; grows = inl refl; told = inl refl; logs = refl; works = keeps_all standing.course; stands = under }) (λ session doubt deed is. is) (state ∙ standing.known ∙ ap (λ (chain : Chain). last chain) (sym under.turned.chain))

@@ -18,11 +18,15 @@ use Rattle.bx_nodes.specs.Stopping.{Empties}
 use Rattle.bx_post.specs.Machines.{is_same}
 use Rattle.bx_post.specs.declared.packets.Letter.{Letter}
 use Rattle.bx_views.specs.declared.engine.Engine as engine
+use Rattle.bx_world_machines.specs.Doubts.{AreInDoubt}
 use Rattle.bx_world_machines.specs.Machines.{is_up}
-use Rattle.bx_world_machines.specs.Standing.{AreNodes, HasMachine, IsReady, Standing}
+use Rattle.bx_world_machines.specs.Standing.{AreNodes, HasMachine, IsReady, Standing, StandsBehind}
 use Rattle.bx_world_machines.specs.declared.machines.Machines.{Machines}
 use Rattle.bx_world_machines.proofs.Beginning.{either_up, left_up, right_up, up_append}
+use Rattle.bx_world_machines.proofs.Doubts.{WereOpen, goes_none, open_kept}
+use Rattle.bx_world_machines.proofs.Emptied.{in_doubt_emptied}
 use Rattle.bx_world_machines.proofs.Standing.{waited_before}
+use Rattle.bx_world_standing.specs.Standing.{Course}
 use Rattle.bx_world_standing.specs.bx_volume.specs.Overlay.{Logs}
 
 -- who is down once one more is up
@@ -72,6 +76,10 @@ module _ {G O S E T : Type 0} (g : register.Ghosts G) (o : owners.Ghosts O) (st 
       (told_on old.latest old.nodes.machines.items new.nodes.machines.items (waited_before who old.nodes.machines.items new.nodes.machines.items empties) later
       (subst (λ (l : Logs). AreTold old.latest old.nodes.machines.items l) (sym same) told))
 
+  in_doubt_then_it : (c later : Course) → WereOpen c later → AreInDoubt old.latest old.nodes.machines.items c → AreInDoubt new.latest new.nodes.machines.items later
+  in_doubt_then_it c later before was = subst (λ (n : ℕ). AreInDoubt n new.nodes.machines.items later) (sym latest)
+      (in_doubt_emptied old.latest who old.nodes.machines.items new.nodes.machines.items empties c later before was)
+
   numbered_then : AreNumbered old.latest old.nodes.machines.items → AreNumbered new.latest new.nodes.machines.items
   numbered_then numbered = subst (λ (n : ℕ). AreNumbered n new.nodes.machines.items) (sym latest)
       (numbered_on old.latest old.nodes.machines.items new.nodes.machines.items (waited_before who old.nodes.machines.items new.nodes.machines.items empties) numbered)
@@ -79,18 +87,22 @@ module _ {G O S E T : Type 0} (g : register.Ghosts G) (o : owners.Ghosts O) (st 
   -- it is up
   module _ (up : new.up.items ≡ old.up.items ++ who ∷ []) where
     pub stands_started : (letters letters_then : List Letter) (x y : Disks) (tree : T) → (standing : Standing g o st e old letters x tree)
-        → Starts (λ later. Stand g o st e new.nodes y letters_then (with_boot standing.clocks who (old.boots + 1) reading) later tree) standing.course → Standing g o st e new letters_then y tree
+        → Starts (λ later. Stand g o st e new.nodes y letters_then (with_boot standing.clocks who (old.boots + 1) reading) later tree) standing.course → StandsBehind g o st e standing.course [] new letters_then y tree
     stands_started letters letters_then x y tree standing starts = record {
-      clocks = with_boot standing.clocks who (old.boots + 1) reading;
-      course = starts.later;
-      are_clocks = record {
-        down = λ other there. put_same other (standing.are_clocks.down other (rw (sym count, sym devices) there)) ∙ sym (down_with who other old.up.items) ∙ ap (λ l. not (is_up l other)) (sym up);
-        boots = sym boots;
-        greatest = ap (λ n. max n reading) standing.are_clocks.greatest ∙ sym clock;
+      stands = record {
+        clocks = with_boot standing.clocks who (old.boots + 1) reading;
+        course = starts.later;
+        are_clocks = record {
+          down = λ other there. put_same other (standing.are_clocks.down other (rw (sym count, sym devices) there)) ∙ sym (down_with who other old.up.items) ∙ ap (λ l. not (is_up l other)) (sym up);
+          boots = sym boots;
+          greatest = ap (λ n. max n reading) standing.are_clocks.greatest ∙ sym clock;
+        };
+        stands = starts.stands;
+        told = told_then standing.course.logs starts.later.logs starts.logs standing.told;
+        doubts = in_doubt_then_it standing.course starts.later (open_kept standing.course starts.later starts.works starts.chain) standing.doubts;
+        known = state ∙ standing.known ∙ ap (λ (chain : Chain). last chain) (sym starts.chain);
       };
-      stands = starts.stands;
-      told = told_then standing.course.logs starts.later.logs starts.logs standing.told;
-      known = state ∙ standing.known ∙ ap (λ (chain : Chain). last chain) (sym starts.chain);
+      goes = goes_none new.nodes.machines.items standing.course starts.later (open_kept standing.course starts.later starts.works starts.chain) starts.logs;
     }
       where
         put_same : (other : Actor) → standing.clocks.down other ≡ not (is_up old.up.items other) → put_at who false standing.clocks.down other ≡ put_at who false (λ one. not (is_up old.up.items one)) other
@@ -114,18 +126,22 @@ module _ {G O S E T : Type 0} (g : register.Ghosts G) (o : owners.Ghosts O) (st 
   -- it is down still
   module _ (up : new.up.items ≡ old.up.items) where
     pub stands_down : (letters : List Letter) (x y : Disks) (tree : T) → (standing : Standing g o st e old letters x tree)
-        → Starts (λ later. Stand g o st e new.nodes y letters (with_try standing.clocks (old.boots + 1) reading) later tree) standing.course → Standing g o st e new letters y tree
+        → Starts (λ later. Stand g o st e new.nodes y letters (with_try standing.clocks (old.boots + 1) reading) later tree) standing.course → StandsBehind g o st e standing.course [] new letters y tree
     stands_down letters x y tree standing starts = record {
-      clocks = with_try standing.clocks (old.boots + 1) reading;
-      course = starts.later;
-      are_clocks = record {
-        down = λ other there. standing.are_clocks.down other (rw (sym count, sym devices) there) ∙ ap (λ l. not (is_up l other)) (sym up);
-        boots = sym boots;
-        greatest = ap (λ n. max n reading) standing.are_clocks.greatest ∙ sym clock;
+      stands = record {
+        clocks = with_try standing.clocks (old.boots + 1) reading;
+        course = starts.later;
+        are_clocks = record {
+          down = λ other there. standing.are_clocks.down other (rw (sym count, sym devices) there) ∙ ap (λ l. not (is_up l other)) (sym up);
+          boots = sym boots;
+          greatest = ap (λ n. max n reading) standing.are_clocks.greatest ∙ sym clock;
+        };
+        stands = starts.stands;
+        told = told_then standing.course.logs starts.later.logs starts.logs standing.told;
+        doubts = in_doubt_then_it standing.course starts.later (open_kept standing.course starts.later starts.works starts.chain) standing.doubts;
+        known = state ∙ standing.known ∙ ap (λ (chain : Chain). last chain) (sym starts.chain);
       };
-      stands = starts.stands;
-      told = told_then standing.course.logs starts.later.logs starts.logs standing.told;
-      known = state ∙ standing.known ∙ ap (λ (chain : Chain). last chain) (sym starts.chain);
+      goes = goes_none new.nodes.machines.items standing.course starts.later (open_kept standing.course starts.later starts.works starts.chain) starts.logs;
     }
 
     pub ready_down : (sizes : List ℕ) → IsReady g o st e old sizes → AreNodes g o st e new.nodes → st.made new.nodes.store ≡ st.made old.nodes.store → IsReady g o st e new sizes

@@ -9,12 +9,14 @@ use Rattle.bx_facts.specs.Chains.{last}
 use Rattle.bx_facts.specs.Writes.{store_room}
 use Rattle.bx_node_calls.specs.Waits.{AreNumbered, AreTold, Waits}
 use Rattle.bx_node_steps.specs.Calls.{AreApart, CallOf}
+use Rattle.bx_node_tries.specs.declared.round.Said.{Said}
 use Rattle.bx_nodes.specs.Standing.{BeReady, OfNode, Stand}
 use Rattle.bx_nodes.specs.declared.nodes.Nodes.{Nodes}
 use Rattle.bx_facts.specs.declared.owners.Owners as owners
 use Rattle.bx_places.specs.Places.{replica_sectors}
 use Rattle.bx_post.specs.declared.packets.Letter.{Letter}
 use Rattle.bx_views.specs.declared.engine.Engine as engine
+use Rattle.bx_world_machines.specs.Doubts.{AreInDoubt, DoubtsGo}
 use Rattle.bx_world_machines.specs.Machines.{is_up}
 use Rattle.bx_world_machines.specs.declared.machines.Machines.{Machines}
 use Rattle.bx_world_standing.specs.Parts.{Clocks}
@@ -59,11 +61,21 @@ module _ {G O S E T : Type 0} (g : register.Ghosts G) (o : owners.Ghosts O) (st 
     pub boots : clocks.most ≡ machines.boots
     pub greatest : clocks.greatest ≡ machines.clock
 
-  -- They stand on disks for a tree, whatever was done, with these letters under way; what their logs have was told; and the greatest state that a machine knew is the last one.
+  -- They stand on disks for a tree, whatever was done, with these letters under way; what their logs have was told, and calls in doubt act no more; and the greatest state that a machine knew is the last one.
   pub record Standing (machines : Machines G O S E T) (letters : List Letter) (x : Disks) (tree : T) : Type 0 where
     pub clocks : Clocks
     pub course : Course
     pub are_clocks : AreClocks machines clocks
     pub stands : Stand g o st e machines.nodes x letters clocks course tree
     pub told : AreTold machines.latest machines.nodes.machines.items course.logs
+    pub doubts : AreInDoubt machines.latest machines.nodes.machines.items course
     pub known : machines.state ≡ last course.register.chain
+
+  -- They stand so by this course.
+  abbrev pub StandsBy : Course → Machines G O S E T → List Letter → Disks → T → Type 0
+  StandsBy c machines letters x tree = (standing : Standing machines letters x tree) × (standing.course ≡ c)
+
+  -- They stand behind a course, by one that goes on from it, where these calls are answered.
+  pub record StandsBehind (c : Course) (said : List Said) (machines : Machines G O S E T) (letters : List Letter) (x : Disks) (tree : T) : Type 0 where
+    pub stands : Standing machines letters x tree
+    pub goes : DoubtsGo said machines.nodes.machines.items c stands.course

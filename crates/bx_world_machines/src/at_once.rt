@@ -7,7 +7,8 @@ ghost use Rattle.bx_node_tries.specs.Tries.{LedTo};
 ghost use Rattle.bx_post.specs.declared.packets.Letter.{Letter};
 ghost use Rattle.bx_views.specs.Truths.{Truth, no_hints};
 ghost use Rattle.bx_world_machines.specs.AtOnce.{IsAnswered, IsTried, said_by};
-ghost use Rattle.bx_world_machines.specs.Standing.{IsReady, Standing};
+ghost use Rattle.bx_world_machines.specs.Standing.{IsReady, StandsBy};
+ghost use Rattle.bx_world_standing.specs.Standing.{Course};
 
 use crate::machines::Machines;
 use bx_base::{Mode, OutOfMemory, Point};
@@ -85,8 +86,8 @@ impl<G: Register, O: Owners, S: Store, E: Engine> Machines<G, O, S, E> {
         requires newer { self.old.latest < call.number }
         ensures tried { IfOk result (IsTried reading call) }
         ensures answers { E.at_once self.old.nodes.engine call.message → IfOk result IsAnswered }
-        ensures stands { (letters : List Letter) (x : Disks) (tree : E.Tree) → Standing G.Register O.Owners S.Store E.Engine self.old letters x tree
-            → IfOk result (λ tried. Rounded E.Engine self.old.nodes.engine (Standing G.Register O.Owners S.Store E.Engine self.new letters x) tree (said_by tried)) }
+        ensures stands { (letters : List Letter) (x : Disks) (tree : E.Tree) (c : Course) → StandsBy G.Register O.Owners S.Store E.Engine c self.old letters x tree
+            → IfOk result (λ tried. Rounded E.Engine self.old.nodes.engine (StandsBy G.Register O.Owners S.Store E.Engine c self.new letters x) tree (said_by tried)) }
         ensures ready { (sizes : List ℕ) → IsReady G.Register O.Owners S.Store E.Engine self.old sizes → IsReady G.Register O.Owners S.Store E.Engine self.new sizes }
         ensures latest { IfOk result (λ tried. IsAnswered tried → self.new.latest ≡ call.number) }
         ensures same { self.new ≡ record self.old { latest = self.new.latest } }

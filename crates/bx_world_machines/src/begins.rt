@@ -1,6 +1,6 @@
 //! How the machines begin.
 
-ghost use Rattle.std.specs.Prelude.{◌≡◌, ◌+◌, ◌*◌, ◌<◌, ◌≤◌, ℕ, length, slice_index, true, IfOk, List};
+ghost use Rattle.std.specs.Prelude.{◌≡◌, ◌+◌, ◌*◌, ◌<◌, ◌≤◌, ℕ, length, slice_index, true, IfOk, List, None};
 ghost use Rattle.bx_base.specs.declared.names.Actor.{Actor};
 ghost use Rattle.bx_disk.specs.Disks.{Disks};
 ghost use Rattle.bx_facts.specs.Chains.{last};
@@ -11,7 +11,7 @@ ghost use Rattle.bx_nodes.specs.bx_node_openings.specs.Opening.{opening_clocks};
 ghost use Rattle.bx_places.specs.Places.{replica_sectors};
 ghost use Rattle.bx_post.specs.declared.packets.Letter.{Letter};
 ghost use Rattle.bx_world_machines.specs.Machines.{first_up, is_up};
-ghost use Rattle.bx_world_machines.specs.Standing.{AreNodes, HasMachine, IsReady, Standing};
+ghost use Rattle.bx_world_machines.specs.Standing.{AreNodes, HasMachine, IsReady, StandsBy};
 ghost use Rattle.bx_world_standing.specs.Standing.{Course};
 
 use crate::machines::Machines;
@@ -39,8 +39,8 @@ impl<G: Register, O: Owners, S: Store, E: Engine> Machines<G, O, S, E> {
         devices: u32,
     ) -> Result<Machines<G, O, S, E>, OutOfMemory>
         requires few { devices ≤ 4 }
-        ensures stands { (letters : List Letter) (x : Disks) (course : Course) (tree : E.Tree) → Stand G.Register O.Owners S.Store E.Engine nodes x letters opening_clocks course tree → AreTold 0 nodes.machines.items course.logs → state ≡ last course.register.chain
-            → IfOk result (λ machines. Standing G.Register O.Owners S.Store E.Engine machines letters x tree) }
+        ensures stands { (letters : List Letter) (x : Disks) (course : Course) (tree : E.Tree) → Stand G.Register O.Owners S.Store E.Engine nodes x letters opening_clocks course tree → AreTold 0 nodes.machines.items course.logs → ((session : ℕ) → course.doubts session ≡ None) → state ≡ last course.register.chain
+            → IfOk result (λ machines. StandsBy G.Register O.Owners S.Store E.Engine course machines letters x tree) }
         ensures ready { (sizes : List ℕ) → AreNodes G.Register O.Owners S.Store E.Engine nodes → length nodes.machines.items ≡ count → (S.made nodes.store).devices ≡ devices → NoneWaits nodes.machines.items
             → ((disk : ℕ) → disk < 3 → replica_sectors ≤ slice_index sizes disk) → ((disk : ℕ) → 3 ≤ disk → disk < 3 + 2 * devices → store_room (S.made nodes.store) ≤ slice_index sizes disk)
             → IfOk result (λ machines. IsReady G.Register O.Owners S.Store E.Engine machines sizes) }

@@ -8,7 +8,8 @@ ghost use Rattle.bx_post.specs.declared.packets.Letter.{Letter};
 ghost use Rattle.bx_node_steps.specs.Calls.{IsAnswered};
 ghost use Rattle.bx_world_machines.specs.Answering.{Answered, Called, WaitsFirst};
 ghost use Rattle.bx_world_machines.specs.Machines.{is_up};
-ghost use Rattle.bx_world_machines.specs.Standing.{IsReady, Standing};
+ghost use Rattle.bx_world_machines.specs.Standing.{IsReady, StandsBehind, StandsBy};
+ghost use Rattle.bx_world_standing.specs.Standing.{Course};
 
 use crate::at_once::AtOnce;
 use crate::machines::Machines;
@@ -33,14 +34,15 @@ impl<G: Register, O: Owners, S: Store, E: Engine> Machines<G, O, S, E> {
         requires steady { self.old.clock ≤ reading + 500 }
         requires time { reading ≤ 4294967295999 }
         requires newer { self.old.latest < call.number }
-        ensures stands { (letters : List Letter) (x : Disks) (tree : E.Tree) → Standing G.Register O.Owners S.Store E.Engine self.old (letters ++ out.old) x tree
-            → IfOk result (λ said. Rounded E.Engine self.old.nodes.engine (Standing G.Register O.Owners S.Store E.Engine self.new (letters ++ out.new) x) tree said.items) }
+        ensures stands { (letters : List Letter) (x : Disks) (tree : E.Tree) (c : Course) → StandsBy G.Register O.Owners S.Store E.Engine c self.old (letters ++ out.old) x tree
+            → IfOk result (λ said. Rounded E.Engine self.old.nodes.engine (StandsBehind G.Register O.Owners S.Store E.Engine c said.items self.new (letters ++ out.new) x) tree said.items) }
         ensures ready { (sizes : List ℕ) → IsReady G.Register O.Owners S.Store E.Engine self.old sizes → OnOk result (IsReady G.Register O.Owners S.Store E.Engine self.new sizes) }
         ensures answers { IfOk result (λ said. Called reading node call self.old.nodes.machines.items self.new.nodes.machines.items said.items) }
         ensures at_once { E.at_once self.old.nodes.engine call.message → IfOk result (λ said. IsAnswered said.items call.number) }
         ensures clock { self.new.clock ≡ max self.old.clock reading }
         ensures latest { OnOk result (self.new.latest ≡ call.number) }
         ensures same { (self.new.up ≡ self.old.up) × (self.new.state ≡ self.old.state) × (self.new.boots ≡ self.old.boots) × (self.new.count ≡ self.old.count) × (self.new.devices ≡ self.old.devices) × (self.new.nodes.engine ≡ self.old.nodes.engine) }
+        ensures made { S.made self.new.nodes.store ≡ S.made self.old.nodes.store }
     {
         match self.answer_at_once(call, reading) {
             Ok(AtOnce::Answered(one)) => {
@@ -70,13 +72,14 @@ impl<G: Register, O: Owners, S: Store, E: Engine> Machines<G, O, S, E> {
         requires steady { self.old.clock ≤ reading + 500 }
         requires time { reading ≤ 4294967295999 }
         requires newer { self.old.latest < call.number }
-        ensures stands { (letters : List Letter) (x : Disks) (tree : E.Tree) → Standing G.Register O.Owners S.Store E.Engine self.old (letters ++ out.old) x tree
-            → IfOk result (λ said. Rounded E.Engine self.old.nodes.engine (Standing G.Register O.Owners S.Store E.Engine self.new (letters ++ out.new) x) tree said.items) }
+        ensures stands { (letters : List Letter) (x : Disks) (tree : E.Tree) (c : Course) → StandsBy G.Register O.Owners S.Store E.Engine c self.old (letters ++ out.old) x tree
+            → IfOk result (λ said. Rounded E.Engine self.old.nodes.engine (StandsBehind G.Register O.Owners S.Store E.Engine c said.items self.new (letters ++ out.new) x) tree said.items) }
         ensures ready { (sizes : List ℕ) → IsReady G.Register O.Owners S.Store E.Engine self.old sizes → OnOk result (IsReady G.Register O.Owners S.Store E.Engine self.new sizes) }
         ensures answers { IfOk result (λ said. WaitsFirst reading node call self.old.nodes.machines.items self.new.nodes.machines.items said.items) }
         ensures clock { self.new.clock ≡ max self.old.clock reading }
         ensures latest { OnOk result (self.new.latest ≡ call.number) }
         ensures same { (self.new.up ≡ self.old.up) × (self.new.state ≡ self.old.state) × (self.new.boots ≡ self.old.boots) × (self.new.count ≡ self.old.count) × (self.new.devices ≡ self.old.devices) × (self.new.nodes.engine ≡ self.old.nodes.engine) }
+        ensures made { S.made self.new.nodes.store ≡ S.made self.old.nodes.store }
     {
         self.read(reading);
         let number = call.number;
@@ -96,12 +99,13 @@ impl<G: Register, O: Owners, S: Store, E: Engine> Machines<G, O, S, E> {
         requires ready { (sizes : List ℕ) × IsReady G.Register O.Owners S.Store E.Engine self.old sizes }
         requires steady { self.old.clock ≤ reading + 500 }
         requires time { reading ≤ 4294967295999 }
-        ensures stands { (letters : List Letter) (x : Disks) (tree : E.Tree) → Standing G.Register O.Owners S.Store E.Engine self.old (letters ++ out.old) x tree
-            → IfOk result (λ said. Rounded E.Engine self.old.nodes.engine (Standing G.Register O.Owners S.Store E.Engine self.new (letters ++ out.new) x) tree said.items) }
+        ensures stands { (letters : List Letter) (x : Disks) (tree : E.Tree) (c : Course) → StandsBy G.Register O.Owners S.Store E.Engine c self.old (letters ++ out.old) x tree
+            → IfOk result (λ said. Rounded E.Engine self.old.nodes.engine (StandsBehind G.Register O.Owners S.Store E.Engine c said.items self.new (letters ++ out.new) x) tree said.items) }
         ensures ready { (sizes : List ℕ) → IsReady G.Register O.Owners S.Store E.Engine self.old sizes → OnOk result (IsReady G.Register O.Owners S.Store E.Engine self.new sizes) }
         ensures answers { IfOk result (λ said. Answered (Some reading) (Node node) self.old.nodes.machines.items self.new.nodes.machines.items said.items) }
         ensures clock { self.new.clock ≡ max self.old.clock reading }
         ensures same { (self.new.up ≡ self.old.up) × (self.new.state ≡ self.old.state) × (self.new.boots ≡ self.old.boots) × (self.new.count ≡ self.old.count) × (self.new.devices ≡ self.old.devices) × (self.new.latest ≡ self.old.latest) × (self.new.nodes.engine ≡ self.old.nodes.engine) }
+        ensures made { S.made self.new.nodes.store ≡ S.made self.old.nodes.store }
     {
         self.read(reading);
         turn(&mut self.nodes, node, reading, out)

@@ -1,6 +1,6 @@
 //! What a machine does when it hears something.
 
-ghost use Rattle.std.specs.Prelude.{◌≡◌, ◌+◌, ◌≤◌, ◌++◌, ℕ, max, true, false, List, length, IfOk, IsErrOf, OnOk};
+ghost use Rattle.std.specs.Prelude.{◌≡◌, ◌+◌, ◌≤◌, ◌++◌, ℕ, max, true, false, List, [], length, IfOk, IsErrOf, OnOk};
 ghost use Rattle.bx_base.specs.declared.names.Actor.{Actor};
 ghost use Rattle.bx_calls.specs.Calls.{LeavesOnly};
 ghost use Rattle.bx_cluster.specs.Steps.{IsTime, greatest_with};
@@ -14,12 +14,13 @@ ghost use Rattle.bx_node_calls.specs.Waits.{AreNumbered};
 ghost use Rattle.bx_nodes.specs.Standing.{Stand};
 ghost use Rattle.bx_nodes.specs.Stopping.{Empties, with_down};
 ghost use Rattle.bx_nodes.specs.Taking.{Hears, with_reading};
-ghost use Rattle.bx_nodes.specs.Turns.{Turned};
+ghost use Rattle.bx_nodes.specs.Turns.{TurnedUnder};
 ghost use Rattle.bx_nodes.specs.bx_world_volumes.specs.Left.{MayShow};
 ghost use Rattle.bx_post.specs.declared.packets.Letter.{Letter};
-ghost use Rattle.bx_world_machines.specs.Answering.{Answered, reading_in};
+ghost use Rattle.bx_world_machines.specs.Answering.{Answered, AtNode, reading_in};
+ghost use Rattle.bx_world_machines.specs.Doubts.{IsUsed};
 ghost use Rattle.bx_world_machines.specs.Machines.{greater, is_up, up_without};
-ghost use Rattle.bx_world_machines.specs.Standing.{AreNodes, IsReady, Standing};
+ghost use Rattle.bx_world_machines.specs.Standing.{AreNodes, IsReady, Standing, StandsBehind, StandsBy};
 ghost use Rattle.bx_world_standing.specs.Parts.{Clocks};
 ghost use Rattle.bx_world_standing.specs.Standing.{Course};
 
@@ -48,10 +49,10 @@ impl<G: Register, O: Owners, S: Store, E: Engine> Machines<G, O, S, E> {
         requires ready { IsReady G.Register O.Owners S.Store E.Engine self.old (R.state rack.old).sizes }
         requires steady { IsSteady self.old.clock input.now }
         requires time { IsTime (reading_in input.now) }
-        ensures stands { (letters : List Letter) (tree : E.Tree) → R.tells rack.old → IsComing (letters ++ out.old) input.now → Standing G.Register O.Owners S.Store E.Engine self.old (letters ++ out.old) (R.state rack.old) tree
-            → IfOk result (λ said. Rounded E.Engine self.old.nodes.engine (Standing G.Register O.Owners S.Store E.Engine self.new (letters ++ out.new) (R.state rack.new)) tree said.items) }
-        ensures stopped { (letters : List Letter) (tree : E.Tree) → R.tells rack.old → IsComing (letters ++ out.old) input.now → Standing G.Register O.Owners S.Store E.Engine self.old (letters ++ out.old) (R.state rack.old) tree
-            → IsErrOf result DiskFails → Standing G.Register O.Owners S.Store E.Engine self.new (letters ++ out.old) (R.state rack.new) tree }
+        ensures stands { (letters : List Letter) (tree : E.Tree) (c : Course) → R.tells rack.old → IsComing (letters ++ out.old) input.now → StandsBy G.Register O.Owners S.Store E.Engine c self.old (letters ++ out.old) (R.state rack.old) tree
+            → IfOk result (λ said. Rounded E.Engine self.old.nodes.engine (StandsBehind G.Register O.Owners S.Store E.Engine c said.items self.new (letters ++ out.new) (R.state rack.new)) tree said.items) }
+        ensures stopped { (letters : List Letter) (tree : E.Tree) (c : Course) → R.tells rack.old → IsComing (letters ++ out.old) input.now → StandsBy G.Register O.Owners S.Store E.Engine c self.old (letters ++ out.old) (R.state rack.old) tree
+            → IsErrOf result DiskFails → StandsBehind G.Register O.Owners S.Store E.Engine c [] self.new (letters ++ out.old) (R.state rack.new) tree }
         ensures any_moment { (letters : List Letter) (tree : E.Tree) → R.tells rack.old → IsComing (letters ++ out.old) input.now → (standing : Standing G.Register O.Owners S.Store E.Engine self.old (letters ++ out.old) (R.state rack.old) tree)
             → LeavesOnly (R.moment rack.old) (R.moment rack.new) (R.left_since rack.old) (R.left_since rack.new) (MayShow (G.reads_as (G.made self.old.nodes.register) (R.state rack.old).sizes) (S.made self.old.nodes.store) (R.state rack.old).sizes standing.course) }
         ensures ready { (sizes : List ℕ) → IsReady G.Register O.Owners S.Store E.Engine self.old sizes → (IsErrOf result MemoryFails → ⊥) → IsReady G.Register O.Owners S.Store E.Engine self.new sizes }
@@ -62,6 +63,7 @@ impl<G: Register, O: Owners, S: Store, E: Engine> Machines<G, O, S, E> {
         ensures clock { self.new.clock ≡ greatest_with (reading_in input.now) self.old.clock }
         ensures state { (IsErrOf result MemoryFails → ⊥) → self.new.state ≡ greater self.old.state (G.knows self.new.nodes.register at) }
         ensures same { (self.new.boots ≡ self.old.boots) × (self.new.count ≡ self.old.count) × (self.new.devices ≡ self.old.devices) × (self.new.latest ≡ self.old.latest) × (self.new.nodes.engine ≡ self.old.nodes.engine) }
+        ensures made { S.made self.new.nodes.store ≡ S.made self.old.nodes.store }
         ensures rack { Counted R.Rack rack.old rack.new result DiskFails }
     {
         self.read_with(input);
@@ -115,7 +117,7 @@ fn hear<G: Register, O: Owners, S: Store, E: Engine, R: Rack>(
     requires time { IsTime (reading_in input.now) }
     ensures stands { (letters : List Letter) (clocks : Clocks) (c : Course) (tree : E.Tree) → R.tells rack.old → clocks.down at ≡ false → IsSteady clocks.greatest input.now → IsComing (letters ++ out.old) input.now
         → Stand G.Register O.Owners S.Store E.Engine nodes.old (R.state rack.old) (letters ++ out.old) clocks c tree
-        → IfOk result (λ said. Hears (G.knows nodes.new.register at) (λ later. Turned (E.step nodes.old.engine) (Stand G.Register O.Owners S.Store E.Engine nodes.new (R.state rack.new) (letters ++ out.new) (with_reading clocks input.now)) later tree said.items) c) }
+        → IfOk result (λ said. Hears (G.knows nodes.new.register at) (λ later. TurnedUnder (λ session. AtNode at (λ node. IsUsed O.Owners nodes.new node session)) (E.step nodes.old.engine) (Stand G.Register O.Owners S.Store E.Engine nodes.new (R.state rack.new) (letters ++ out.new) (with_reading clocks input.now)) later tree said.items) c) }
     ensures stopped { (letters : List Letter) (clocks : Clocks) (c : Course) (tree : E.Tree) → R.tells rack.old → clocks.down at ≡ false → IsSteady clocks.greatest input.now → IsComing (letters ++ out.old) input.now
         → Stand G.Register O.Owners S.Store E.Engine nodes.old (R.state rack.old) (letters ++ out.old) clocks c tree
         → IsErrOf result DiskFails → Hears (G.knows nodes.new.register at) (λ later. Stand G.Register O.Owners S.Store E.Engine nodes.new (R.state rack.new) (letters ++ out.old) (with_down (with_reading clocks input.now) at) later tree) c }

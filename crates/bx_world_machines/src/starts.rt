@@ -10,7 +10,8 @@ ghost use Rattle.bx_nodes.specs.Stopping.{Empties};
 ghost use Rattle.bx_nodes.specs.bx_world_volumes.specs.Left.{MayShow};
 ghost use Rattle.bx_post.specs.declared.packets.Letter.{Letter};
 ghost use Rattle.bx_world_machines.specs.Machines.{is_up};
-ghost use Rattle.bx_world_machines.specs.Standing.{HasMachine, IsReady, Standing};
+ghost use Rattle.bx_world_machines.specs.Standing.{HasMachine, IsReady, Standing, StandsBehind, StandsBy};
+ghost use Rattle.bx_world_standing.specs.Standing.{Course};
 
 use crate::machines::Machines;
 use crate::up::bring_in;
@@ -34,10 +35,10 @@ impl<G: Register, O: Owners, S: Store, E: Engine> Machines<G, O, S, E> {
         requires ready { IsReady G.Register O.Owners S.Store E.Engine self.old (R.state rack.old).sizes }
         requires steady { self.old.clock ≤ reading + 500 }
         requires few { self.old.boots < 4611686018427387904 }
-        ensures stands { (letters : List Letter) (tree : E.Tree) → R.tells rack.old → ((node : ℕ) → who ≡ Node node → MayStart O.by_boot (O.is_separate × S.is_separate) self.old.state node (self.old.boots + 1))
-            → Standing G.Register O.Owners S.Store E.Engine self.old (letters ++ out.old) (R.state rack.old) tree → OnOk result (Standing G.Register O.Owners S.Store E.Engine self.new (letters ++ out.new) (R.state rack.new) tree) }
-        ensures failed { (letters : List Letter) (tree : E.Tree) → R.tells rack.old → Standing G.Register O.Owners S.Store E.Engine self.old (letters ++ out.old) (R.state rack.old) tree
-            → IsErrOf result DiskFails → Standing G.Register O.Owners S.Store E.Engine self.new (letters ++ out.old) (R.state rack.new) tree }
+        ensures stands { (letters : List Letter) (tree : E.Tree) (c : Course) → R.tells rack.old → ((node : ℕ) → who ≡ Node node → MayStart O.by_boot (O.is_separate × S.is_separate) self.old.state node (self.old.boots + 1))
+            → StandsBy G.Register O.Owners S.Store E.Engine c self.old (letters ++ out.old) (R.state rack.old) tree → OnOk result (StandsBehind G.Register O.Owners S.Store E.Engine c [] self.new (letters ++ out.new) (R.state rack.new) tree) }
+        ensures failed { (letters : List Letter) (tree : E.Tree) (c : Course) → R.tells rack.old → StandsBy G.Register O.Owners S.Store E.Engine c self.old (letters ++ out.old) (R.state rack.old) tree
+            → IsErrOf result DiskFails → StandsBehind G.Register O.Owners S.Store E.Engine c [] self.new (letters ++ out.old) (R.state rack.new) tree }
         ensures any_moment { (letters : List Letter) (tree : E.Tree) → R.tells rack.old → (standing : Standing G.Register O.Owners S.Store E.Engine self.old (letters ++ out.old) (R.state rack.old) tree)
             → LeavesOnly (R.moment rack.old) (R.moment rack.new) (R.left_since rack.old) (R.left_since rack.new) (MayShow (G.reads_as (G.made self.old.nodes.register) (R.state rack.old).sizes) (S.made self.old.nodes.store) (R.state rack.old).sizes standing.course) }
         ensures ready { (sizes : List ℕ) → S.is_separate → IsReady G.Register O.Owners S.Store E.Engine self.old sizes → (IsErrOf result MemoryFails → ⊥) → IsReady G.Register O.Owners S.Store E.Engine self.new sizes }
@@ -47,6 +48,7 @@ impl<G: Register, O: Owners, S: Store, E: Engine> Machines<G, O, S, E> {
         ensures clock { self.new.clock ≡ max self.old.clock reading }
         ensures boots { self.new.boots ≡ self.old.boots + 1 }
         ensures same { (self.new.state ≡ self.old.state) × (self.new.count ≡ self.old.count) × (self.new.devices ≡ self.old.devices) × (self.new.latest ≡ self.old.latest) × (self.new.nodes.engine ≡ self.old.nodes.engine) }
+        ensures made { S.made self.new.nodes.store ≡ S.made self.old.nodes.store }
         ensures rack { Counted R.Rack rack.old rack.new result DiskFails }
     {
         self.read(reading);

@@ -28,7 +28,7 @@ returns-in_ok-push-in-Answer-clause-goes g c =
     let done = c.in-Answer.done in
     let said : Said = record { point = record { call = c.args.call.number; moment = c.args.moment; spare = done.spare; made = done.made }; client = c.args.call.client; call = c.args.call.message; reply = done.reply } in
     Answered said (record { number = refl; when = refl; client = refl; bytes = refl })
-    (c.in_ok-push-in-Answer.ensures.items ∙ ap (λ (s : Said). c.args.round.now.said.items ++ s ∷ []) c.said.ensures) refl refl refl (sym c.is_newer.ensures ∙ c.if-is_newer.false)
+    (c.in_ok-push-in-Answer.ensures.items ∙ ap (λ (s : Said). c.args.round.now.said.items ++ s ∷ []) c.said.ensures) refl refl refl (sym c.is_newer.ensures ∙ c.if-is_newer.false) (sym c.is_attempted.ensures ∙ c.if-not-is_attempted.false)
 
 pub returns-in_ok-push-in-Need-2-clause-goes : goal.returns-in_ok-push-in-Need-2-clause-goes
 returns-in_ok-push-in-Need-2-clause-goes g c = Needs c.in-Need.wants c.in_ok-push-in-Need-2.ensures.items refl refl c.in_ok-push-in-Need.ensures.items (sym c.is_newer.ensures ∙ c.if-is_newer.false)

@@ -1,6 +1,6 @@
 use Rattle.std.proofs.Common.{◌≡◌, ⊎_elim, inl, inr, ◌∙◌, false, refl, sym, ap, subst}
 use Rattle.bx_nodes.proofs.Ending.{err_back}
-use Rattle.bx_nodes.proofs.Leading.{turned_none}
+use Rattle.bx_nodes.proofs.Leading.{under_as, under_none}
 use Rattle.bx_nodes.specs.Taking.{with_reading}
 use Rattle.bx_world_machines.proofs.Answering.{none_answered, wakes_same}
 use Rattle.bx_world_machines.proofs.Clocks.{steady_then}
@@ -16,12 +16,12 @@ returns-in_ok-wake-in-Node-clause-stands g c = λ letters clocks course tree tel
     let input = c.args.input.now in
     let turned = c.in_ok-wake-in-Node.ensures.stands (g.R.Rack.state c.take.new.rack) letters (with_reading clocks input) heard.later tree (subst (λ who. clocks.down who ≡ false) c.in-Node.is up) (steady_then clocks.greatest input steady) heard.stands in
     let known = ap (λ (r : _). g.G.Register.knows r c.args.at) c.in_ok-wake-in-Node.ensures.parts.0 in
-    record { later = heard.later; grows = heard.grows; told = ⊎_elim (λ same. inl same) (λ is. inr (known ∙ is)) heard.told; logs = heard.logs; stands = rw (sym c.take.ensures.engine) turned }
+    record { later = heard.later; grows = heard.grows; told = ⊎_elim (λ same. inl same) (λ is. inr (known ∙ is)) heard.told; logs = heard.logs; works = heard.works; stands = rw (sym c.take.ensures.engine) (under_as _ _ _ _ _ heard.later tree _ (λ session used. rw c.in-Node.is used) (λ later next stood. stood) turned) }
 
 pub returns-in-Replica-clause-stands : goal.returns-in-Replica-clause-stands
 returns-in-Replica-clause-stands g c = λ letters clocks course tree tells up steady comes stands.
     let heard = c.in_ok-take.ensures.stands letters clocks course tree tells up steady comes stands in
-    record { later = heard.later; grows = heard.grows; told = heard.told; logs = heard.logs; stands = rw c.new.ensures.items (turned_none _ _ heard.later tree heard.stands) }
+    record { later = heard.later; grows = heard.grows; told = heard.told; logs = heard.logs; works = heard.works; stands = rw c.new.ensures.items (under_none _ _ _ heard.later tree heard.stands) }
 
 pub returns-in-Replica-clause-answers : goal.returns-in-Replica-clause-answers
 returns-in-Replica-clause-answers g c = λ latest numbers.

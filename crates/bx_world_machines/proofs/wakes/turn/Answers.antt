@@ -1,10 +1,26 @@
+use Rattle.std.proofs.Common.{◌++◌}
 use Rattle.bx_facts.specs.Holds.{first_of}
 use Rattle.bx_node_calls.proofs.Found.{if_ok_with, on_ok_with}
 use Rattle.bx_node_calls.proofs.Turning.{turn_of}
+use Rattle.bx_nodes.proofs.Leading.{under_as}
 use Rattle.bx_nodes.proofs.Machines.{both_ok, there_is}
+use Rattle.bx_nodes.specs.Standing.{IsUnderOwn, Stand}
+use Rattle.bx_world_machines.specs.Doubts.{IsUsed}
+use Rattle.bx_world_machines.proofs.Used.{used_then}
 use Rattle.bx_world_machines.proofs.Answering.{turn_answers}
 use Rattle.bx_world_machines.proofs.Nodes.{nodes_turned}
 use Rattle.bx_world_machines.proofs.wakes.turn.Goals as goal
+
+pub returns-clause-stands : goal.returns-clause-stands
+returns-clause-stands g c = λ x letters clocks course tree up steady stands.
+    let said = c.turn.ensures in
+    let old = c.args.nodes.now in
+    let new = c.turn.new.self in
+    let Stands = Stand g.G.Register g.O.Owners g.S.Store g.E.Engine new x (letters ++ c.turn.new.out) clocks in
+    if_ok_with _ _ _ c.turn.result
+    (λ items under session. under_as (IsUnderOwn g.O.Owners old c.args.node) (IsUsed g.O.Owners new c.args.node) (g.E.Engine.step old.engine) Stands Stands course tree items.items
+    (λ one is. used_then g.O.Owners c.args.node old new c.requires.there said.count session (said.own c.args.node).0 one is) (λ later next stood. stood) under)
+    (said.stands x letters clocks course tree up steady stands) said.session
 
 pub returns-clause-answers : goal.returns-clause-answers
 returns-clause-answers g c = λ latest numbers.

@@ -2,7 +2,7 @@ use Rattle.std.proofs.Common.{IfOk, sym, subst}
 use Rattle.bx_base.specs.declared.names.Actor.TheVariants.{Node}
 use Rattle.bx_facts.specs.Inputs.{IsSteady}
 use Rattle.bx_node_calls.proofs.Coming.{numbered_on}
-use Rattle.bx_nodes.proofs.Leading.{turned_none}
+use Rattle.bx_nodes.proofs.Leading.{under_none}
 use Rattle.bx_nodes.proofs.Machines.{if_ok_so}
 use Rattle.bx_world_machines.specs.Answering.{Answered, reading_in}
 use Rattle.bx_world_machines.proofs.Answering.{answered_behind, none_answered, wakes_renewed}
@@ -44,7 +44,7 @@ returns-in-Tick-clause-answers g c = λ latest numbers.
 pub returns-in-Synced-clause-stands : goal.returns-in-Synced-clause-stands
 returns-in-Synced-clause-stands g c = λ x letters clocks course tree up steady stands.
     let said = c.in_ok-renew.ensures in
-    rw c.new.ensures.items (turned_none _ _ course tree (said.stands x _ clocks course tree up stands).0)
+    rw c.new.ensures.items (under_none _ _ _ course tree (said.stands x _ clocks course tree up stands).0)
 
 pub returns-in-Synced-clause-answers : goal.returns-in-Synced-clause-answers
 returns-in-Synced-clause-answers g c = λ latest numbers.

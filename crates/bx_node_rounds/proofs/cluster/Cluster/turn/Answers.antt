@@ -41,7 +41,7 @@ returns-clause-stands g c = λ sizes x tree is_ready standing.
     let none : standing.letters ++ c.new-out.result ≡ standing.letters = ap (λ (l : List Letter). standing.letters ++ l) c.new-out.ensures ∙ append-nil standing.letters in
     if_ok_both _ _ _ c.turn.result
     (λ items turned turn. turn_stands g.G.Register g.S.Store g.E.Engine c.args.self.now is_ready.nodes g.O.Owners c.args.moment c.args.node c.turn.new.self items.items turn c.requires.there x tree
-    (standing.letters ++ c.turn.new.out) standing.course standing.told turned)
+    (standing.letters ++ c.turn.new.out) standing.course standing.told turned.turned)
     (said.stands x standing.letters opening_clocks standing.course tree refl (omega arith)
     (subst (λ (l : List Letter). Stand g.G.Register g.O.Owners g.S.Store g.E.Engine c.args.self.now.nodes x l opening_clocks standing.course tree) (sym none) standing.stands))
     (returns-clause-turns g c)
@@ -54,5 +54,5 @@ returns-clause-cleans g c = λ sizes x tree is_ready standing.
     on_ok_by _ _ c.turn.result (if_ok_and _ _ c.turn.result (said.stands x standing.letters opening_clocks standing.course tree refl (omega arith) stands) (returns-clause-turns g c))
     (λ items both. on_ok_then _ _ c.turn.result
     (λ goes. turn_clean g.G.Register g.S.Store g.E.Engine c.args.self.now is_ready.nodes g.O.Owners c.args.moment c.args.node c.turn.new.self items.items both.1 c.requires.there x tree
-    (standing.letters ++ c.turn.new.out) standing.course standing.told both.0 goes.0 (λ other. (said.own other).0) goes.1)
-    (both_ok _ _ c.turn.result (said.cleans x standing.letters opening_clocks standing.course both.0.later tree both.0.next refl (omega arith) stands both.0.chain both.0.stands) said.tidies))
+    (standing.letters ++ c.turn.new.out) standing.course standing.told both.0.turned goes.0 (λ other. (said.own other).0) goes.1)
+    (both_ok _ _ c.turn.result (said.cleans x standing.letters opening_clocks standing.course both.0.turned.later tree both.0.turned.next refl (omega arith) stands both.0.turned.chain both.0.turned.stands) said.tidies))

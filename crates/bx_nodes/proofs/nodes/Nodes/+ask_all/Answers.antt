@@ -4,6 +4,7 @@ use Rattle.std.specs.List.{AllByRecursion}
 use Rattle.std.proofs.lemmas.Result.{on_ok_weaker}
 use Rattle.bx_base.specs.declared.names.Mode.{Mode}
 use Rattle.bx_facts.specs.Chains.{Chain, LivesIn, last}
+use Rattle.bx_node_events.proofs.Works.{keeps_on}
 use Rattle.bx_nodes.specs.Asks.{KeepsUnneeded, KeepsUnwanted}
 use Rattle.bx_places.specs.Places.{IsBlock}
 use Rattle.bx_nodes.specs.Giving.{AreWanted, IsInNeeds}
@@ -20,7 +21,7 @@ returns-clause-stands g t c = λ x letters clocks course tree session up stands 
     let node = c.args.node in
     let items = c.args.self.now.machines.items in
     let still = under_then (slice_get items node) (slice_get c.ask_each.new.self.machines.items node) session (is_some_there items node c.requires.there.0) c.in_ok-ask_each.ensures.only mine in
-    on_ok_weaker c.ask_all.result (λ two. record { later = two.later; chain = two.chain ∙ one.chain; knew = two.knew ∙ one.knew; logs = two.logs ∙ one.logs; stands = two.stands })
+    on_ok_weaker c.ask_all.result (λ two. record { later = two.later; chain = two.chain ∙ one.chain; knew = two.knew ∙ one.knew; logs = two.logs ∙ one.logs; works = keeps_on _ _ _ one.works two.works; stands = two.stands })
     (c.ask_all.ensures.stands x letters clocks one.later tree session up one.stands ((c.in_ok-ask_each.ensures.own node).0 ∙ own) (subst (λ (chain : Chain). LivesIn (last chain) session) (sym one.chain) live) still)
 
 pub returns-clause-only : goal.returns-clause-only

@@ -3,6 +3,7 @@ use Rattle.std.specs.Prelude.{slice_get}
 use Rattle.std.proofs.lemmas.Result.{on_ok_weaker}
 use Rattle.bx_facts.specs.Chains.{Chain, LivesIn, last}
 use Rattle.bx_facts.specs.Holds.{first_of}
+use Rattle.bx_node_events.proofs.Works.{keeps_on}
 use Rattle.bx_nodes.proofs.Fewer.{fewer}
 use Rattle.bx_nodes.proofs.Giving.{gives_there, stays_there}
 use Rattle.bx_nodes.proofs.Machines.{if_both, is_some_there, only_both, under_then}
@@ -27,7 +28,7 @@ returns-clause-stands g t c = λ x letters clocks course tree session up stands 
     let node = c.args.node in
     let items = c.args.self.now.machines.items in
     let still = under_then (slice_get items node) (slice_get c.give_up.new.self.machines.items node) session (is_some_there items node c.requires.there.0) (if_both (slice_get items node) (slice_get c.give_up.new.self.machines.items node) (LetsGo c.in-Some.block) OnlyHolds (λ a b goes. goes_only c.in-Some.block a b goes) c.in_ok-give_up.ensures.goes) mine in
-    on_ok_weaker c.give_back.result (λ two. record { later = two.later; chain = two.chain ∙ one.chain; knew = two.knew ∙ one.knew; logs = two.logs ∙ one.logs; stands = two.stands })
+    on_ok_weaker c.give_back.result (λ two. record { later = two.later; chain = two.chain ∙ one.chain; knew = two.knew ∙ one.knew; logs = two.logs ∙ one.logs; works = keeps_on _ _ _ one.works two.works; stands = two.stands })
     (c.give_back.ensures.stands x letters clocks one.later tree session up one.stands ((c.in_ok-give_up.ensures.own node).0 ∙ own) (subst (λ (chain : Chain). LivesIn (last chain) session) (sym one.chain) live) still)
 
 pub returns-clause-only : goal.returns-clause-only

@@ -42,7 +42,7 @@ returns-in-Some-clause-stands g t c = λ x letters clocks course tree session up
     let own_then = (c.in_ok-give_back.ensures.own node).0 ∙ own in
     let ends_then = (c.in_ok-give_back.ensures.own node).1 ∙ ends in
     let live_then = subst (λ (chain : Chain). LivesIn (last chain) session) (sym one.chain) live in
-    let two : Turned (e.step given.engine) (Stand g.G.Register g.O.Owners g.S.Store e tried x (letters ++ c.give_back.new.out) clocks) one.later tree c.in_ok-said.field-0.said.items =
+    let two : Turned (Some session) (e.step given.engine) (Stand g.G.Register g.O.Owners g.S.Store e tried x (letters ++ c.give_back.new.out) clocks) one.later tree c.in_ok-said.field-0.said.items =
     c.in_ok-said.ensures.stands x (letters ++ c.give_back.new.out) clocks one.later tree session up one.stands own_then live_then mine_then in
     let own_two = ap (λ o. g.O.Owners.own o node) c.in_ok-said.ensures.parts.1 ∙ own_then in
     let ends_two = ap (λ o. g.O.Owners.end_of o node) c.in_ok-said.ensures.parts.1 ∙ ends_then in
@@ -52,8 +52,8 @@ returns-in-Some-clause-stands g t c = λ x letters clocks course tree session up
     let three = c.in_ok-begin.ensures.stands x letters clocks two.later two.next session up two.stands own_two ends_two live_two mine_two in
     let Final = Stand g.G.Register g.O.Owners g.S.Store e c.begin.new.self x (letters ++ c.begin.new.out) clocks in
     later_turned (e.step c.args.self.now.engine) (λ later. Stand g.G.Register g.O.Owners g.S.Store e given x (letters ++ c.give_back.new.out) clocks later tree) Final course tree c.in_ok-said.field-0.said.items one
-    (subst (λ en. Turned (e.step en) Final one.later tree c.in_ok-said.field-0.said.items) c.in_ok-give_back.ensures.parts.1
-    (turned_still (e.step given.engine) (Stand g.G.Register g.O.Owners g.S.Store e tried x (letters ++ c.give_back.new.out) clocks) Final one.later tree c.in_ok-said.field-0.said.items two (subst (λ en. Turned (e.step en) Final two.later two.next []) c.in_ok-said.ensures.parts.3 three)))
+    (subst (λ en. Turned (Some session) (e.step en) Final one.later tree c.in_ok-said.field-0.said.items) c.in_ok-give_back.ensures.parts.1
+    (turned_still (e.step given.engine) (Stand g.G.Register g.O.Owners g.S.Store e tried x (letters ++ c.give_back.new.out) clocks) Final one.later tree c.in_ok-said.field-0.said.items two (subst (λ en. Turned (Some session) (e.step en) Final two.later two.next []) c.in_ok-said.ensures.parts.3 three)))
 
 pub returns-in-Some-clause-waits : goal.returns-in-Some-clause-waits
 returns-in-Some-clause-waits g t c =
@@ -129,7 +129,7 @@ returns-then-is_empty-clause-stands g t c = λ x letters clocks course tree sess
     let own_then = (c.in_ok-give_back.ensures.own node).0 ∙ own in
     let ends_then = (c.in_ok-give_back.ensures.own node).1 ∙ ends in
     let live_then = subst (λ (chain : Chain). LivesIn (last chain) session) (sym one.chain) live in
-    let two : Turned (e.step given.engine) (Stand g.G.Register g.O.Owners g.S.Store e tried x (letters ++ c.give_back.new.out) clocks) one.later tree c.in_ok-said.field-0.said.items =
+    let two : Turned (Some session) (e.step given.engine) (Stand g.G.Register g.O.Owners g.S.Store e tried x (letters ++ c.give_back.new.out) clocks) one.later tree c.in_ok-said.field-0.said.items =
     c.in_ok-said.ensures.stands x (letters ++ c.give_back.new.out) clocks one.later tree session up one.stands own_then live_then mine_then in
     let own_two = ap (λ o. g.O.Owners.own o node) c.in_ok-said.ensures.parts.1 ∙ own_then in
     let ends_two = ap (λ o. g.O.Owners.end_of o node) c.in_ok-said.ensures.parts.1 ∙ ends_then in
@@ -139,7 +139,7 @@ returns-then-is_empty-clause-stands g t c = λ x letters clocks course tree sess
     let four = c.in_ok-ask_all.ensures.stands x letters clocks two.later two.next session up two.stands own_two live_two mine_two in
     let Final = Stand g.G.Register g.O.Owners g.S.Store e c.ask_all.new.self x (letters ++ c.ask_all.new.out) clocks in
     later_turned (e.step c.args.self.now.engine) (λ later. Stand g.G.Register g.O.Owners g.S.Store e given x (letters ++ c.give_back.new.out) clocks later tree) Final course tree c.in_ok-said.field-0.said.items one
-    (subst (λ en. Turned (e.step en) Final one.later tree c.in_ok-said.field-0.said.items) c.in_ok-give_back.ensures.parts.1
+    (subst (λ en. Turned (Some session) (e.step en) Final one.later tree c.in_ok-said.field-0.said.items) c.in_ok-give_back.ensures.parts.1
     (turned_later (e.step given.engine) (Stand g.G.Register g.O.Owners g.S.Store e tried x (letters ++ c.give_back.new.out) clocks) Final one.later tree c.in_ok-said.field-0.said.items two four))
 
 pub returns-then-is_empty-clause-waits : goal.returns-then-is_empty-clause-waits
@@ -262,7 +262,7 @@ returns-clause-stands g t c = λ x letters clocks course tree session up stands 
     let own_then = (c.in_ok-give_back.ensures.own node).0 ∙ own in
     let ends_then = (c.in_ok-give_back.ensures.own node).1 ∙ ends in
     let live_then = subst (λ (chain : Chain). LivesIn (last chain) session) (sym one.chain) live in
-    let two : Turned (e.step given.engine) (Stand g.G.Register g.O.Owners g.S.Store e tried x (letters ++ c.give_back.new.out) clocks) one.later tree c.in_ok-said.field-0.said.items =
+    let two : Turned (Some session) (e.step given.engine) (Stand g.G.Register g.O.Owners g.S.Store e tried x (letters ++ c.give_back.new.out) clocks) one.later tree c.in_ok-said.field-0.said.items =
     c.in_ok-said.ensures.stands x (letters ++ c.give_back.new.out) clocks one.later tree session up one.stands own_then live_then mine_then in
     let own_two = ap (λ o. g.O.Owners.own o node) c.in_ok-said.ensures.parts.1 ∙ own_then in
     let ends_two = ap (λ o. g.O.Owners.end_of o node) c.in_ok-said.ensures.parts.1 ∙ ends_then in
@@ -273,8 +273,8 @@ returns-clause-stands g t c = λ x letters clocks course tree session up stands 
     let said : List Said = c.in_ok-said.field-0.said.items ++ c.in_ok-more.more.items in
     let Final = Stand g.G.Register g.O.Owners g.S.Store e c.rounds.new.self x (letters ++ c.rounds.new.out) clocks in
     later_turned (e.step c.args.self.now.engine) (λ later. Stand g.G.Register g.O.Owners g.S.Store e given x (letters ++ c.give_back.new.out) clocks later tree) Final course tree c.append.new.self.items one
-    (subst (λ en. Turned (e.step en) Final one.later tree c.append.new.self.items) c.in_ok-give_back.ensures.parts.1
-    (subst (λ (l : List Said). Turned (e.step given.engine) Final one.later tree l) (sym c.in_ok-append.ensures.items) (turned_on (e.step given.engine) (Stand g.G.Register g.O.Owners g.S.Store e tried x (letters ++ c.give_back.new.out) clocks) Final one.later tree c.in_ok-said.field-0.said.items c.in_ok-more.more.items two (subst (λ en. Turned (e.step en) Final two.later two.next c.in_ok-more.more.items) c.in_ok-said.ensures.parts.3 five))))
+    (subst (λ en. Turned (Some session) (e.step en) Final one.later tree c.append.new.self.items) c.in_ok-give_back.ensures.parts.1
+    (subst (λ (l : List Said). Turned (Some session) (e.step given.engine) Final one.later tree l) (sym c.in_ok-append.ensures.items) (turned_on (e.step given.engine) (Stand g.G.Register g.O.Owners g.S.Store e tried x (letters ++ c.give_back.new.out) clocks) Final one.later tree c.in_ok-said.field-0.said.items c.in_ok-more.more.items two (subst (λ en. Turned (Some session) (e.step en) Final two.later two.next c.in_ok-more.more.items) c.in_ok-said.ensures.parts.3 five))))
 
 pub returns-in-Some-clause-answers : goal.returns-in-Some-clause-answers
 returns-in-Some-clause-answers g t c =

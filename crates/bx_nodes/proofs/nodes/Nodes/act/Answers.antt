@@ -1,4 +1,4 @@
-use Rattle.std.proofs.Common.{◌≡◌, ⊎_elim, ◌∙◌, ℕ, ◌<◌, ◌++◌, [], List, Option, Some, IfSome, IsSome, refl, sym, ap, subst, arith}
+use Rattle.std.proofs.Common.{◌≡◌, ⊎_elim, ◌∙◌, ℕ, ◌<◌, ◌++◌, [], List, Option, Some, None, IfSome, None, IsSome, None, refl, sym, ap, subst, arith}
 use Rattle.std.specs.Prelude.{option_to_list, slice_get}
 use Rattle.bx_facts.specs.Chains.{Chain, LivesIn, last}
 use Rattle.bx_node_steps.specs.Changing.{TakesAnswer}
@@ -6,16 +6,20 @@ use Rattle.bx_node_steps.specs.declared.machine.Machine.{Machine}
 use Rattle.bx_nodes.specs.Sending.{StepsLog}
 use Rattle.bx_node_tries.specs.declared.round.Said.{Said}
 use Rattle.bx_node_views.proofs.Knowing.{lease_lives}
-use Rattle.bx_nodes.specs.Standing.{Asking, Stand}
-use Rattle.bx_nodes.specs.Turns.{TurnEnds, Turned, Waits}
+use Rattle.bx_nodes.specs.Standing.{Asking, IsUnderOwn, Stand}
+use Rattle.bx_nodes.specs.Turns.{TurnEnds, Turned, TurnedUnder, Waits}
 use Rattle.bx_nodes.specs.Turns.TurnEnds.{Worked, Writing}
-use Rattle.bx_nodes.proofs.Leading.{turned_on}
+use Rattle.bx_nodes.proofs.Leading.{turned_on, under_none}
 use Rattle.bx_nodes.proofs.Calling.{AnswersThere, answers_then, is_fits, received_there, session_received, session_stepped, session_then, stepped_there, was_fits}
 use Rattle.bx_nodes.proofs.Machines.{if_all, if_ok_so, if_some, is_some_there, of_there, ok_so, there_is, two_there, was_there}
 use Rattle.bx_nodes.proofs.Turning.{answered_more, rest_there, steps_only, taken_under, under_there}
 use Rattle.bx_nodes.proofs.Cleaning.{Cleans, cleans_then, goes_there}
 use Rattle.bx_nodes.proofs.Tidying.{tidy_left, tidy_received, tidy_same, tidy_stepped, tidy_then}
 use Rattle.bx_nodes.proofs.nodes.Nodes.act.Goals as goal
+
+-- a session is some session
+some_not : (session : ℕ) → Some session ≡ None → ⊥
+some_not session none = cc
 
 -- a node has one session
 same_session : (own : Option ℕ) (one other : ℕ) → own ≡ Some one → own ≡ Some other → one ≡ other
@@ -63,9 +67,10 @@ returns-clause-stands g c = λ x letters clocks course tree up steady stands.
     let three = c.in_ok-answers.ensures.stands x letters clocks two.later two.next session up two.stands own_then ends_then live_then mine_then in
     let Final = Stand g.G.Register g.O.Owners g.S.Store e c.attempt_turn.new.self x (letters ++ c.attempt_turn.new.out) clocks in
     let both = turned_on (e.step middle.engine) (Stand g.G.Register g.O.Owners g.S.Store e stepped x (letters ++ c.step_log.new.out) clocks) Final course tree (option_to_list c.in_ok-acked.acked) c.in_ok-answers.answers.items two
-    (subst (λ en. Turned (e.step en) Final two.later two.next c.in_ok-answers.answers.items) c.in_ok-acked.ensures.parts.2 three) in
-    let all = subst (λ en. Turned (e.step en) Final course tree (option_to_list c.in_ok-acked.acked ++ c.in_ok-answers.answers.items)) c.in_ok-receive.ensures.parts.2 both in
-    if_ok_so _ _ c.together.result (λ said is. subst (λ (l : List Said). Turned (e.step old.engine) Final course tree l) (sym is) all) c.together.ensures
+    (subst (λ en. Turned (Some session) (e.step en) Final two.later two.next c.in_ok-answers.answers.items) c.in_ok-acked.ensures.parts.2 three) in
+    let all = subst (λ en. Turned (Some session) (e.step en) Final course tree (option_to_list c.in_ok-acked.acked ++ c.in_ok-answers.answers.items)) c.in_ok-receive.ensures.parts.2 both in
+    if_ok_so _ _ c.together.result (λ said is. subst (λ (l : List Said). TurnedUnder (IsUnderOwn g.O.Owners old node) (e.step old.engine) Final course tree l) (sym is)
+    (record { own = Some session; is_own = ((has.is_own, has.is_under), live); quiet = λ none. absurd (some_not session none); turned = all })) c.together.ensures
 
 pub returns-clause-waits : goal.returns-clause-waits
 returns-clause-waits g c = λ lease has.
@@ -108,6 +113,9 @@ returns-clause-waits g c = λ lease has.
     (subst (λ (s : ℕ). Waits g.O.Owners e new.engine node moment s later stepped.owners new.owners out Asks third.0 b) session waits))))
     (of_there (λ (a : Machine). IfSome new_is (Waits g.O.Owners e new.engine node moment c.in-Some.lease.session later stepped.owners new.owners out Asks a)) (slice_get stepped.machines.items node) third.0 third.1 worked.1)))
     c.in_ok-answers.ensures.waits) c.together.ensures
+
+pub returns-in_default-clause-stands : goal.returns-in_default-clause-stands
+returns-in_default-clause-stands g c = λ x letters clocks course tree up steady stands. rw c.new.ensures.items (under_none _ _ _ course tree stands)
 
 pub returns-in_default-clause-waits : goal.returns-in_default-clause-waits
 returns-in_default-clause-waits g c = λ lease has. absurd (c.in_default.ensures.none refl lease has)

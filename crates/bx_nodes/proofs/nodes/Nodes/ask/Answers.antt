@@ -10,6 +10,7 @@ use Rattle.bx_node_cache.specs.Kept.{kept_in}
 use Rattle.bx_node_machines.specs.Machines.{home_of}
 use Rattle.bx_node_steps.specs.Changing.{LetsGo}
 use Rattle.bx_node_steps.specs.declared.machine.Machine.{Machine}
+use Rattle.bx_node_events.proofs.Works.{keeps_on}
 use Rattle.bx_nodes.specs.Asks.{Gets, IsAsking, IsWanted, OnlyHolds, is_weaker}
 use Rattle.bx_nodes.specs.Asks.IsAsking.{Requested}
 use Rattle.bx_nodes.specs.Giving.{AreWanted}
@@ -58,7 +59,7 @@ returns-then-is_weaker-clause-stands g c = λ x letters clocks course tree sessi
     let some_then = is_some_there middle.machines.items node (subst (λ (n : ℕ). node < n) (sym c.in_ok-want.ensures.count) c.requires.there.0) in
     let one = c.in_ok-want.ensures.stands x letters clocks course tree session up stands own live mine in
     let only = if_both found between (LetsGo at) OnlyHolds (λ a b goes. goes_only at a b goes) c.in_ok-want.ensures.goes in
-    on_ok_weaker c.get.result (λ two. record { later = two.later; chain = two.chain ∙ one.chain; knew = two.knew ∙ one.knew; logs = two.logs ∙ one.logs; stands = two.stands })
+    on_ok_weaker c.get.result (λ two. record { later = two.later; chain = two.chain ∙ one.chain; knew = two.knew ∙ one.knew; logs = two.logs ∙ one.logs; works = keeps_on _ _ _ one.works two.works; stands = two.stands })
     (c.get.ensures.stands x letters clocks one.later tree session up one.stands ((c.in_ok-want.ensures.own node).0 ∙ own) (subst (λ (chain : Chain). LivesIn (last chain) session) (sym one.chain) live)
     (under_then found between session some only mine))
 

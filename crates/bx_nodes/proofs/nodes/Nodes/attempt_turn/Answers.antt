@@ -1,4 +1,4 @@
-use Rattle.std.proofs.Common.{◌≡◌, ◌∙◌, inl, inr, ℕ, ◌<◌, ◌++◌, [], Option, None, IfSome, IsSome, refl, sym, ap, subst}
+use Rattle.std.proofs.Common.{◌≡◌, ◌∙◌, inl, inr, ℕ, ◌<◌, ◌++◌, [], Option, Some, None, IfSome, IsSome, refl, sym, ap, subst}
 use Rattle.std.specs.Prelude.{slice_get}
 use Rattle.bx_facts.specs.Chains.{Chain, LivesIn, last}
 use Rattle.bx_node_steps.specs.declared.machine.Machine.{Machine}
@@ -63,7 +63,7 @@ returns-clause-stands g c = λ x letters clocks course tree session up stands ow
     let two = c.in_ok-tidy.ensures.stands x letters clocks one.later one.next session up one.stands own_then ends_then live_then mine_then in
     let Final = Stand g.G.Register g.O.Owners g.S.Store e c.tidy.new.self x (letters ++ c.tidy.new.out) clocks in
     turned_still (e.step old.engine) (Stand g.G.Register g.O.Owners g.S.Store e tried x (letters ++ c.rounds.new.out) clocks) Final course tree c.in_ok-said.said.items one
-    (subst (λ en. Turned (e.step en) Final one.later one.next []) c.in_ok-said.ensures.parts.1 two)
+    (subst (λ en. Turned (Some session) (e.step en) Final one.later one.next []) c.in_ok-said.ensures.parts.1 two)
 
 pub returns-clause-waits : goal.returns-clause-waits
 returns-clause-waits g c =

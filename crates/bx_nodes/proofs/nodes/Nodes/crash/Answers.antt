@@ -49,6 +49,7 @@ returns-clause-stops g c = λ x letters clocks course tree stands.
       chain = all.chain;
       knew = all.knew;
       logs = all.logs;
+      works = all.works;
       stands = with_parts g.G.Register g.O.Owners g.S.Store e.stands e.step c.crash.new.self new.register c.crash-2.new.self new.owners c.crash-3.new.self new.store self.engine new.engine parts.0 parts.1 parts.2 parts.3
           x letters (with_down clocks who) (seen new.machines.items) all.later tree all.stands;
     }

@@ -10,6 +10,7 @@ use Rattle.bx_node_steps.specs.Changing.{LetsGo, left_fetch}
 use Rattle.bx_node_steps.specs.declared.machine.Fetch.{Fetch}
 use Rattle.bx_node_steps.specs.declared.machine.Fetch.TheVariants.{Block}
 use Rattle.bx_node_steps.specs.declared.machine.Machine.{Machine}
+use Rattle.bx_node_events.proofs.Works.{keeps_on}
 use Rattle.bx_nodes.specs.Asks.{Gets, IsAsking, MayRead, OnlyHolds}
 use Rattle.bx_nodes.specs.Asks.Gets.{NotHeld, Reads, Waits}
 use Rattle.bx_nodes.specs.Asks.IsAsking.{Reading}
@@ -128,7 +129,7 @@ returns-clause-stands g c = λ x letters clocks course tree session up stands ow
     let some_then = is_some_there middle.machines.items node (subst (λ (n : ℕ). node < n) (sym c.let_go.ensures.count) c.requires.there.0) in
     let one = c.let_go.ensures.stands x (letters ++ c.args.out.now) clocks course tree session up stands own live mine in
     let only = if_both found between (LetsGo at) OnlyHolds (λ a b goes. goes_only at a b goes) c.let_go.ensures.goes in
-    on_ok_weaker c.read.result (λ two. record { later = two.later; chain = two.chain ∙ one.chain; knew = two.knew ∙ one.knew; logs = two.logs ∙ one.logs; stands = two.stands })
+    on_ok_weaker c.read.result (λ two. record { later = two.later; chain = two.chain ∙ one.chain; knew = two.knew ∙ one.knew; logs = two.logs ∙ one.logs; works = keeps_on _ _ _ one.works two.works; stands = two.stands })
     (c.read.ensures.stands x letters clocks one.later tree session up one.stands (ap (λ o. g.O.Owners.own o node) c.let_go.ensures.parts.2 ∙ own) (subst (λ (chain : Chain). LivesIn (last chain) session) (sym one.chain) live)
     (under_then found between session some only mine))
 

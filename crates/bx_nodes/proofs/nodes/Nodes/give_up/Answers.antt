@@ -82,7 +82,7 @@ returns-clause-stands g c = λ x letters clocks course tree session up stands ow
     (λ other. (c.give_up.ensures.own other).0) both.0.stands both.0.may (λ write has is. absurd (none write has is))
     (given_at made.devices made.areas course.register.chain (IsOfNode g.O.Owners.by_boot clocks) (λ n. course.store.told.knew (Node n)) node session row.0 row.1 row.2 is_of course.owners.holding both.0.holding course.owners.floor block index
     (g.O.Owners.hold owners node block) both.0.may holds same_index) in
-    record { later = r.later; chain = r.chain; knew = r.knew; logs = r.logs; stands = r.stands })
+    record { later = r.later; chain = r.chain; knew = r.knew; logs = r.logs; works = record { slots = r.works.slots; doubts = r.works.doubts }; stands = r.stands })
     (both_ok _ _ c.give_up.result (c.give_up.ensures.keeps past session told.state kept (stands.at.pasts.owners_down (Node node) ∙ up) own
     (subst (λ (chain : Chain). IsPlace chain told.state) (sym stands.at.pasts.owners_chain) told.place) (told.at ∙ sym same_index) (lives_of told.state session its_row.row its_row.is its_row.lives)) c.give_up.ensures.sent)
 

@@ -111,6 +111,7 @@ returns-clause-stands g c = λ letters clocks course tree tells up steady comes 
       grows = all.1;
       told = all.4;
       logs = all.3;
+      works = all.5;
       stands = subst (λ machines. NodesStand g.G.Register g.O.Owners g.S.Store (e.stands new.engine) (e.step new.engine) new.register new.owners new.store z then_letters then_clocks (seen machines.items) all.0 tree) (sym parts.3)
           (subst (λ engine. NodesStand g.G.Register g.O.Owners g.S.Store (e.stands engine) (e.step engine) new.register new.owners new.store z then_letters then_clocks (seen self.machines.items) all.0 tree) (sym parts.2)
           (subst (λ store. NodesStand g.G.Register g.O.Owners g.S.Store (e.stands self.engine) (e.step self.engine) new.register new.owners store z then_letters then_clocks (seen self.machines.items) all.0 tree) (sym parts.1)
@@ -155,7 +156,7 @@ returns-in_err-take-clause-faulted g c = λ letters clocks course tree tells up 
     } in
     let all = register_faulted g.G.Register g.O.Owners g.S.Store (e.stands self.engine) (e.step self.engine) laws self.register c.take.new.self self.owners self.store x y letters box clocks (seen self.machines.items) at input course tree
     stands up comes register_took in
-    record { later = all.0; grows = all.1; told = all.4; logs = all.3; stands = all.2 }
+    record { later = all.0; grows = all.1; told = all.4; logs = all.3; works = all.5; stands = all.2 }
 
 pub returns-in_err-shift-clause-faulted : goal.returns-in_err-shift-clause-faulted
 returns-in_err-shift-clause-faulted g c = λ letters clocks course tree tells up steady comes stands fault.
@@ -231,6 +232,7 @@ returns-in_err-shift-clause-faulted g c = λ letters clocks course tree tells up
       grows = all.1;
       told = all.4;
       logs = all.3;
+      works = all.5;
       stands = but_for g.G.Register g.O.Owners g.S.Store (e.stands self.engine) (e.step self.engine) c.take.new.self c.take-2.new.self c.take-3.new.self z at (letters ++ box) (with_reading clocks input) (seen self.machines.items) all.0 tree all.2;
     }
 

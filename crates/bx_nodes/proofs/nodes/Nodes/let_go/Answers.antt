@@ -58,7 +58,7 @@ returns-clause-stands g c = λ x letters clocks course tree session up stands ow
     (λ truth hints t place stood is. g.met.E.Engine.hints_at engine truth hints t place stood is)
     (block_there _ before.cache.areas made.areas (e.areas engine) block ready.areas ready.engine c.let_go.ensures.is_block)
     (λ other. refl) kept (record { other_sessions = λ other place hold ne is. is; other_blocks = λ place hold ne is. is }) (λ write has is. absurd (none write has is)) (λ place index reached. reached) in
-    record { later = r.later; chain = r.chain; knew = r.knew; logs = r.logs; stands = r.stands }
+    record { later = r.later; chain = r.chain; knew = r.knew; logs = r.logs; works = record { slots = r.works.slots; doubts = r.works.doubts }; stands = r.stands }
 
 pub returns-clause-goes : goal.returns-clause-goes
 returns-clause-goes g c =

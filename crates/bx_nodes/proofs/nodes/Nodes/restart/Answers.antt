@@ -77,7 +77,7 @@ returns-then-is_err-clause-failed g c = λ letters clocks course tree tells down
     } in
     let all = store_fails g.G.Register g.O.Owners g.S.Store (e.stands base.engine) (e.step base.engine) laws base.register base.owners base.store c.restart-stored.new.self c.crash.new.self x y letters box clocks (seen base.machines.items) course tree who boot reading
     store_stops ready down above steady store_tries in
-    record { later = all.0; chain = all.1; logs = all.2; stands = all.3 }
+    record { later = all.0; chain = all.1; logs = all.2; works = all.4; stands = all.3 }
 
 pub returns-then-is_err-2-clause-failed : goal.returns-then-is_err-2-clause-failed
 returns-then-is_err-2-clause-failed g c = λ letters clocks course tree tells down above steady stands fault.
@@ -142,7 +142,7 @@ returns-then-is_err-2-clause-failed g c = λ letters clocks course tree tells do
     } in
     let all = register_fails_too g.G.Register g.O.Owners g.S.Store (e.stands base.engine) (e.step base.engine) laws base.register base.owners base.store c.restart-stored.new.self c.crash-then-is_err-2-2.new.self x y letters box clocks (seen base.machines.items) course tree who boot reading
     store_stops ready down above steady c.restart-started.new.self c.restart.new.self c.crash-then-is_err-2.new.self z store_tries owners_start register_fails owners_stop in
-    record { later = all.0; chain = all.1; logs = all.2; stands = all.3 }
+    record { later = all.0; chain = all.1; logs = all.2; works = all.4; stands = all.3 }
 
 pub returns-else-is_err-2-clause-stands : goal.returns-else-is_err-2-clause-stands
 returns-else-is_err-2-clause-stands g c = λ letters clocks course tree tells down above steady may_start stands. where_ok c.restart-started.result (λ there.
@@ -203,7 +203,7 @@ returns-else-is_err-2-clause-stands g c = λ letters clocks course tree tells do
     (λ node session row same has alive of so. (may_start node same).none session row has alive of (so (may_start node same).by))
     register_starts owners_start (λ node same. c.restart.ensures.own (may_start node same).separate.0 node same)
     store_tries (λ node same. (went _ (did.own (may_start node same).separate.1 node same)).0) in
-    record { later = all.0; chain = all.1; logs = all.2; stands = all.3 })
+    record { later = all.0; chain = all.1; logs = all.2; works = all.4; stands = all.3 })
 
 pub returns-then-is_err-clause-any_moment : goal.returns-then-is_err-clause-any_moment
 returns-then-is_err-clause-any_moment g c = λ letters clocks course tree tells down above steady stands.

@@ -1,7 +1,7 @@
 use Rattle.std.proofs.Common.{arith}
 use Rattle.bx_layout.specs.Labels.{IsLabel}
 use Rattle.bx_plain.specs.Begin.{plain_state}
-use Rattle.bx_plain_openings.proofs.Formatted.{formatted_rests}
+use Rattle.bx_plain_openings.specs.bx_format_openings.proofs.Formatted.{formatted_rests}
 use Rattle.bx_plain_openings.proofs.Plain.{plain_devices}
 use Rattle.bx_plain_parts.proofs.parts.PlainParts.begin.Goals as goal
 

@@ -5,8 +5,9 @@ use Rattle.bx_history.specs.Along.{ends_one}
 use Rattle.bx_history.proofs.OnePart.{some_ended}
 use Rattle.bx_cluster.specs.Runs.{StepOf, rules}
 use Rattle.bx_world.specs.World.{letters_in}
+use Rattle.bx_world.proofs.Doubted.{doubted_led, logged_led, none_in, part_quiet}
 use Rattle.bx_world.proofs.Ending.{without_length}
-use Rattle.bx_world.proofs.Leading.{desks_ended, left_ended}
+use Rattle.bx_world.proofs.Leading.{desks_ended, ending, left_ended}
 use Rattle.bx_world.proofs.Leads.{patient}
 use Rattle.bx_world_machines.specs.Machines.{is_up}
 use Rattle.bx_world_machines.proofs.WhoIsUp.{down_without}
@@ -42,12 +43,20 @@ returns-clause-led g c = λ x first parts led.
     let new = c.crash.new.self in
     let who = c.args.who in
     let said = c.crash.ensures in
+    let part = ending None (ends_one who) in
+    let behind = said.stands (letters_in old.post) x led.tree led.stands.course (led.stands, refl) in
+    let accounts = some_ended (StepOf (g.E.Engine.step old.machines.nodes.engine)) (rules (g.E.Engine.at_once old.machines.nodes.engine)) (patient (g.E.Engine.at_once old.machines.nodes.engine)) first parts led.history led.tree led.accounts None (ends_one who) in
+    let left = left_ended who old.machines.nodes.machines.items new.nodes.machines.items parts None (ends_one who) (λ node. refl) said.empties led.left in
+    let quiet = part_quiet old.machines.latest part refl in
+    let then_world = record old { machines = new; desks = c.clear_at.new.desks } in
     record {
       tree = led.tree;
       history = led.history;
-      accounts = rw said.same.6 (some_ended (StepOf (g.E.Engine.step old.machines.nodes.engine)) (rules (g.E.Engine.at_once old.machines.nodes.engine)) (patient (g.E.Engine.at_once old.machines.nodes.engine)) first parts led.history led.tree led.accounts None (ends_one who));
-      stands = said.stands (letters_in old.post) x led.tree led.stands;
+      accounts = rw said.same.6 accounts;
+      stands = behind.stands;
+      doubted = doubted_led g.G.Register g.O.Owners g.S.Store g.E.Engine old then_world x x first led.tree parts led part [] quiet behind accounts.pending (none_in _ _ _ _ _ _ _ accounts) left;
+      logged = logged_led g.G.Register g.O.Owners g.S.Store g.E.Engine old then_world x x first led.tree parts led part [] quiet behind accounts.pending (none_in _ _ _ _ _ _ _ accounts) left;
       counted = said.same.5 ∙ led.counted;
       desks = rw c.clear_at.ensures (desks_ended who old.desks.items parts None (ends_one who) (λ node. refl) led.desks);
-      left = left_ended who old.machines.nodes.machines.items new.nodes.machines.items parts None (ends_one who) (λ node. refl) said.empties led.left;
+      left = left;
     }

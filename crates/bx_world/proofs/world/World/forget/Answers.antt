@@ -1,13 +1,15 @@
-use Rattle.std.proofs.Common.{sym, ap, subst, filter}
+use Rattle.std.proofs.Common.{[], refl, sym, ap, subst, filter}
 use Rattle.bx_nodes.specs.bx_node_events.proofs.Registered.{HandedLaws}
 use Rattle.bx_post.specs.Posts.{is_waiting}
 use Rattle.bx_world.specs.World.{letters_in}
+use Rattle.bx_world.proofs.Doubted.{doubted_same, logged_same, none_in}
+use Rattle.bx_world_standing.specs.Standing.{Course}
 use Rattle.bx_world.proofs.Letters.{letters_fewer, stands_fewer}
 use Rattle.bx_world_machines.specs.Standing as machines
 use Rattle.bx_world.proofs.world.World.forget.Goals as goal
 
 pub returns-clause-stands : goal.returns-clause-stands
-returns-clause-stands g c = λ x tree standing.
+returns-clause-stands g c = λ x tree course standing.
     let self = c.args.self.now in
     let laws : HandedLaws g.G.Register g.O.Owners g.S.Store = record {
       allowed = g.met.G.Register.allowed;
@@ -25,15 +27,18 @@ returns-clause-stands g c = λ x tree standing.
       stores_elsewhere = g.met.S.Store.elsewhere;
       stores_lose = g.met.S.Store.loses;
     } in
-    subst (λ letters. machines.Standing g.G.Register g.O.Owners g.S.Store g.E.Engine self.machines letters x tree) (sym (ap letters_in c.forget.ensures))
-    (stands_fewer g.G.Register g.O.Owners g.S.Store g.E.Engine laws self.machines (letters_in self.post) (letters_in (filter is_waiting self.post)) x tree (letters_fewer self.post) standing)
+    subst (λ letters. machines.StandsBehind g.G.Register g.O.Owners g.S.Store g.E.Engine course [] self.machines letters x tree) (sym (ap letters_in c.forget.ensures))
+    (subst (λ (k : Course). machines.StandsBehind g.G.Register g.O.Owners g.S.Store g.E.Engine k [] self.machines (letters_in (filter is_waiting self.post)) x tree) standing.1
+    (stands_fewer g.G.Register g.O.Owners g.S.Store g.E.Engine laws self.machines (letters_in self.post) (letters_in (filter is_waiting self.post)) x tree (letters_fewer self.post) standing.0))
 
 pub returns-clause-led : goal.returns-clause-led
-returns-clause-led g c = λ x first parts led. record {
+returns-clause-led g c = λ x first parts led. let behind = returns-clause-stands g c x led.tree led.stands.course (led.stands, refl) in record {
   tree = led.tree;
   history = led.history;
   accounts = led.accounts;
-  stands = returns-clause-stands g c x led.tree led.stands;
+  stands = behind.stands;
+  doubted = doubted_same parts c.args.self.now.machines.nodes.machines.items led.stands.course behind.stands.course behind.goes led.left led.accounts.pending behind.stands.doubts.once led.doubted;
+  logged = logged_same parts c.args.self.now.machines.nodes.machines.items led.stands.course behind.stands.course behind.goes (none_in _ _ _ _ _ _ _ led.accounts) led.logged;
   counted = led.counted;
   desks = led.desks;
   left = led.left;

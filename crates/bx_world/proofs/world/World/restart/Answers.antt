@@ -39,12 +39,12 @@ returns-in-Ok-clause-restarts g c =
       desks = refl;
       latest = said.same.3;
       engine = said.same.4;
-      stands = λ tells may_start tree standing.
+      stands = λ tells may_start tree course standing.
           let none : letters_in old.post ++ c.new-out.result ≡ letters_in old.post = ap (λ (l : List Letter). letters_in old.post ++ l) c.new-out.ensures ∙ append-nil (letters_in old.post) in
-          subst (λ (l : List Letter). machines.Standing g.G.Register g.O.Owners g.S.Store g.E.Engine c.restart.new.self l (g.R.Rack.state c.restart.new.rack) tree)
+          subst (λ (l : List Letter). machines.StandsBehind g.G.Register g.O.Owners g.S.Store g.E.Engine course [] c.restart.new.self l (g.R.Rack.state c.restart.new.rack) tree)
           (sym (ap letters_in c.in_ok-send-in-Ok.ensures.ok ∙ letters_sent old.post c.restart.new.out))
-          (c.in-Ok.ensures.stands (letters_in old.post) tree tells may_start
-          (subst (λ (l : List Letter). machines.Standing g.G.Register g.O.Owners g.S.Store g.E.Engine old.machines l (g.R.Rack.state c.args.rack.now) tree) (sym none) standing));
+          (c.in-Ok.ensures.stands (letters_in old.post) tree course tells may_start
+          (subst (λ (l : List Letter). machines.StandsBy g.G.Register g.O.Owners g.S.Store g.E.Engine course old.machines l (g.R.Rack.state c.args.rack.now) tree) (sym none) standing));
     })
 
 pub returns-in-Ok-clause-ready : goal.returns-in-Ok-clause-ready
@@ -83,11 +83,11 @@ returns-in-Err-Disk-clause-restarts g c =
       desks = c.clear_at.ensures;
       latest = said.same.3;
       engine = said.same.4;
-      stands = λ tells tree standing.
+      stands = λ tells tree course standing.
           let none : letters_in old.post ++ c.new-out.result ≡ letters_in old.post = ap (λ (l : List Letter). letters_in old.post ++ l) c.new-out.ensures ∙ append-nil (letters_in old.post) in
-          subst (λ (l : List Letter). machines.Standing g.G.Register g.O.Owners g.S.Store g.E.Engine c.restart.new.self l (g.R.Rack.state c.restart.new.rack) tree) none
-          (said.failed (letters_in old.post) tree tells
-          (subst (λ (l : List Letter). machines.Standing g.G.Register g.O.Owners g.S.Store g.E.Engine old.machines l (g.R.Rack.state c.args.rack.now) tree) (sym none) standing) fails);
+          subst (λ (l : List Letter). machines.StandsBehind g.G.Register g.O.Owners g.S.Store g.E.Engine course [] c.restart.new.self l (g.R.Rack.state c.restart.new.rack) tree) none
+          (said.failed (letters_in old.post) tree course tells
+          (subst (λ (l : List Letter). machines.StandsBy g.G.Register g.O.Owners g.S.Store g.E.Engine course old.machines l (g.R.Rack.state c.args.rack.now) tree) (sym none) standing) fails);
     })
 
 pub returns-in-Err-Disk-clause-ready : goal.returns-in-Err-Disk-clause-ready
@@ -118,7 +118,7 @@ returns-in-Err-Disk-clause-led g c = λ first parts tells may_start led.
     (λ node call is. c.requires.ready.machines.are_ready.quiet node call (subst (λ (who : Actor). is_up old.machines.up.items who ≡ false) is c.requires.down)) may_start (returns-in-Err-Disk-clause-restarts g c)
 
 pub returns-in-Ok-clause-any_moment : goal.returns-in-Ok-clause-any_moment
-returns-in-Ok-clause-any_moment g c = λ first parts tells led doubted.
+returns-in-Ok-clause-any_moment g c = λ first parts tells led.
     let old = c.args.self.now in
     let x = g.R.Rack.state c.args.rack.now in
     let laws : HandedLaws g.G.Register g.O.Owners g.S.Store = record {
@@ -138,11 +138,11 @@ returns-in-Ok-clause-any_moment g c = λ first parts tells led doubted.
       stores_lose = g.met.S.Store.loses;
     } in
     let standing = with_box g.G.Register g.O.Owners g.S.Store g.E.Engine old.machines (letters_in old.post) c.new-out.result x led.tree c.new-out.ensures led.stands in
-    left_shown g.G.Register g.O.Owners g.S.Store g.E.Engine laws old x first parts led doubted (g.R.Rack.moment c.args.rack.now) (g.R.Rack.moment c.restart.new.rack) (g.R.Rack.left_since c.args.rack.now) (g.R.Rack.left_since c.restart.new.rack)
+    left_shown g.G.Register g.O.Owners g.S.Store g.E.Engine laws old x first parts led (g.R.Rack.moment c.args.rack.now) (g.R.Rack.moment c.restart.new.rack) (g.R.Rack.left_since c.args.rack.now) (g.R.Rack.left_since c.restart.new.rack)
     (c.restart.ensures.any_moment (letters_in old.post) led.tree tells standing)
 
 pub returns-in_err-send-in-Ok-clause-any_moment : goal.returns-in_err-send-in-Ok-clause-any_moment
-returns-in_err-send-in-Ok-clause-any_moment g c = λ first parts tells led doubted.
+returns-in_err-send-in-Ok-clause-any_moment g c = λ first parts tells led.
     let old = c.args.self.now in
     let x = g.R.Rack.state c.args.rack.now in
     let laws : HandedLaws g.G.Register g.O.Owners g.S.Store = record {
@@ -162,11 +162,11 @@ returns-in_err-send-in-Ok-clause-any_moment g c = λ first parts tells led doubt
       stores_lose = g.met.S.Store.loses;
     } in
     let standing = with_box g.G.Register g.O.Owners g.S.Store g.E.Engine old.machines (letters_in old.post) c.new-out.result x led.tree c.new-out.ensures led.stands in
-    left_shown g.G.Register g.O.Owners g.S.Store g.E.Engine laws old x first parts led doubted (g.R.Rack.moment c.args.rack.now) (g.R.Rack.moment c.restart.new.rack) (g.R.Rack.left_since c.args.rack.now) (g.R.Rack.left_since c.restart.new.rack)
+    left_shown g.G.Register g.O.Owners g.S.Store g.E.Engine laws old x first parts led (g.R.Rack.moment c.args.rack.now) (g.R.Rack.moment c.restart.new.rack) (g.R.Rack.left_since c.args.rack.now) (g.R.Rack.left_since c.restart.new.rack)
     (c.restart.ensures.any_moment (letters_in old.post) led.tree tells standing)
 
 pub returns-in-Err-Disk-clause-any_moment : goal.returns-in-Err-Disk-clause-any_moment
-returns-in-Err-Disk-clause-any_moment g c = λ first parts tells led doubted.
+returns-in-Err-Disk-clause-any_moment g c = λ first parts tells led.
     let old = c.args.self.now in
     let x = g.R.Rack.state c.args.rack.now in
     let laws : HandedLaws g.G.Register g.O.Owners g.S.Store = record {
@@ -186,11 +186,11 @@ returns-in-Err-Disk-clause-any_moment g c = λ first parts tells led doubted.
       stores_lose = g.met.S.Store.loses;
     } in
     let standing = with_box g.G.Register g.O.Owners g.S.Store g.E.Engine old.machines (letters_in old.post) c.new-out.result x led.tree c.new-out.ensures led.stands in
-    left_shown g.G.Register g.O.Owners g.S.Store g.E.Engine laws old x first parts led doubted (g.R.Rack.moment c.args.rack.now) (g.R.Rack.moment c.restart.new.rack) (g.R.Rack.left_since c.args.rack.now) (g.R.Rack.left_since c.restart.new.rack)
+    left_shown g.G.Register g.O.Owners g.S.Store g.E.Engine laws old x first parts led (g.R.Rack.moment c.args.rack.now) (g.R.Rack.moment c.restart.new.rack) (g.R.Rack.left_since c.args.rack.now) (g.R.Rack.left_since c.restart.new.rack)
     (c.restart.ensures.any_moment (letters_in old.post) led.tree tells standing)
 
 pub returns-clause-any_moment : goal.returns-clause-any_moment
-returns-clause-any_moment g c = λ first parts tells led doubted.
+returns-clause-any_moment g c = λ first parts tells led.
     let old = c.args.self.now in
     let x = g.R.Rack.state c.args.rack.now in
     let laws : HandedLaws g.G.Register g.O.Owners g.S.Store = record {
@@ -210,5 +210,5 @@ returns-clause-any_moment g c = λ first parts tells led doubted.
       stores_lose = g.met.S.Store.loses;
     } in
     let standing = with_box g.G.Register g.O.Owners g.S.Store g.E.Engine old.machines (letters_in old.post) c.new-out.result x led.tree c.new-out.ensures led.stands in
-    left_shown g.G.Register g.O.Owners g.S.Store g.E.Engine laws old x first parts led doubted (g.R.Rack.moment c.args.rack.now) (g.R.Rack.moment c.restart.new.rack) (g.R.Rack.left_since c.args.rack.now) (g.R.Rack.left_since c.restart.new.rack)
+    left_shown g.G.Register g.O.Owners g.S.Store g.E.Engine laws old x first parts led (g.R.Rack.moment c.args.rack.now) (g.R.Rack.moment c.restart.new.rack) (g.R.Rack.left_since c.args.rack.now) (g.R.Rack.left_since c.restart.new.rack)
     (c.restart.ensures.any_moment (letters_in old.post) led.tree tells standing)

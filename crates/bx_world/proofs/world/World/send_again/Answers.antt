@@ -15,7 +15,7 @@ returns-clause-shows g c = λ bytes. rw (c.note.ensures.same, c.nothing.ensures)
 })
 
 pub returns-clause-stands : goal.returns-clause-stands
-returns-clause-stands g c = λ x tree standing. c.note.ensures.stands (letters_in c.args.self.now.post) x tree standing
+returns-clause-stands g c = λ x tree course standing. c.note.ensures.stands (letters_in c.args.self.now.post) x tree course standing
 
 pub returns-clause-ready : goal.returns-clause-ready
 returns-clause-ready g c = λ sizes ready. record {

@@ -57,10 +57,10 @@ returns-clause-went g c =
     let answers = at_ok _ c.hear-heard.result items said.answers is in
     inl (says_then g.G.Register g.O.Owners g.S.Store g.E.Engine old new heard same c.args.at old.post items.items _ outcome ends None (g.R.Rack.tells c.args.rack.now) x y c.new-out.result
     (said_by None c.args.at old.machines.nodes.machines.items heard.nodes.machines.items items.items _ _ _ (ready.machines.are_ready.there c.args.at c.requires.up) ready.desks answers)
-    refl c.new-out.ensures answers said.same.3 said.same.4 (λ tells tree standing. at_ok _ c.hear-heard.result items (said.stands (letters_in old.post) tree tells tt standing) is)))
+    refl c.new-out.ensures answers said.same.3 said.same.4 (λ tells tree course standing. at_ok _ c.hear-heard.result items (said.stands (letters_in old.post) tree course tells tt standing) is)))
     (λ fails outcome ends.
     inr (stops_then g.G.Register g.O.Owners g.S.Store g.E.Engine old new heard same c.args.at old.post outcome ends (g.R.Rack.tells c.args.rack.now) x y c.new-out.result refl c.new-out.ensures (said.empties fails) said.same.3 said.same.4
-    (λ tells tree standing. said.stopped (letters_in old.post) tree tells tt standing fails)))
+    (λ tells tree course standing. said.stopped (letters_in old.post) tree course tells tt standing fails)))
 
 pub returns-clause-led : goal.returns-clause-led
 returns-clause-led g c = λ first parts tells led.
@@ -74,7 +74,7 @@ returns-clause-led g c = λ first parts tells led.
     (returns-clause-went g c) (returns-clause-ready g c x.sizes c.requires.ready)
 
 pub returns-clause-any_moment : goal.returns-clause-any_moment
-returns-clause-any_moment g c = λ first parts tells led doubted.
+returns-clause-any_moment g c = λ first parts tells led.
     let old = c.args.self.now in
     let x = g.R.Rack.state c.args.rack.now in
     let laws : HandedLaws g.G.Register g.O.Owners g.S.Store = record {
@@ -94,5 +94,5 @@ returns-clause-any_moment g c = λ first parts tells led doubted.
       stores_lose = g.met.S.Store.loses;
     } in
     let standing = with_box g.G.Register g.O.Owners g.S.Store g.E.Engine old.machines (letters_in old.post) c.new-out.result x led.tree c.new-out.ensures led.stands in
-    left_shown g.G.Register g.O.Owners g.S.Store g.E.Engine laws old x first parts led doubted (g.R.Rack.moment c.args.rack.now) (g.R.Rack.moment c.hear-heard.new.rack) (g.R.Rack.left_since c.args.rack.now) (g.R.Rack.left_since c.hear-heard.new.rack)
+    left_shown g.G.Register g.O.Owners g.S.Store g.E.Engine laws old x first parts led (g.R.Rack.moment c.args.rack.now) (g.R.Rack.moment c.hear-heard.new.rack) (g.R.Rack.left_since c.args.rack.now) (g.R.Rack.left_since c.hear-heard.new.rack)
     (c.hear-heard.ensures.any_moment (letters_in old.post) led.tree tells tt standing)

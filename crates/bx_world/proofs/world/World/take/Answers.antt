@@ -33,7 +33,7 @@ returns-clause-takes g c = λ x.
       desks = rw waits at ends.desks;
       latest = ap (λ m. m.latest) same ∙ said.latest;
       engine = ap (λ m. m.nodes.engine) same ∙ said.same.5;
-      leads = λ tree. leads_then g.G.Register g.O.Owners g.S.Store g.E.Engine old new c.call.new.self same x c.in_ok-said.said.items _ _ ends.post c.new-out.ensures tree (λ standing. said.stands (letters_in old.post) x tree standing);
+      leads = λ tree course. leads_then g.G.Register g.O.Owners g.S.Store g.E.Engine old new c.call.new.self same x c.in_ok-said.said.items _ _ ends.post c.new-out.ensures tree course (λ standing. said.stands (letters_in old.post) x tree course standing);
     }
 
 pub returns-clause-ready : goal.returns-clause-ready

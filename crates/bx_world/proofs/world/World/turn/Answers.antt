@@ -10,7 +10,7 @@ returns-clause-turns g c = λ x.
     let new = c.end.new.self in
     let said = c.in_ok-said.ensures in
     if_ok_so _ _ c.end.result
-    (λ outcome ends. turns_then g.G.Register g.O.Owners g.S.Store g.E.Engine old new c.turn.new.self c.end.ensures.same.0 c.args.reading c.args.node x c.in_ok-said.said.items _ _ outcome ends c.new-out.ensures said.answers said.same.5 said.same.6 (λ tree standing. said.stands (letters_in old.post) x tree standing))
+    (λ outcome ends. turns_then g.G.Register g.O.Owners g.S.Store g.E.Engine old new c.turn.new.self c.end.ensures.same.0 c.args.reading c.args.node x c.in_ok-said.said.items _ _ outcome ends c.new-out.ensures said.answers said.same.5 said.same.6 (λ tree course standing. said.stands (letters_in old.post) x tree course standing))
     c.end.ensures.said
 
 pub returns-clause-ready : goal.returns-clause-ready

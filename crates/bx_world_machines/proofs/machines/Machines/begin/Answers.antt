@@ -2,22 +2,27 @@ use Rattle.std.proofs.Common.{◌≡◌, ◌∙◌, true, refl, sym, ap, subst}
 use Rattle.std.specs.Prelude.{not}
 use Rattle.bx_nodes.specs.bx_node_openings.specs.Opening.{opening_clocks}
 use Rattle.bx_world_machines.specs.Machines.{is_up}
+use Rattle.bx_world_machines.proofs.Doubts.{in_doubt_none}
 use Rattle.bx_world_machines.proofs.Beginning.{all_there, only_there}
 use Rattle.bx_world_machines.proofs.machines.Machines.begin.Goals as goal
 
 pub returns-clause-stands : goal.returns-clause-stands
-returns-clause-stands g c = λ letters x course tree stands told known. record {
-  clocks = opening_clocks;
-  course = course;
-  are_clocks = record {
-    down = λ who has. sym (ap not (ap (λ l. is_up l who) c.in_ok-up.ensures ∙ all_there c.args.count c.args.devices who has));
-    boots = refl;
-    greatest = sym c.new.ensures;
-  };
-  stands = stands;
-  told = told;
-  known = known;
-}
+returns-clause-stands g c = λ letters x course tree stands told none known. (
+  record {
+    clocks = opening_clocks;
+    course = course;
+    are_clocks = record {
+      down = λ who has. sym (ap not (ap (λ l. is_up l who) c.in_ok-up.ensures ∙ all_there c.args.count c.args.devices who has));
+      boots = refl;
+      greatest = sym c.new.ensures;
+    };
+    stands = stands;
+    told = told;
+    doubts = in_doubt_none 0 c.args.nodes.machines.items course none;
+    known = known;
+  },
+  refl,
+)
 
 pub returns-clause-ready : goal.returns-clause-ready
 returns-clause-ready g c = λ sizes nodes counted devices none replicas members. record {

@@ -22,7 +22,8 @@ returns-clause-ready g c = λ sizes is_ready. rw c.read.ensures (record {
 })
 
 pub returns-clause-stands : goal.returns-clause-stands
-returns-clause-stands g c = λ letters x tree standing.
+returns-clause-stands g c = λ letters x tree course by_it.
+    let standing = by_it.0 in
     let old = c.args.self.now in
     let laws : HandedLaws g.G.Register g.O.Owners g.S.Store = record {
       allowed = g.met.G.Register.allowed;
@@ -40,11 +41,15 @@ returns-clause-stands g c = λ letters x tree standing.
       stores_elsewhere = g.met.S.Store.elsewhere;
       stores_lose = g.met.S.Store.loses;
     } in
-    rw c.read.ensures (record {
-      clocks = with_reading standing.clocks (Tick c.args.reading);
-      course = standing.course;
-      are_clocks = record { down = standing.are_clocks.down; boots = standing.are_clocks.boots; greatest = ap (λ n. max n c.args.reading) standing.are_clocks.greatest };
-      stands = stands_later g.G.Register g.O.Owners g.S.Store g.E.Engine laws old.nodes x letters standing.clocks (Tick c.args.reading) standing.course tree standing.stands;
-      told = standing.told;
-      known = standing.known;
-    })
+    rw c.read.ensures (
+      record {
+        clocks = with_reading standing.clocks (Tick c.args.reading);
+        course = standing.course;
+        are_clocks = record { down = standing.are_clocks.down; boots = standing.are_clocks.boots; greatest = ap (λ n. max n c.args.reading) standing.are_clocks.greatest };
+        stands = stands_later g.G.Register g.O.Owners g.S.Store g.E.Engine laws old.nodes x letters standing.clocks (Tick c.args.reading) standing.course tree standing.stands;
+        told = standing.told;
+        doubts = standing.doubts;
+        known = standing.known;
+      },
+      by_it.1,
+    )

@@ -1,8 +1,11 @@
-use Rattle.std.proofs.Common.{◌≡◌, ◌∙◌, ◌+◌, ◌≤◌, ◌++◌, refl, ap, arith}
+use Rattle.std.proofs.Common.{◌≡◌, ◌∙◌, ◌+◌, ◌≤◌, ◌++◌, IfOk, refl, ap, subst, arith}
 use Rattle.std.specs.Prelude.{false, max, not}
 use Rattle.bx_base.specs.declared.names.Actor.TheVariants.{Node}
 use Rattle.bx_facts.specs.declared.input.Input.TheVariants.{Tick}
-use Rattle.bx_node_calls.proofs.Found.{if_ok_both, on_ok_with}
+use Rattle.bx_node_calls.specs.Turns.{Rounded}
+use Rattle.bx_node_calls.proofs.Found.{if_ok_three, on_ok_with}
+use Rattle.bx_world_machines.specs.Standing.{StandsBehind}
+use Rattle.bx_world_standing.specs.Standing.{Course}
 use Rattle.bx_nodes.specs.Taking.{with_reading}
 use Rattle.bx_nodes.specs.bx_node_events.proofs.Registered.{HandedLaws}
 use Rattle.bx_world_machines.proofs.Reading.{stands_later}
@@ -25,7 +28,8 @@ returns-clause-ready g c = λ sizes is_ready.
     (returns-clause-answers g c) c.turn.ensures.nodes
 
 pub returns-clause-stands : goal.returns-clause-stands
-returns-clause-stands g c = λ letters x tree standing.
+returns-clause-stands g c = λ letters x tree course by_it.
+    let standing = by_it.0 in
     let old = c.args.self.now in
     let ready = c.requires.ready.1.are_ready in
     let new = record c.read.new.self { nodes = c.turn.new.nodes } in
@@ -49,8 +53,10 @@ returns-clause-stands g c = λ letters x tree standing.
     let up : standing.clocks.down (Node c.args.node) ≡ false = standing.are_clocks.down (Node c.args.node) (ready.there (Node c.args.node) c.requires.up) ∙ ap not c.requires.up in
     let steady : max standing.clocks.greatest c.args.reading ≤ c.args.reading + 500 = let same = standing.are_clocks.greatest in let rule = c.requires.steady in omega (arith, same, rule) in
     let later = stands_later g.G.Register g.O.Owners g.S.Store g.E.Engine laws old.nodes x (letters ++ c.args.out.now) standing.clocks (Tick c.args.reading) standing.course tree standing.stands in
-    if_ok_both _ _ _ c.turn.result
-    (λ items turned answers. stands_turned g.G.Register g.O.Owners g.S.Store g.E.Engine old new c.args.node c.args.reading ready (rw c.read.ensures refl) (rw c.read.ensures refl) (rw c.read.ensures refl) (rw c.read.ensures refl) (rw c.read.ensures refl) (rw c.read.ensures refl) items.items answers
-    (letters ++ c.args.out.now) (letters ++ c.turn.new.out) x tree (rw c.read.ensures refl) standing (rw c.read.ensures at turned))
+    subst (λ (k : Course). IfOk c.turn.result (λ said. Rounded g.E.Engine old.nodes.engine (StandsBehind g.G.Register g.O.Owners g.S.Store g.E.Engine k said.items new (letters ++ c.turn.new.out) x) tree said.items)) by_it.1
+    (if_ok_three _ _ _ _ c.turn.result
+    (λ items turned answers nodes. stands_turned g.G.Register g.O.Owners g.S.Store g.E.Engine old new c.args.node c.args.reading ready (rw c.read.ensures refl) (rw c.read.ensures refl) (rw c.read.ensures refl) (rw c.read.ensures refl) (rw c.read.ensures refl) (rw c.read.ensures refl) items.items answers
+    (letters ++ c.args.out.now) (letters ++ c.turn.new.out) x tree (rw c.read.ensures refl) standing up nodes.apart (rw c.read.ensures at turned))
     (c.turn.ensures.stands x letters clocks standing.course tree up steady (rw c.read.ensures later))
     (returns-clause-answers g c)
+    c.turn.ensures.nodes)

@@ -12,7 +12,7 @@ use Rattle.bx_layout.specs.declared.label.Label.{Label}
 use Rattle.bx_layout.specs.Labels.{IsLabel, SpellsLabel}
 use Rattle.bx_node_openings.specs.Resting.{VolumeRests}
 use Rattle.bx_places.specs.Places.{IsBlock, block_place, disk_count, disk_sectors, log_device, log_start}
-use Rattle.bx_plain_openings.proofs.Alike.{alike_settled, first_members, source_there}
+use Rattle.bx_format_openings.proofs.Alike.{alike_settled, first_members, source_there}
 use Rattle.bx_redo.proofs.Settled.{one_disk}
 use Rattle.bx_truth.specs.Opening.{opening_truth}
 use Rattle.bx_volume.proofs.Sizes.{block_bytes}

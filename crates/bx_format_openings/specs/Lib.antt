@@ -1,0 +1,1 @@
+pub use Rattle.bx_node_openings

@@ -1,0 +1,17 @@
+mod Acting
+mod Allowing
+mod Crashing
+mod Downs
+mod Dues
+mod Each
+mod Going
+mod Holding
+mod Lacks
+mod Lasting
+mod Lining
+mod OneCause
+mod Parting
+mod Placings
+mod Sets
+mod Telling
+mod Turning

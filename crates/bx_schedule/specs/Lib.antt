@@ -1,0 +1,6 @@
+pub mod Disks
+pub mod Doing
+pub mod Lacking
+pub mod Places
+pub mod Placing
+pub mod Refusing

@@ -1,9 +1,6 @@
 -- How nodes stand that are driven in rounds, and what a round makes of them.
-use Rattle.std.specs.Prelude.{◌≡◌, ℕ, ◌+◌, ◌*◌, ◌<◌, ◌≤◌, Bool, false, true, List, [], ◌++◌, IfOk, IsSome, OnErr, Result, length, map, slice_index}
-use Rattle.bx_base.specs.Faults.{Rose}
-use Rattle.bx_base.specs.declared.memory.OutOfMemory.{OutOfMemory}
+use Rattle.std.specs.Prelude.{◌≡◌, ℕ, ◌+◌, ◌*◌, ◌<◌, ◌≤◌, List, [], ◌++◌, IsSome, length, map, slice_index}
 use Rattle.bx_disk.specs.Disks.{Disks}
-use Rattle.bx_disk.specs.declared.rack.Rack as racks
 use Rattle.bx_facts.specs.declared.register.Register as register
 use Rattle.bx_facts.specs.declared.store.Store as store
 use Rattle.bx_facts.specs.Disks.{HasRoom}
@@ -68,24 +65,6 @@ module _ {G O S E T : Type 0} (g : register.Ghosts G) (st : store.Ghosts S) (e :
     pub nodes : AreReady cluster
     pub replicas : HasRoom (g.needs cluster.nodes.register) sizes
     pub long : (disk : ℕ) → 3 ≤ disk → disk < 3 + 2 * (st.made cluster.nodes.store).devices → store_room (st.made cluster.nodes.store) ≤ slice_index sizes disk
-
-  -- The numbers of a cluster stay, and what its parts are made for.
-  pub record SameParts (old new : Cluster G O S E T) : Type 0 where
-    pub count : new.count ≡ old.count
-    pub members : new.members ≡ old.members
-    pub latest : new.latest ≡ old.latest
-    pub engine : new.nodes.engine ≡ old.nodes.engine
-    pub register : g.made new.nodes.register ≡ g.made old.nodes.register
-    pub store : st.made new.nodes.store ≡ st.made old.nodes.store
-
--- A sync says whether it went well: it did where no fault was counted, and didn't where one was. The sizes stay, and a rack goes on to tell what its disks hold.
-pub record SaysFaults {R : Type 0} (rack : racks.Ghosts R) (old new : R) (result : Result Bool OutOfMemory) : Type 0 where
-  pub well : IfOk result (λ well. well ≡ true → rack.faults new ≡ rack.faults old)
-  pub failed : IfOk result (λ well. well ≡ false → Rose (rack.faults old) (rack.faults new))
-  pub memory : OnErr result (rack.faults new ≡ rack.faults old)
-  pub later : rack.faults old ≤ rack.faults new
-  pub sizes : (rack.state new).sizes ≡ (rack.state old).sizes
-  pub keeps_telling : rack.tells old → rack.tells new
 
 module _ {G O S E T : Type 0} (g : register.Ghosts G) (o : owners.Ghosts O) (st : store.Ghosts S) (e : engine.Ghosts E T) where
   -- A cluster stands on these disks for a tree, all of its machines up, whatever was done and whatever letters are under way; and what its logs have was told.

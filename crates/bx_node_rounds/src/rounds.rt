@@ -1,12 +1,12 @@
 //! Rounds.
 
-ghost use Rattle.std.specs.Prelude.{◌≡◌, ◌⊎◌, ◌<◌, ◌≤◌, ◌++◌, ℕ, [], List, IfOk, OnErr, OnOk, map, false};
+ghost use Rattle.std.specs.Prelude.{◌≡◌, ◌⊎◌, ◌<◌, ◌≤◌, ◌++◌, ℕ, [], List, IfOk, OnErr, OnOk, map, true, false};
 ghost use Rattle.bx_base.specs.Faults.{Rose};
 ghost use Rattle.bx_base.specs.declared.names.Actor.TheVariants.{Member};
 ghost use Rattle.bx_disk.specs.Disks.{Disks};
 ghost use Rattle.bx_facts.specs.Disks.{SameLabels};
 ghost use Rattle.bx_node_calls.specs.Turns.{IsTurn, Rounded, session_at};
-ghost use Rattle.bx_node_rounds.specs.Rounds.{AreTurns, IsReady, SameParts, SaysFaults, Standing, StandsClean, all_said, at_node};
+ghost use Rattle.bx_node_rounds.specs.Rounds.{AreTurns, IsReady, Standing, StandsClean, all_said, at_node};
 
 use crate::cluster::Cluster;
 use bx_base::{Actor, OutOfMemory};
@@ -62,9 +62,15 @@ impl<G: Register, O: Owners, S: Store, E: Engine> Cluster<G, O, S, E> {
         ensures stands { (tree : E.Tree) → R.tells rack.old → Standing G.Register O.Owners S.Store E.Engine self.old (R.state rack.old) tree
             → OnOk result (Standing G.Register O.Owners S.Store E.Engine self.new (R.state rack.new) tree) }
         ensures machines { OnOk result (self.new.nodes.machines ≡ self.old.nodes.machines) }
-        ensures parts { SameParts G.Register S.Store self.old self.new }
+        ensures well { IfOk result (λ well. well ≡ true → R.faults rack.new ≡ R.faults rack.old) }
+        ensures failed { IfOk result (λ well. well ≡ false → Rose (R.faults rack.old) (R.faults rack.new)) }
+        ensures same { (self.new.count ≡ self.old.count) × (self.new.members ≡ self.old.members) × (self.new.latest ≡ self.old.latest) × (self.new.nodes.engine ≡ self.old.nodes.engine) }
+        ensures parts { (G.made self.new.nodes.register ≡ G.made self.old.nodes.register) × (S.made self.new.nodes.store ≡ S.made self.old.nodes.store) }
         ensures labels { R.tells rack.old → SameLabels (R.state rack.old) (R.state rack.new) }
-        ensures rack { SaysFaults R.Rack rack.old rack.new result }
+        ensures memory { OnErr result (R.faults rack.new ≡ R.faults rack.old) }
+        ensures later { R.faults rack.old ≤ R.faults rack.new }
+        ensures sizes { (R.state rack.new).sizes ≡ (R.state rack.old).sizes }
+        ensures keeps_telling { R.tells rack.old → R.tells rack.new }
         ensures idle { ((other : ℕ) → other < self.old.members → S.owes self.old.nodes.store (Member other) ≡ false) → OnOk result ((self.new ≡ self.old) × (R.state rack.new ≡ R.state rack.old)) }
     {
         if member >= self.members {
@@ -78,15 +84,21 @@ impl<G: Register, O: Owners, S: Store, E: Engine> Cluster<G, O, S, E> {
 
     /// The disk of a member finishes a sync, where that waits for it. Says whether it didn't fail.
     fn sync<R: Rack>(&mut self, rack: &mut R, member: u32) -> Result<bool, OutOfMemory>
-        requires ready { IsReady G.Register S.Store E.Engine self.old (R.state rack.old).sizes }
         requires there { member < self.old.members }
+        requires ready { IsReady G.Register S.Store E.Engine self.old (R.state rack.old).sizes }
         ensures ready { OnOk result (IsReady G.Register S.Store E.Engine self.new (R.state rack.new).sizes) }
         ensures stands { (tree : E.Tree) → R.tells rack.old → Standing G.Register O.Owners S.Store E.Engine self.old (R.state rack.old) tree
             → OnOk result (Standing G.Register O.Owners S.Store E.Engine self.new (R.state rack.new) tree) }
         ensures machines { OnOk result (self.new.nodes.machines ≡ self.old.nodes.machines) }
-        ensures parts { SameParts G.Register S.Store self.old self.new }
+        ensures well { IfOk result (λ well. well ≡ true → R.faults rack.new ≡ R.faults rack.old) }
+        ensures failed { IfOk result (λ well. well ≡ false → Rose (R.faults rack.old) (R.faults rack.new)) }
+        ensures same { (self.new.count ≡ self.old.count) × (self.new.members ≡ self.old.members) × (self.new.latest ≡ self.old.latest) × (self.new.nodes.engine ≡ self.old.nodes.engine) }
+        ensures parts { (G.made self.new.nodes.register ≡ G.made self.old.nodes.register) × (S.made self.new.nodes.store ≡ S.made self.old.nodes.store) }
         ensures labels { R.tells rack.old → SameLabels (R.state rack.old) (R.state rack.new) }
-        ensures rack { SaysFaults R.Rack rack.old rack.new result }
+        ensures memory { OnErr result (R.faults rack.new ≡ R.faults rack.old) }
+        ensures later { R.faults rack.old ≤ R.faults rack.new }
+        ensures sizes { (R.state rack.new).sizes ≡ (R.state rack.old).sizes }
+        ensures keeps_telling { R.tells rack.old → R.tells rack.new }
         ensures idle { S.owes self.old.nodes.store (Member member) ≡ false → (self.new ≡ self.old) × (R.state rack.new ≡ R.state rack.old) }
     {
         let at = Actor::Member(member);
@@ -112,7 +124,8 @@ impl<G: Register, O: Owners, S: Store, E: Engine> Cluster<G, O, S, E> {
             → IfOk result (λ told. Rounded E.Engine self.old.nodes.engine (Standing G.Register O.Owners S.Store E.Engine self.new x) tree (all_said told.items)) }
         ensures cleans { (sizes : List ℕ) (x : Disks) (tree : E.Tree) → self.old.count ≡ 1 → IsReady G.Register S.Store E.Engine self.old sizes → Standing G.Register O.Owners S.Store E.Engine self.old x tree
             → OnOk result (StandsClean G.Register O.Owners S.Store E.Engine self.old self.new 0 x) }
-        ensures parts { SameParts G.Register S.Store self.old self.new }
+        ensures same { (self.new.count ≡ self.old.count) × (self.new.members ≡ self.old.members) × (self.new.latest ≡ self.old.latest) × (self.new.nodes.engine ≡ self.old.nodes.engine) }
+        ensures parts { (G.made self.new.nodes.register ≡ G.made self.old.nodes.register) × (S.made self.new.nodes.store ≡ S.made self.old.nodes.store) }
         ensures sessions { OnOk result ((node : ℕ) → session_at self.new.nodes.machines.items node ≡ session_at self.old.nodes.machines.items node) }
     {
         let mut told = Vec::new(self.alloc);
@@ -134,7 +147,8 @@ impl<G: Register, O: Owners, S: Store, E: Engine> Cluster<G, O, S, E> {
             → IfOk result (λ said. Rounded E.Engine self.old.nodes.engine (Standing G.Register O.Owners S.Store E.Engine self.new x) tree said.items) }
         ensures cleans { (sizes : List ℕ) (x : Disks) (tree : E.Tree) → IsReady G.Register S.Store E.Engine self.old sizes → Standing G.Register O.Owners S.Store E.Engine self.old x tree
             → OnOk result (StandsClean G.Register O.Owners S.Store E.Engine self.old self.new node x) }
-        ensures parts { SameParts G.Register S.Store self.old self.new }
+        ensures same { (self.new.count ≡ self.old.count) × (self.new.members ≡ self.old.members) × (self.new.latest ≡ self.old.latest) × (self.new.nodes.engine ≡ self.old.nodes.engine) }
+        ensures parts { (G.made self.new.nodes.register ≡ G.made self.old.nodes.register) × (S.made self.new.nodes.store ≡ S.made self.old.nodes.store) }
         ensures sessions { OnOk result ((other : ℕ) → session_at self.new.nodes.machines.items other ≡ session_at self.old.nodes.machines.items other) }
     {
         let mut out = Outbox::new(self.alloc);

@@ -10,7 +10,7 @@ pub returns-clause-stands : goal.returns-clause-stands
 returns-clause-stands g c = λ tree tells standing.
     let synced = c.in_ok-sync_from.ensures in
     subst (λ (e : g.row.E.Denot). IfOk c.turn_all.result (λ told. Rounded g.E.Engine e (Standing g.G.Register g.O.Owners g.S.Store g.E.Engine c.turn_all.new.self (g.R.Rack.state c.sync_from.new.rack)) tree (all_said told.items)))
-    synced.parts.engine
+    synced.same.3
     (c.turn_all.ensures.stands (g.R.Rack.state c.sync_from.new.rack).sizes (g.R.Rack.state c.sync_from.new.rack) tree synced.ready (synced.stands tree tells standing))
 
 pub returns-then-not-branch-clause-stands : goal.returns-then-not-branch-clause-stands
@@ -24,8 +24,8 @@ pub returns-clause-cleans : goal.returns-clause-cleans
 returns-clause-cleans g c = λ tree tells one standing.
     let synced = c.in_ok-sync_from.ensures in
     on_ok_then _ _ c.turn_all.result
-    (clean_from g.G.Register g.O.Owners g.S.Store g.E.Engine c.args.self.now c.sync_from.new.self c.turn_all.new.self 0 (g.R.Rack.state c.sync_from.new.rack) synced.machines synced.parts.engine synced.parts.store)
-    (c.turn_all.ensures.cleans (g.R.Rack.state c.sync_from.new.rack).sizes (g.R.Rack.state c.sync_from.new.rack) tree (synced.parts.count ∙ one) synced.ready (synced.stands tree tells standing))
+    (clean_from g.G.Register g.O.Owners g.S.Store g.E.Engine c.args.self.now c.sync_from.new.self c.turn_all.new.self 0 (g.R.Rack.state c.sync_from.new.rack) synced.machines synced.same.3 synced.parts.1)
+    (c.turn_all.ensures.cleans (g.R.Rack.state c.sync_from.new.rack).sizes (g.R.Rack.state c.sync_from.new.rack) tree (synced.same.0 ∙ one) synced.ready (synced.stands tree tells standing))
 
 pub returns-then-not-branch-clause-cleans : goal.returns-then-not-branch-clause-cleans
 returns-then-not-branch-clause-cleans g c = λ tree tells one standing.

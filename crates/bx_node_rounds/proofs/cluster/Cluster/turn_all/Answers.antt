@@ -33,13 +33,13 @@ loop-node-preserved g c =
       stands = λ sizes x tree ready stands. rounded_more g.E.Engine c.args.self.now.nodes.engine c.loop-node.self.nodes.engine (Standing g.G.Register g.O.Owners g.S.Store g.E.Engine c.loop-node.self x)
           (Standing g.G.Register g.O.Owners g.S.Store g.E.Engine c.turn.new.self x) tree c.loop-node.told.items c.tell.new.told.items c.loop-node.node c.in_ok-said.said.items was.engine c.in_ok-tell.ensures
           (was.stands sizes x tree ready stands) (λ one. turned.stands sizes x _ (was.ready sizes ready) one);
-      count = turned.parts.count ∙ was.count;
-      members = turned.parts.members ∙ was.members;
-      latest = turned.parts.latest ∙ was.latest;
-      register = turned.parts.register ∙ was.register;
-      store = turned.parts.store ∙ was.store;
+      count = turned.same.0 ∙ was.count;
+      members = turned.same.1 ∙ was.members;
+      latest = turned.same.2 ∙ was.latest;
+      register = turned.parts.0 ∙ was.register;
+      store = turned.parts.1 ∙ was.store;
       sessions = λ node. turned.sessions node ∙ was.sessions node;
-      engine = turned.parts.engine ∙ was.engine;
+      engine = turned.same.3 ∙ was.engine;
       first = λ same. absurd (omega (arith, same));
       cleans = λ sizes x tree one ready stands less.
           let count = was.count in

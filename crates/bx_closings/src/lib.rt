@@ -32,5 +32,5 @@ pub mod paxos_cluster {
 
 /// What the crates above use of `bx_world`.
 pub mod world {
-    pub use bx_world::World;
+    pub use bx_world::{Machines, World, all_nodes};
 }

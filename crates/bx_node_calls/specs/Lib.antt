@@ -1,2 +1,3 @@
 pub mod Turns
 pub mod Waits
+pub use Rattle.bx_nodes

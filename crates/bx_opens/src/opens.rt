@@ -11,7 +11,7 @@ ghost use Rattle.bx_history.specs.Trace.{Entry};
 ghost use Rattle.bx_model.specs.declared.tree.Tree.{Tree};
 ghost use Rattle.bx_opens.specs.Opening.{AreOpenAlone, IsNew, IsShape, first_tree};
 ghost use Rattle.bx_rack_audit.specs.Alone.{StandAlone};
-ghost use Rattle.bx_service.specs.AtOnce.{IsAtOnce};
+ghost use Rattle.bx_opens.specs.AtOnce.{IsAtOnce};
 ghost use Rattle.bx_steps.specs.Steps.{Step};
 
 use bx_cluster::Cluster;

@@ -1,13 +1,9 @@
 -- What holds whichever way a call ended, and why it stopped short.
-use Rattle.std.proofs.Common.{◌≡◌, ◌≤◌, ◌+◌, ℕ, List, Result, Ok, Err, inl, inr, arith}
+use Rattle.std.proofs.Common.{◌≡◌, ◌≤◌, ◌+◌, ℕ, Result, Ok, Err, inl, inr, arith, subst}
 use Rattle.std.specs.Prelude.{OnOk}
-use Rattle.bx_script.specs.declared.line.Line.{Line}
-use Rattle.bx_script.specs.declared.line.Line.TheVariants.{Call, Run, CrashAll, RestartAll, Tick}
-use Rattle.bx_base.specs.declared.names.Actor.TheVariants.{Node}
-use Rattle.bx_disk.specs.declared.noise.Noise.{Noise}
 use Rattle.bx_stops.specs.declared.stop.Stop.{Stop}
 use Rattle.bx_stops.specs.declared.stop.Stop.TheVariants as stops
-use Rattle.bx_replay.specs.Replay.{HasBeginCause, HasCause, HasFinishCause, HasLineCause, HasPrintCause, HasStepCause, UnlessDisk, UnlessRead, UnlessWrite}
+use Rattle.bx_replay.specs.Replay.{HasBeginCause, HasCause, HasFinishCause, HasLineCause, HasStepCause, UnlessDisk, UnlessRead, UnlessWrite}
 
 -- counts that stay, or that rise twice
 pub same_least : (old new : ℕ) → new ≡ old → old ≤ new
@@ -18,23 +14,6 @@ same_most old new same = omega arith
 
 pub rises : (a b c : ℕ) → a ≤ b → b ≤ c → a ≤ c
 rises a b c first then_on = omega arith
-
--- lines that aren't ticks
-pub call_no_tick : (line : Line) (reading at moment node client : ℕ) (datagram : List ℕ) → line ≡ Call moment node client datagram → line ≡ Tick reading (Node at) → ⊥
-call_no_tick line reading at moment node client datagram call tick = cc
-
-pub run_no_tick : (line : Line) (reading node moment limit : ℕ) → line ≡ Run moment limit → line ≡ Tick reading (Node node) → ⊥
-run_no_tick line reading node moment limit run tick = cc
-
-pub crash_no_tick : (line : Line) (reading node : ℕ) (noise : Noise) → line ≡ CrashAll noise → line ≡ Tick reading (Node node) → ⊥
-crash_no_tick line reading node noise crash tick = cc
-
-pub restart_no_tick : (line : Line) (reading node moment : ℕ) → line ≡ RestartAll moment → line ≡ Tick reading (Node node) → ⊥
-restart_no_tick line reading node moment restart tick = cc
-
--- ticks of one line are of one node
-pub tick_node : (reading other at node : ℕ) → Tick reading (Node at) ≡ Tick other (Node node) → at ≡ node
-tick_node reading other at node same = cc
 
 module _ {A P : Type 0} where
   pub on_ok : (r : Result A Stop) → P → OnOk r P
@@ -64,14 +43,6 @@ module _ {A P : Type 0} where
   unless_disk (Err stops.WriteFault) p = p
   unless_disk (Err stops.DiskFault) p = tt
   unless_disk (Err stops.OutOfMemory) p = p
-
--- a line that only prints
-pub step_printed : (stop : Stop) (number before now : ℕ) → HasPrintCause stop before now → HasStepCause stop number before now
-step_printed (stops.Refused line reason) number before now cause = absurd cause
-step_printed stops.ReadFault number before now cause = absurd cause
-step_printed stops.WriteFault number before now cause = cause
-step_printed stops.DiskFault number before now cause = absurd cause
-step_printed stops.OutOfMemory number before now cause = tt
 
 -- the parts of a replay as the causes of the whole
 module _ (Tells : Type 0) where
@@ -108,3 +79,13 @@ module _ (Tells : Type 0) where
   finish_cause Held stops.DiskFault source source_now sink sink_now bench bench_then bench_now later gives (inl (inr most)) = inl (inr most)
   finish_cause Held stops.DiskFault source source_now sink sink_now bench bench_then bench_now later gives (inr none) = inr (λ tells. none (gives tells))
   finish_cause Held stops.OutOfMemory source source_now sink sink_now bench bench_then bench_now later gives cause = tt
+
+-- a read of a line, and a line that is done, tell no disk's fault
+pub line_no_disk : (stop : Stop) (number before now : ℕ) → HasLineCause stop number before now → stop ≡ stops.DiskFault → ⊥
+line_no_disk stop number before now cause is = subst (λ (s : Stop). HasLineCause s number before now) is cause
+
+pub step_no_disk : (stop : Stop) (number before now : ℕ) → HasStepCause stop number before now → stop ≡ stops.DiskFault → ⊥
+step_no_disk stop number before now cause is = subst (λ (s : Stop). HasStepCause s number before now) is cause
+
+pub err_is : (r : Result (Unit {0}) Stop) (a b : Stop) → r ≡ Err a → r ≡ Err b → a ≡ b
+err_is r a b e f = cc

@@ -1,23 +1,20 @@
 -- What is written at the end, or a part of it; and why an end isn't reached.
-use Rattle.std.proofs.Common.{◌≡◌, ℕ, zero, suc, Bool, List, [], ◌++◌, Option, Err, inl, inr, refl, sym, ap, ◌∙◌, take, drop, append_assoc}
+use Rattle.std.proofs.Common.{◌≡◌, ◌+◌, ◌≤◌, ℕ, zero, suc, Bool, true, false, cond, List, [], ◌∷◌, ◌++◌, Err, inl, inr, refl, sym, ap, subst, ◌∙◌, take, drop, get_or, length, arith, append_assoc}
 use Rattle.std.specs.Prelude.{codes, filter, map}
 use Rattle.std.specs.List.{AllByRecursion}
-use Rattle.std.proofs.lemmas.List.{append-nil, take-append-drop}
-use Rattle.bx_service.specs.bx_audit.specs.Audited.{AreOpen}
-use Rattle.bx_base.specs.declared.names.Point.{Point}
 use Rattle.bx_base.specs.Text.{ended}
+use Rattle.bx_base.specs.declared.names.Point.{Point}
 use Rattle.bx_disk.specs.Disks.{Disks}
-use Rattle.bx_global.specs.Opening.{opening_state}
-use Rattle.bx_model.specs.declared.tree.Tree.{Tree}
 use Rattle.bx_model.specs.Listing.{listing}
-use Rattle.bx_script.specs.declared.trace_line.TraceLine.{TraceLine}
-use Rattle.bx_script.specs.declared.trace_line.TraceLine.TheVariants.{Acted}
+use Rattle.bx_model.specs.declared.tree.Tree.{Tree}
+use Rattle.bx_opens.specs.Opening.{AreOpenAlone}
+use Rattle.bx_opens.specs.bx_rack_audit.specs.Alone.{StandAlone}
 use Rattle.bx_script.specs.TraceText.{InTraceRange, trace_text}
-use Rattle.bx_service.specs.Rounds.{Doubt, Shows, Tells}
+use Rattle.bx_script.specs.declared.trace_line.TraceLine.TheVariants.{Acted}
 use Rattle.bx_stops.specs.declared.stop.Stop.{Stop}
 use Rattle.bx_stops.specs.declared.stop.Stop.TheVariants as stops
 use Rattle.bx_replay.specs.Outcome.{closing_text}
-use Rattle.bx_replay.specs.Replay.{HasBenchCause, HasFinishCause, HasPrintCause, IsEnded, IsEndedShort, Prints, UnlessMemory}
+use Rattle.bx_replay.specs.Replay.{Ends, HasBenchCause, HasFinishCause, HasPrintCause, IsShownAs, IsUnread}
 
 -- where the tree isn't read back, there is no end
 pub not_read_back : (stop : Stop) (before now : ℕ) (Held Held_then : Type 0) (bench_before bench_now : ℕ) → (Held_then → Held) → HasBenchCause stop Held bench_before bench_now
@@ -29,6 +26,21 @@ not_read_back stops.DiskFault before now Held Held_then bench_before bench_now g
 not_read_back stops.DiskFault before now Held Held_then bench_before bench_now gives (inr none) = inr (λ held. none (gives held))
 not_read_back stops.OutOfMemory before now Held Held_then bench_before bench_now gives cause = tt
 
+pub unread : (stop : Stop) (Held : Type 0) (bench_before bench_now : ℕ) → HasBenchCause stop Held bench_before bench_now → IsUnread (Err stop)
+unread (stops.Refused line reason) Held bench_before bench_now cause = cause
+unread stops.ReadFault Held bench_before bench_now cause = cause
+unread stops.WriteFault Held bench_before bench_now cause = cause
+unread stops.DiskFault Held bench_before bench_now cause = tt
+unread stops.OutOfMemory Held bench_before bench_now cause = tt
+
+-- and nothing is written
+pub unended : (stop : Stop) (disks : Disks) (lacks : ℕ → Bool) (tree : Tree) (written : List ℕ) (Held : Type 0) (bench_before bench_now : ℕ) → HasBenchCause stop Held bench_before bench_now → Ends (Err stop) disks lacks tree written written
+unended (stops.Refused line reason) disks lacks tree written Held bench_before bench_now cause = absurd cause
+unended stops.ReadFault disks lacks tree written Held bench_before bench_now cause = absurd cause
+unended stops.WriteFault disks lacks tree written Held bench_before bench_now cause = absurd cause
+unended stops.DiskFault disks lacks tree written Held bench_before bench_now cause = refl
+unended stops.OutOfMemory disks lacks tree written Held bench_before bench_now cause = refl
+
 -- where the sink fails, or memory runs out
 pub not_printed : (stop : Stop) (before now : ℕ) (Held : Type 0) (bench_before bench_now : ℕ) → HasPrintCause stop before now → HasFinishCause stop before now Held bench_before bench_now
 not_printed (stops.Refused line reason) before now Held bench_before bench_now cause = absurd cause
@@ -37,67 +49,63 @@ not_printed stops.WriteFault before now Held bench_before bench_now cause = caus
 not_printed stops.DiskFault before now Held bench_before bench_now cause = absurd cause
 not_printed stops.OutOfMemory before now Held bench_before bench_now cause = tt
 
-module _ (nodes : ℕ) (tree : Tree) (of : ℕ → Option Doubt) where
-  -- no call in doubt acted
-  none_told : (count : ℕ) → Tells of count tree tree []
-  none_told zero = (refl, refl)
-  none_told (suc node) = (tree, [], none_told node, inl (refl, refl))
+-- parts of two lists, one behind the other
+pub take_front : (n : ℕ) (xs ys : List ℕ) → n ≤ length xs → take n (xs ++ ys) ≡ take n xs
+take_front zero [] ys fits = refl
+take_front zero (x ∷ xs) ys fits = refl
+take_front (suc n) [] ys fits = absurd (omega (arith, fits))
+take_front (suc n) (x ∷ xs) ys fits = ap (λ (l : List ℕ). x ∷ l) (take_front n xs ys (omega (arith, fits)))
 
-  -- nothing was written: it is a part of the end that tells the tree
-  pub nothing_ended : (old : List ℕ) → IsEndedShort nodes tree of old old
-  nothing_ended old = record { next = tree; doubt = []; told = none_told nodes; in_range = tt; wrote = []; more = closing_text [] tree; written = sym (append-nil old); part = refl }
+pub take_over : (xs ys : List ℕ) (n m : ℕ) → m ≡ length xs + n → take m (xs ++ ys) ≡ xs ++ take n ys
+take_over [] ys n m is = ap (λ (k : ℕ). take k ys) (omega (arith, is))
+take_over (x ∷ xs) ys n zero is = absurd (omega (arith, is))
+take_over (x ∷ xs) ys n (suc m) is = ap (λ (l : List ℕ). x ∷ l) (take_over xs ys n m (omega (arith, is)))
 
-  -- The disks show what is told: the points that are open, of calls that lack one, and the tree.
-  module _ (lacks : ℕ → Bool) (disks : Disks) (shows : Shows lacks nodes disks tree of) (points : List Point) (opened : AreOpen disks (opening_state nodes 1) points) where
-    abbrev pub doubt : List Point
-    doubt = filter (λ point. lacks point.call) points
+-- one point more, which is told or not, in front of those that are told
+one_in_range : (point : Point) (behind : List Point) (told : Bool) → (told ≡ true → InTraceRange (Acted point)) → AllByRecursion InTraceRange (map Acted behind) → AllByRecursion InTraceRange (map Acted (cond told (point ∷ behind) behind))
+one_in_range point behind true fits later = (fits refl, later)
+one_in_range point behind false fits later = later
 
-    told : Tells of nodes tree shows.next doubt
-    told = rw (shows.open_is points opened) (shows.tells)
+take_whole : (n : ℕ) (points : List Point) → n ≡ length points → take n points ≡ points
+take_whole zero [] is = refl
+take_whole zero (point ∷ points) is = absurd (omega (arith, is))
+take_whole (suc n) [] is = refl
+take_whole (suc n) (point ∷ points) is = ap (λ (l : List Point). point ∷ l) (take_whole n points (omega (arith, is)))
 
-    whole : (lines : List TraceLine) → lines ≡ map Acted doubt → (ended (codes "end") ++ trace_text lines) ++ listing shows.next ≡ closing_text (map Acted doubt) shows.next
-    whole lines is = ap (λ (l : List TraceLine). (ended (codes "end") ++ trace_text l) ++ listing shows.next) is ∙ append_assoc (ended (codes "end")) (trace_text (map Acted doubt)) (listing shows.next)
+pub in_range_on : (lacks : ℕ → Bool) (points : List Point) (none : Point) (told : Bool) (n : ℕ) → n + 1 ≡ length points → told ≡ lacks (get_or points 0 none).call → (told ≡ true → InTraceRange (Acted (get_or points 0 none)))
+    → AllByRecursion InTraceRange (map Acted (filter (λ p. lacks p.call) (take n (drop 1 points)))) → AllByRecursion InTraceRange (map Acted (filter (λ p. lacks p.call) points))
+in_range_on lacks [] none told n count is fits later = absurd (omega (arith, count))
+in_range_on lacks (point ∷ behind) none told n count is fits later =
+    let told_behind = filter (λ (p : Point). lacks p.call) behind in
+    let whole : take n behind ≡ behind = take_whole n behind (omega (arith, count)) in
+    subst (λ (b : Bool). AllByRecursion InTraceRange (map Acted (cond b (point ∷ told_behind) told_behind))) is
+    (one_in_range point told_behind told fits (subst (λ (l : List Point). AllByRecursion InTraceRange (map Acted (filter (λ (p : Point). lacks p.call) l))) whole later))
 
-    module _ (lines : List TraceLine) (is : lines ≡ map Acted doubt) where
-      -- the word and the points weren't all written
-      pub ended_in_points : (stop : Stop) (old new : List ℕ) (before now : ℕ) → HasPrintCause stop before now → Prints (Err stop) (ended (codes "end") ++ trace_text lines) old new
-          → UnlessMemory {A = Unit {0}} (Err stop) (AllByRecursion InTraceRange lines) → IsEndedShort nodes tree of old new
-      ended_in_points (stops.Refused line reason) old new before now cause prints in_range = absurd cause
-      ended_in_points stops.ReadFault old new before now cause prints in_range = absurd cause
-      ended_in_points stops.WriteFault old new before now cause prints in_range = record {
-        next = shows.next;
-        doubt = doubt;
-        told = told;
-        in_range = rw is at in_range;
-        wrote = take prints.0 (ended (codes "end") ++ trace_text lines);
-        more = drop prints.0 (ended (codes "end") ++ trace_text lines) ++ listing shows.next;
-        written = prints.1;
-        part = sym (append_assoc (take prints.0 (ended (codes "end") ++ trace_text lines)) _ _) ∙ ap (λ (w : List ℕ). w ++ listing shows.next) (take-append-drop prints.0 (ended (codes "end") ++ trace_text lines)) ∙ whole lines is;
-      }
-      ended_in_points stops.DiskFault old new before now cause prints in_range = absurd cause
-      ended_in_points stops.OutOfMemory old new before now cause prints in_range = rw prints (nothing_ended old)
+module _ (disks : Disks) (lacks : ℕ → Bool) (tree : Tree) (opened : List Point) (open_are : AreOpenAlone disks opened) (stands : StandAlone disks tree) where
+  abbrev pub points : List Point
+  points = filter (λ point. lacks point.call) opened
 
-      module _ (old middle text : List ℕ) (in_range : AllByRecursion InTraceRange lines) (begun : middle ≡ old ++ (ended (codes "end") ++ trace_text lines)) (listed : text ≡ listing shows.next) where
-        -- the listing wasn't all written
-        pub ended_in_listing : (new : List ℕ) (n : ℕ) → new ≡ middle ++ take n text → IsEndedShort nodes tree of old new
-        ended_in_listing new n is_part = record {
-          next = shows.next;
-          doubt = doubt;
-          told = told;
-          in_range = rw is at in_range;
-          wrote = (ended (codes "end") ++ trace_text lines) ++ take n text;
-          more = drop n text;
-          written = is_part ∙ ap (λ (w : List ℕ). w ++ take n text) begun ∙ append_assoc old _ (take n text);
-          part = append_assoc (ended (codes "end") ++ trace_text lines) (take n text) (drop n text) ∙ ap (λ (w : List ℕ). (ended (codes "end") ++ trace_text lines) ++ w) (take-append-drop n text ∙ listed) ∙ whole lines is;
-        }
+  abbrev pub front : List ℕ
+  front = ended (codes "end") ++ trace_text (map Acted points)
 
-        pub ended_whole : (Stands : Tree → List TraceLine → Type 0) (new : List ℕ) → new ≡ middle ++ text → Stands shows.next (map Acted doubt) → IsEnded nodes tree of Stands old new
-        ended_whole Stands new all stands = record {
-          next = shows.next;
-          doubt = doubt;
-          told = told;
-          in_range = rw is at in_range;
-          written = all ∙ ap (λ (w : List ℕ). w ++ text) begun ∙ append_assoc old _ text
-              ∙ ap (λ (w : List ℕ). old ++ ((ended (codes "end") ++ trace_text lines) ++ w)) listed ∙ ap (λ (w : List ℕ). old ++ w) (whole lines is);
-          stands = stands;
-        }
+  whole : front ++ listing tree ≡ closing_text (map Acted points) tree
+  whole = append_assoc (ended (codes "end")) (trace_text (map Acted points)) (listing tree)
+
+  pub shown : AllByRecursion InTraceRange (map Acted points) → IsShownAs disks lacks tree points
+  shown in_range = record { stands = stands; opened = opened; open_are = open_are; points_are = refl; in_range = in_range }
+
+  -- the points weren't all written
+  pub ended_in_points : (text old new : List ℕ) (n : ℕ) → text ≡ front → n ≤ length text → new ≡ old ++ take n text → new ≡ old ++ take n (closing_text (map Acted points) tree)
+  ended_in_points text old new n is fits part =
+      part ∙ ap (λ (l : List ℕ). old ++ take n l) is ∙ ap (λ (l : List ℕ). old ++ l) (sym (take_front n front (listing tree) (rw is at fits)) ∙ ap (take n) whole)
+
+  -- the listing wasn't
+  pub ended_in_listing : (text lines old middle new : List ℕ) (n : ℕ) → text ≡ front → lines ≡ listing tree → middle ≡ old ++ text → new ≡ middle ++ take n lines → new ≡ old ++ take (length front + n) (closing_text (map Acted points) tree)
+  ended_in_listing text lines old middle new n is listed begun part =
+      part ∙ ap (λ (l : List ℕ). middle ++ take n l) listed ∙ ap (λ (l : List ℕ). l ++ take n (listing tree)) (begun ∙ ap (λ (l : List ℕ). old ++ l) is) ∙ append_assoc old front (take n (listing tree))
+      ∙ ap (λ (l : List ℕ). old ++ l) (sym (take_over front (listing tree) n (length front + n) refl) ∙ ap (take (length front + n)) whole)
+
+  -- all was
+  pub ended_whole : (text lines old middle new : List ℕ) → text ≡ front → lines ≡ listing tree → middle ≡ old ++ text → new ≡ middle ++ lines → new ≡ old ++ closing_text (map Acted points) tree
+  ended_whole text lines old middle new is listed begun all =
+      all ∙ ap (λ (l : List ℕ). middle ++ l) listed ∙ ap (λ (l : List ℕ). l ++ listing tree) (begun ∙ ap (λ (l : List ℕ). old ++ l) is) ∙ append_assoc old front (listing tree) ∙ ap (λ (l : List ℕ). old ++ l) whole

@@ -1,23 +1,17 @@
 -- What the bench holds once what is unsure on it was dropped.
 use Rattle.std.proofs.Common.{◌≡◌, ℕ, ◌+◌, ◌<◌, ◌⊎◌, inl, inr, Err, Bool, true, false, arith, sym, ◌∙◌, subst, refl}
 use Rattle.std.specs.Prelude.{not, ◌&&◌, ◌==◌}
-use mathlib.Core.Path.{fun_ext}
 use native.Mathlib.Numerals.{unary_clauses}
 use Rattle.std.proofs.lemmas.Bool.{eq-eqb}
-use Rattle.bx_service.specs.bx_audit.specs.Audited.{StandFor}
 use Rattle.bx_base.specs.Faults.{Rose}
 use Rattle.bx_disk.specs.Crash.{crashed}
 use Rattle.bx_disk.specs.Disks.{Image, Disks, IsImage, IsSector}
 use Rattle.bx_disk.specs.declared.noise.Noise.{Noise}
 use Rattle.bx_disk.specs.declared.noise.Noise.TheVariants.{Keep, Drop, Seed}
-use Rattle.bx_global.specs.Opening.{opening_state}
-use Rattle.bx_model.specs.declared.tree.Tree.{Tree}
 use Rattle.bx_overlay.specs.declared.error.AuditError.{AuditError}
 use Rattle.bx_overlay.specs.declared.error.AuditError.TheVariants as audits
 use Rattle.bx_overlay.specs.Refusals.{IsBreak, UnlessFault}
-use Rattle.bx_volume.specs.Images.{ImageStandsFor}
-use Rattle.bx_replay.specs.Bench.{IsHeldBy}
-use Rattle.bx_replay.specs.Course.{after_crashes}
+use Rattle.bx_replay.specs.Bench.{after_crashes}
 use Rattle.bx_stops.specs.FromLine.{stop_of_audit}
 use Rattle.bx_replay.specs.Replay.{HasBenchCause, UnlessDisk}
 
@@ -64,12 +58,6 @@ one_more disk d unsure within before = by (same_or d disk)
     by : (d ≡ disk) ⊎ ((d ≡ disk) → ⊥) → (not (d == disk) && unsure) ≡ false
     by (inl same) = rw (eq-eqb d disk same) refl
     by (inr other) = stays_sure (d == disk) unsure (before (omega (arith, within, other)))
-
--- disks of which nothing is unsure hold what they stand for as they read
-pub held_by : (nodes : ℕ) (disks : Disks) (tree : Tree) → ((d s : ℕ) → disks.unsure d s ≡ false) → StandFor disks (opening_state nodes 1) tree → IsHeldBy nodes disks tree
-held_by nodes disks tree sure stands = record {
-  each = λ image is. subst (λ (i : Image). ImageStandsFor disks.sizes (λ image told. told ≡ opening_state nodes 1) i tree) (fun_ext (λ d. fun_ext (λ s. sym (is.sure d s (sure d s))))) stands;
-}
 
 -- why a tree that was held isn't read back
 pub audit_cause : (error : AuditError) (Held : Type 0) (before now : ℕ) → (error ≡ audits.DiskFault → Rose before now) → (Held → IsBreak error) → HasBenchCause (stop_of_audit error) Held before now

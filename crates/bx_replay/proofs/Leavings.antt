@@ -1,84 +1,108 @@
 -- What a replay leaves, by what stopped it.
-use Rattle.std.proofs.Common.{◌≡◌, ℕ, ◌+◌, ◌<◌, ◌==◌, List, [], Option, Result, Ok, Err, inl, inr}
-use Rattle.std.specs.Prelude.{IfErr, ◌⊎◌}
+use Rattle.std.proofs.Common.{◌≡◌, ℕ, ◌+◌, ◌<◌, Bool, false, List, [], ◌∷◌, ap, Result, Ok, Err, inl, inr}
+use Rattle.std.specs.Prelude.{IfErr, OnOk, ◌⊎◌, map}
+use Rattle.std.specs.FinSet as set
+use Rattle.std.specs.Ordering.{nat_cmp}
 use Rattle.bx_base.specs.Text.{BeginsWith}
+use Rattle.bx_base.specs.declared.names.Point.{Point}
+use Rattle.bx_disk.specs.Disks.{Disks}
+use Rattle.bx_history.specs.Parts.{Part}
 use Rattle.bx_model.specs.declared.tree.Tree.{Tree}
-use Rattle.bx_script.specs.declared.line.Line.{Line}
+use Rattle.bx_opens.specs.bx_world_events.specs.Refusals.{Seen}
+use Rattle.bx_schedule.specs.Placing.{Done, lines_of}
 use Rattle.bx_script.specs.ScheduleLine.{spelling}
+use Rattle.bx_script.specs.declared.line.Line.{Line}
 use Rattle.bx_script.specs.declared.trace_line.TraceLine.{TraceLine}
-use Rattle.bx_replay.specs.Headline.{IsInPlace, Machines}
-use Rattle.bx_service.specs.Rounds.{Doubt}
-use Rattle.bx_desk.specs.Desks.{AtDesk}
-use Rattle.bx_history.specs.Trace as traces
+use Rattle.bx_script.specs.declared.trace_line.TraceLine.TheVariants.{Acted}
 use Rattle.bx_stops.specs.declared.stop.Stop.{Stop}
 use Rattle.bx_stops.specs.declared.stop.Stop.TheVariants as stops
-use Rattle.bx_replay.specs.Outcome.{IsBroken}
-use Rattle.bx_replay.specs.Replay.{Begins, BreaksAfter, DoesLine, Ends, GivesLine, Going, HasBeginCause, HasFinishCause, HasLineCause, HasStepCause, Hears, IsEndedShort, IsRead, Leaves, Wrote}
-use Rattle.bx_replay.proofs.Goings.{begins_broken, begins_cut, begins_empty, begins_outside, finishes, stops_broken, stops_cut, stops_outside, stops_refused, stops_torn, stops_unfinished}
+use Rattle.bx_replay.specs.Lines.{IsInPlace, after_lines}
+use Rattle.bx_replay.specs.Outcome.{IsBroken, IsReplayed, IsShownBy}
+use Rattle.bx_replay.specs.Replay.{Begins, DoesLine, Ends, GivesLine, Going, HasBeginCause, HasFinishCause, HasLineCause, HasStepCause, IsRead, IsRefusedFor, IsShownAs, IsUnread, Leaves, Reached, StandsAfter, Wrote}
+use Rattle.bx_replay.proofs.Goings.{ClosesSo, Heads, begins_broken, begins_cut, begins_empty, begins_outside, finishes, stops_broken, stops_cut, stops_outside, stops_refused, stops_torn, stops_unfinished}
 use Rattle.bx_replay.proofs.ReadLines.{all_read, cut_at, cut_first, refused_empty, refused_first, refused_line, refused_outside}
 
-pub begin_stops : {A : Type 0} (Holds : A → Tree → (ℕ → Option Doubt) → Type 0) (nodes calls : A → ℕ) (Tells : Type 0) (Stands : ℕ → Tree → List TraceLine → Type 0) (stop : Stop) (text rest left start : List ℕ) (before now bench_before bench_now : ℕ) → HasBeginCause stop before now bench_before bench_now
-    → Begins Holds nodes calls (Err stop) text rest left → Leaves Tells Stands (Err stop) text left start start
-begin_stops Holds nodes calls Tells Stands (stops.Refused line reason) text rest left start before now bench_before bench_now cause (inl e) = rw (cause.0, cause.1) (refused_empty text e, λ _. begins_empty text start e)
-begin_stops Holds nodes calls Tells Stands (stops.Refused line reason) text rest left start before now bench_before bench_now cause (inr here) = rw (cause.0, cause.1) (refused_first text here, λ _. begins_outside text start here)
-begin_stops Holds nodes calls Tells Stands stops.ReadFault text rest left start before now bench_before bench_now cause begins =
-    (cut_first text begins.0 left begins.1 begins.2 begins.3, λ _. begins_cut text begins.0 left start begins.1 begins.2 begins.3)
-begin_stops Holds nodes calls Tells Stands stops.WriteFault text rest left start before now bench_before bench_now cause begins = absurd cause
-begin_stops Holds nodes calls Tells Stands stops.DiskFault text rest left start before now bench_before bench_now cause begins = λ _. begins_broken text start
-begin_stops Holds nodes calls Tells Stands stops.OutOfMemory text rest left start before now bench_before bench_now cause begins = λ _. begins_broken text start
+pub begin_stops : (MayStop : Type 0) {A : Type 0} (seen : A → Seen) (greatest : A → ℕ) (Tells : Type 0) (Stands : Tree → List TraceLine → Type 0) (stop : Stop) (text rest left start : List ℕ) (before now bench_before bench_now : ℕ) → HasBeginCause stop before now bench_before bench_now
+    → Begins seen greatest (Err stop) text rest left → Leaves MayStop Tells Stands (Err stop) text left start start
+begin_stops MayStop seen greatest Tells Stands (stops.Refused line reason) text rest left start before now bench_before bench_now cause (inl e) = rw (cause.0, cause.1) (refused_empty MayStop text e, λ _. begins_empty MayStop text start e)
+begin_stops MayStop seen greatest Tells Stands (stops.Refused line reason) text rest left start before now bench_before bench_now cause (inr here) = rw (cause.0, cause.1) (refused_first MayStop text here, λ _. begins_outside MayStop text start here)
+begin_stops MayStop seen greatest Tells Stands stops.ReadFault text rest left start before now bench_before bench_now cause begins =
+    (cut_first MayStop text begins.0 left begins.1 begins.2 begins.3, λ _. begins_cut MayStop text begins.0 left start begins.1 begins.2 begins.3)
+begin_stops MayStop seen greatest Tells Stands stops.WriteFault text rest left start before now bench_before bench_now cause begins = absurd cause
+begin_stops MayStop seen greatest Tells Stands stops.DiskFault text rest left start before now bench_before bench_now cause begins = λ _. begins_broken MayStop text start
+begin_stops MayStop seen greatest Tells Stands stops.OutOfMemory text rest left start before now bench_before bench_now cause begins = λ _. begins_broken MayStop text start
 
-module _ (Tells : Type 0) (Stands : ℕ → Tree → List TraceLine → Type 0) (Holds : Tree → (ℕ → Option Doubt) → Type 0) (waits : traces.Taking → Type 0) (machines : Machines) (desks : List AtDesk) (calls : ℕ) where
-  pub line_stops : (stop : Stop) (text rest next left start written : List ℕ) (number : ℕ) (before now : ℕ)
-      → IsRead machines text rest number → (Tells → Going Holds waits machines desks calls text rest number start written) → HasLineCause stop (number + 1) before now → GivesLine (Err stop) (number + 1) machines.nodes rest next left
-      → Leaves Tells Stands (Err stop) text left start written
+-- An end that comes behind the reading back of a tree, with its closing points; or a part of it.
+pub record IsEnding (MayStop : Type 0) (disks : Disks) (lacks : ℕ → Bool) (r : Result (Unit {0}) Stop) (old new : List ℕ) (done : List Done) : Type 0 where
+  pub tree : Tree
+  pub closes : (points : List Point) → IsShownAs disks lacks tree points → ClosesSo MayStop done tree points
+  pub ends : Ends r disks lacks tree old new
+
+module _ (MayStop Tells : Type 0) (Stands : Tree → List TraceLine → Type 0) (Led : Tree → List Part → Type 0) (heads : Tells → Heads MayStop Led) (lacking : set.FinSet nat_cmp) (seen : Seen) (greatest : ℕ) where
+  pub line_stops : (stop : Stop) (text rest next left start written : List ℕ) (number before now : ℕ)
+      → IsRead MayStop seen greatest text rest number → (Tells → Going MayStop Led lacking seen greatest text rest number start written) → HasLineCause stop (number + 1) before now → GivesLine (Err stop) (number + 1) rest next left
+      → Leaves MayStop Tells Stands (Err stop) text left start written
   line_stops (stops.Refused line reason) text rest next left start written number before now so_far going cause gives =
-      rw (cause.0, cause.1) (refused_outside machines text rest number so_far gives, λ tells. stops_outside Holds waits machines desks calls text rest number start written (going tells) gives)
+      rw (cause.0, cause.1) (refused_outside MayStop seen greatest text rest number so_far gives, λ tells. stops_outside MayStop Led lacking seen greatest text rest number start written (going tells) (heads tells) gives)
   line_stops stops.ReadFault text rest next left start written number before now so_far going cause gives = (
-    cut_at machines text rest gives.0 left number so_far gives.1 gives.2 gives.3,
-    λ tells. stops_cut Holds waits machines desks calls text rest number start written (going tells) gives.0 left gives.1 gives.2 gives.3,
+    cut_at MayStop seen greatest text rest gives.0 left number so_far gives.1 gives.2 gives.3,
+    λ tells. stops_cut MayStop Led lacking seen greatest text rest number start written (going tells) (heads tells) gives.0 left gives.1 gives.2 gives.3,
   )
   line_stops stops.WriteFault text rest next left start written number before now so_far going cause gives = absurd cause
   line_stops stops.DiskFault text rest next left start written number before now so_far going cause gives = absurd cause
   line_stops stops.OutOfMemory text rest next left start written number before now so_far going cause gives =
-      λ tells. stops_broken Holds waits machines desks calls text rest number start written (going tells)
+      λ tells. stops_broken MayStop Led lacking seen greatest text rest number start written (going tells) (heads tells)
 
-  pub step_stops : (After : Tells → Type 0) (stop : Stop) (text rest next left start old new : List ℕ) (number : ℕ) (line : Line) (before now : ℕ)
-      → IsRead machines text rest number → (going : Tells → Going Holds waits machines desks calls text rest number start old) → number < 4294967295 → BeginsWith rest (spelling line) next
-      → IsInPlace ((number + 1) == 1) machines.nodes line → HasStepCause stop (number + 1) before now → (machines_now : Machines) → Hears (Err stop) machines machines_now line
-      → ((tells : Tells) → DoesLine (Err stop) (After tells) line (going tells).done start old new)
-      → Leaves Tells Stands (Err stop) text left start new
-  step_stops After (stops.Refused n reason) text rest next left start old new number line before now so_far going few begins place cause machines_now hears does =
+  -- Where a line is refused, or its lines of the trace aren't all written.
+  pub step_stops : (stop : Stop) (text rest next left start old new : List ℕ) (number before now : ℕ) (line : Line) (Led_now : Tree → List Part → Type 0) (heads_now : Tells → Heads MayStop Led_now) (lacking_now : set.FinSet nat_cmp) (seen_now : Seen) (greatest_now : ℕ)
+      → (so_far : IsRead MayStop seen greatest text rest number) → (going : Tells → Going MayStop Led lacking seen greatest text rest number start old) → number < 4294967295 → BeginsWith rest (spelling line) next
+      → IsInPlace false line → HasStepCause stop (number + 1) before now → IsRefusedFor MayStop stop (number + 1) (after_lines so_far.done) line → ((tells : Tells) → IsRefusedFor MayStop stop (number + 1) (after_lines (lines_of (going tells).done)) line)
+      → ((tells : Tells) → DoesLine (Err stop) (λ written. Reached MayStop seen_now greatest_now (line ∷ lines_of (going tells).done) × StandsAfter MayStop Led_now lacking_now line (going tells).done start written) old new)
+      → Leaves MayStop Tells Stands (Err stop) text left start new
+  step_stops (stops.Refused n reason) text rest next left start old new number before now line Led_now heads_now lacking_now seen_now greatest_now so_far going few begins place cause refused refused_then does =
       rw cause (
-        refused_line machines text rest next number line so_far few begins place reason hears,
-        λ tells. rw (does tells) (stops_refused Holds waits machines desks calls text rest number start old (going tells) reason line next few begins place hears),
+        refused_line MayStop seen greatest text rest next number line so_far few begins place reason refused.1,
+        λ tells. rw (does tells) (stops_refused MayStop Led lacking seen greatest text rest number start old (going tells) (heads tells) reason line next few begins place (refused_then tells).1),
       )
-  step_stops After stops.ReadFault text rest next left start old new number line before now so_far going few begins place cause machines_now hears does = absurd cause
-  step_stops After stops.WriteFault text rest next left start old new number line before now so_far going few begins place cause machines_now hears does =
-      λ tells. stops_torn Holds waits machines desks calls text rest next number line start old new (going tells) begins (does tells)
-  step_stops After stops.DiskFault text rest next left start old new number line before now so_far going few begins place cause machines_now hears does = absurd cause
-  step_stops After stops.OutOfMemory text rest next left start old new number line before now so_far going few begins place cause machines_now hears does =
-      λ tells. by tells (does tells)
-    where
-      by : (tells : Tells) → (new ≡ old) ⊎ BreaksAfter line (going tells).done start new → Wrote start new (IsBroken text)
-      by tells (inl same) = rw same (stops_broken Holds waits machines desks calls text rest number start old (going tells))
-      by tells (inr torn) = stops_torn Holds waits machines desks calls text rest next number line start old new (going tells) begins torn
+  step_stops stops.ReadFault text rest next left start old new number before now line Led_now heads_now lacking_now seen_now greatest_now so_far going few begins place cause refused refused_then does = absurd cause
+  step_stops stops.WriteFault text rest next left start old new number before now line Led_now heads_now lacking_now seen_now greatest_now so_far going few begins place cause refused refused_then does =
+      λ tells. (let it = does tells in
+      stops_torn MayStop Led lacking seen greatest text rest number start old (going tells) MayStop Led_now lacking_now seen_now greatest_now line next new begins it.3.0 (heads_now tells) it.0 it.1 it.2 it.3.1)
+  step_stops stops.DiskFault text rest next left start old new number before now line Led_now heads_now lacking_now seen_now greatest_now so_far going few begins place cause refused refused_then does = absurd cause
+  step_stops stops.OutOfMemory text rest next left start old new number before now line Led_now heads_now lacking_now seen_now greatest_now so_far going few begins place cause refused refused_then does =
+      λ tells. rw (does tells) (stops_broken MayStop Led lacking seen greatest text rest number start old (going tells) (heads tells))
 
-  finish_stops : (stop : Stop) (text left start old new : List ℕ) (number : ℕ) (before now : ℕ) (Held : Type 0) (bench_before bench_now : ℕ)
-      → (going : Tells → Going Holds waits machines desks calls text [] number start old) → HasFinishCause stop before now Held bench_before bench_now
-      → ((tells : Tells) → IsEndedShort machines.nodes (going tells).tree (going tells).doubts old new) → Leaves Tells Stands (Err stop) text left start new
-  finish_stops (stops.Refused n reason) text left start old new number before now Held bench_before bench_now going cause part = absurd cause
-  finish_stops stops.ReadFault text left start old new number before now Held bench_before bench_now going cause part = absurd cause
-  finish_stops stops.WriteFault text left start old new number before now Held bench_before bench_now going cause part =
-      λ tells. stops_unfinished Holds waits machines desks calls text number start old new (going tells) (part tells)
-  finish_stops stops.DiskFault text left start old new number before now Held bench_before bench_now going cause part =
-      λ tells. stops_unfinished Holds waits machines desks calls text number start old new (going tells) (part tells)
-  finish_stops stops.OutOfMemory text left start old new number before now Held bench_before bench_now going cause part =
-      λ tells. stops_unfinished Holds waits machines desks calls text number start old new (going tells) (part tells)
+  -- ---- the end
 
-  pub finish_leaves : (r : Result (Unit {0}) Stop) (text left start old new : List ℕ) (number : ℕ) (before now : ℕ) (Held : Type 0) (bench_before bench_now : ℕ)
-      → IsRead machines text [] number → left ≡ [] → (going : Tells → Going Holds waits machines desks calls text [] number start old) → IfErr r (λ stop. HasFinishCause stop before now Held bench_before bench_now)
-      → ((tells : Tells) → Ends r machines.nodes (going tells).tree (going tells).doubts (Stands machines.nodes) old new) → Leaves Tells Stands r text left start new
-  finish_leaves (Ok x) text left start old new number before now Held bench_before bench_now so_far ends going cause ended =
-      (all_read machines text number so_far, ends, λ tells. finishes Holds waits machines desks calls text Stands number start old new (going tells) (ended tells))
-  finish_leaves (Err stop) text left start old new number before now Held bench_before bench_now so_far ends going cause ended =
-      finish_stops stop text left start old new number before now Held bench_before bench_now going cause ended
+  module _ (disks : Disks) (lacks : ℕ → Bool) (text start old : List ℕ) (number : ℕ) (so_far : IsRead MayStop seen greatest text [] number) (going : Tells → Going MayStop Led lacking seen greatest text [] number start old) where
+    -- the trace alone, or with a part of the end behind it
+    broken : (tells : Tells) → Wrote start old (IsBroken MayStop text)
+    broken tells = stops_broken MayStop Led lacking seen greatest text [] number start old (going tells) (heads tells)
+
+    torn : (tells : Tells) (new : List ℕ) → IsEnding MayStop disks lacks (Err stops.WriteFault) old new (going tells).done → Wrote start new (IsBroken MayStop text)
+    torn tells new it = stops_unfinished MayStop Led lacking seen greatest text number start old (going tells) it.tree it.ends.0 (it.closes it.ends.0 it.ends.1) new it.ends.2.0 it.ends.2.1
+
+    whole : (x : Unit {0}) (tells : Tells) (new : List ℕ) → IsEnding MayStop disks lacks (Ok x) old new (going tells).done → ((tree : Tree) (points : List Point) → IsShownAs disks lacks tree points → Stands tree (map Acted points)) → Wrote start new (IsReplayed MayStop text Stands)
+    whole x tells new it shown =
+        finishes MayStop Led lacking seen greatest text number start old (going tells) it.tree it.ends.0 (it.closes it.ends.0 it.ends.1) Stands new it.ends.2 (shown it.tree it.ends.0 it.ends.1)
+
+    pub finish_leaves : (r : Result (Unit {0}) Stop) (left new : List ℕ) (before now : ℕ) (Held : Type 0) (bench_before bench_now : ℕ) → left ≡ [] → IfErr r (λ stop. HasFinishCause stop before now Held bench_before bench_now)
+        → ((tells : Tells) → IsEnding MayStop disks lacks r old new (going tells).done ⊎ (IsUnread r × (new ≡ old)))
+        → (Tells → OnOk r ((tree : Tree) (points : List Point) → IsShownAs disks lacks tree points → Stands tree (map Acted points))) → Leaves MayStop Tells Stands r text left start new
+    finish_leaves (Ok x) left new before now Held bench_before bench_now all cause ended shown =
+        (all_read MayStop seen greatest text number so_far, all, λ tells. elim (ended tells) [ inl it ↦ whole x tells new it (shown tells) | inr none ↦ absurd none.0 ])
+    finish_leaves (Err (stops.Refused n reason)) left new before now Held bench_before bench_now all cause ended shown = absurd cause
+    finish_leaves (Err stops.ReadFault) left new before now Held bench_before bench_now all cause ended shown = absurd cause
+    finish_leaves (Err stops.WriteFault) left new before now Held bench_before bench_now all cause ended shown =
+        λ tells. elim (ended tells) [ inl it ↦ torn tells new it | inr none ↦ absurd none.0 ]
+    finish_leaves (Err stops.DiskFault) left new before now Held bench_before bench_now all cause ended shown =
+        λ tells. elim (ended tells) [ inl it ↦ rw (it.ends) (broken tells) | inr none ↦ rw (none.1) (broken tells) ]
+    finish_leaves (Err stops.OutOfMemory) left new before now Held bench_before bench_now all cause ended shown =
+        λ tells. elim (ended tells) [ inl it ↦ rw (it.ends) (broken tells) | inr none ↦ rw (none.1) (broken tells) ]
+
+-- what is shown at the end stands so on the disks
+pub shown_by : (disks : Disks) (lacks : ℕ → Bool) (tree : Tree) (points : List Point) → IsShownAs disks lacks tree points → IsShownBy disks tree (map Acted points)
+shown_by disks lacks tree points is = record {
+  stands = is.stands;
+  closing_open = record { points = is.opened; open_are = is.open_are; of = lacks; lines_are = ap (map Acted) is.points_are };
+}

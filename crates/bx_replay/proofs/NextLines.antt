@@ -7,16 +7,16 @@ use Rattle.bx_outside.specs.LineReader.{IsTooLong}
 use Rattle.bx_script.specs.declared.line.Line.{Line}
 use Rattle.bx_script.specs.ScheduleLine.{spelling}
 use Rattle.bx_script.proofs.Spelled.{short_spelling}
-use Rattle.bx_replay.specs.Headline.{IsInPlace}
+use Rattle.bx_replay.specs.Lines.{IsInPlace}
 
--- the first line of a text is refused at this number, where there are so many nodes
-abbrev pub IsRefusedHere : List ℕ → ℕ → ℕ → Type 0
-IsRefusedHere text number nodes =
+-- the first line of a text is refused at this number
+abbrev pub IsRefusedHere : List ℕ → ℕ → Type 0
+IsRefusedHere text number =
     (first : List ℕ) × (others : List (List ℕ)) × (lines_of text ≡ first ∷ others)
-    × ((4294967295 < number) ⊎ ((value : Line) → IsInPlace (number == 1) nodes value → first ≢ spelling value))
+    × ((4294967295 < number) ⊎ ((value : Line) → IsInPlace (number == 1) value → first ≢ spelling value))
 
-pub refused_too_long : (text : List ℕ) (most number nodes : ℕ) → most ≡ 18600 → IsTooLong text most → IsRefusedHere text number nodes
-refused_too_long text most number nodes e long =
+pub refused_too_long : (text : List ℕ) (most number : ℕ) → most ≡ 18600 → IsTooLong text most → IsRefusedHere text number
+refused_too_long text most number e long =
     let found = lines_of-too_long long.front long.rest long.lacks (let l = long.longer in omega arith) in (
       found.0,
       found.1,
@@ -28,8 +28,8 @@ refused_too_long text most number nodes e long =
           omega (arith, found.3)),
     )
 
-pub refused_count : (text line rest : List ℕ) (number nodes : ℕ) → 4294967295 < number → BeginsWith text line rest → IsRefusedHere text number nodes
-refused_count text line rest number nodes many begins = (line, lines_of rest, lines_of-begins text line rest begins, inl many)
+pub refused_count : (text line rest : List ℕ) (number : ℕ) → 4294967295 < number → BeginsWith text line rest → IsRefusedHere text number
+refused_count text line rest number many begins = (line, lines_of rest, lines_of-begins text line rest begins, inl many)
 
-pub refused_line : (text line rest : List ℕ) (number nodes : ℕ) → ((value : Line) → IsInPlace (number == 1) nodes value → line ≢ spelling value) → BeginsWith text line rest → IsRefusedHere text number nodes
-refused_line text line rest number nodes none begins = (line, lines_of rest, lines_of-begins text line rest begins, inr none)
+pub refused_line : (text line rest : List ℕ) (number : ℕ) → ((value : Line) → IsInPlace (number == 1) value → line ≢ spelling value) → BeginsWith text line rest → IsRefusedHere text number
+refused_line text line rest number none begins = (line, lines_of rest, lines_of-begins text line rest begins, inr none)

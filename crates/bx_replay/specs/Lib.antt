@@ -1,7 +1,6 @@
 pub mod Bench
-pub mod Course
-pub mod Doing
 pub mod Headline
-pub mod Incoming
+pub mod Lines
 pub mod Outcome
 pub mod Replay
+pub mod Stops

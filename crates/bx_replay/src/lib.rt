@@ -1,21 +1,12 @@
-//! A schedule replayed on a service over a bench of disks that hold the file tree, and what its trace says: the headline.
+//! A replay: a schedule from its first byte to its last, done on a cluster over a bench of disks, with its trace.
 #![tactic(auto)]
 
-mod admitting;
+mod begins;
 mod bench;
-mod calls;
-mod crashes;
-mod desks;
 mod ends;
-mod laws;
-mod print;
-mod rounds;
+mod lines;
 mod run;
-mod schedule;
-mod state;
 mod steps;
-mod ticks;
+mod stops;
 
-pub use bx_stops::{Reason, Stop};
-pub use laws::one_output;
 pub use run::replay;

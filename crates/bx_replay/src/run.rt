@@ -1,37 +1,36 @@
 //! The whole of a replay.
 
 ghost use Rattle.std.specs.Prelude.{◌≡◌, ◌≤◌, ◌⊎◌, ℕ, [], false, IfErr, IsErrOf, OnOk};
+ghost use Rattle.bx_base.specs.Faults.{Rose};
 ghost use Rattle.bx_stops.specs.declared.stop.Stop.TheVariants as stops;
-ghost use Rattle.bx_replay.specs.Bench.{IsShownBy};
-ghost use Rattle.bx_replay.specs.Course.{IsPlayed};
-ghost use Rattle.bx_replay.specs.Outcome.{IsPlayable};
+ghost use Rattle.bx_replay.specs.Outcome.{IsPlayable, IsShownBy};
 ghost use Rattle.bx_replay.specs.Replay.{HasCause, Leaves, UnlessRead, UnlessWrite};
 
-use crate::schedule::next_line;
-use crate::state::Replay;
+use crate::begins::begin;
+use crate::ends::finish;
+use crate::lines::next_line;
+use crate::steps::{Numbered, step};
 use bx_disk::CrashRack;
+use bx_opens::Opens;
 use bx_outside::{LineReader, Sink, Source};
+use bx_schedule::Schedule;
 use bx_script::MAX_LINE;
-use bx_service::Service;
 use bx_stops::Stop;
 use std::alloc::Global;
 
-/// Replays the schedule of `input` on a service over `bench`, and writes its trace to `out` as it goes; then the word `end`, the points of
-/// calls in doubt whose records are open, and the listing of the tree, as it is read back from the bench. It keeps one line of the schedule
-/// at a time, and the calls that wait. The bench becomes a volume of the heading's number. Where a line has the machines crash, each of its
-/// disks crashes with that noise; at the end what is unsure is dropped, and its images stand for the tree. It tells a disk's fault only
-/// where nothing was written yet, or where all lines are done.
-pub fn replay<M: Service, S: Source, K: Sink, B: CrashRack>(
+/// Replays the schedule of `input` on a cluster over `bench`, and writes its trace to `out` as it goes; then the word `end`, the points of calls in doubt whose records are open, and the listing of the
+/// tree, as it is read back from the bench. It keeps one line of the schedule at a time. The bench becomes a volume of the heading's number. At the end all its disks crash, and what is unsure is dropped. A
+/// disk's fault stops its machine, and the replay goes on; it is told only where nothing was written yet, or where all lines are done.
+pub fn replay<O: Opens, S: Source, K: Sink, B: CrashRack>(
     alloc: Global,
     input: &mut S,
     out: &mut K,
     bench: &mut B,
 ) -> Result<(), Stop>
-    ensures leaves { S.tells input.old → Leaves (K.tells out.old × B.tells bench.old) (IsShownBy (B.state bench.new)) result (S.left input.old) (S.left input.new) (K.written out.old) (K.written out.new) }
-    ensures course { S.tells input.old → B.tells bench.old → OnOk result (IsPlayed M.rests M.returns M.turns (S.left input.old) (B.state bench.new)) }
+    ensures leaves { S.tells input.old → Leaves (Rose (B.faults bench.old) (B.faults bench.new)) (K.tells out.old × B.tells bench.old) (IsShownBy (B.state bench.new)) result (S.left input.old) (S.left input.new) (K.written out.old) (K.written out.new) }
     ensures dropped { (d s : ℕ) → B.tells bench.old → OnOk result ((B.state bench.new).unsure d s ≡ false) }
     ensures cause { IfErr result (λ stop. HasCause stop (S.faults input.old) (S.faults input.new) (K.faults out.old) (K.faults out.new) (B.tells bench.old) (B.faults bench.old) (B.faults bench.new)) }
-    ensures disk_when { IsErrOf result stops.DiskFault → S.tells input.old → (out.new ≡ out.old) ⊎ (IsPlayable (S.left input.old) × (S.left input.new ≡ [])) }
+    ensures disk_when { IsErrOf result stops.DiskFault → S.tells input.old → (out.new ≡ out.old) ⊎ (IsPlayable (Rose (B.faults bench.old) (B.faults bench.new)) (S.left input.old) × (S.left input.new ≡ [])) }
     ensures bench_later { B.faults bench.old ≤ B.faults bench.new }
     ensures bench_tells { B.tells bench.old → B.tells bench.new }
     ensures source_first { UnlessRead result (S.faults input.new ≡ S.faults input.old) }
@@ -42,11 +41,17 @@ pub fn replay<M: Service, S: Source, K: Sink, B: CrashRack>(
     ensures sink_tells { K.tells out.old → K.tells out.new }
 {
     let mut reader = LineReader::new(alloc, MAX_LINE)?;
-    let mut replay: Replay<M> = Replay::begin(alloc, &mut reader, input, bench)?;
+    let mut schedule = begin::<O, S, B>(alloc, &mut reader, input, bench)?;
     let mut number = 1;
-    'lines: while let Some(line) = next_line(alloc, &mut reader, input, number + 1, replay.nodes)? {
+    'lines: while let Some(line) = next_line(alloc, &mut reader, input, number + 1)? {
         number += 1;
-        replay.step(alloc, number, line, bench, out)?;
+        let at = Numbered {
+            number,
+            line: &line,
+        };
+        step(alloc, &mut schedule, at, bench, out)?;
+        // It goes here, so that one path leads back to the head of the loop.
+        drop(line);
     }
-    replay.finish(alloc, bench, out)
+    finish(alloc, &schedule, bench, out)
 }

@@ -1,123 +1,71 @@
-//! What the lines of a schedule do.
+//! One line of a schedule.
 
-ghost use Rattle.std.specs.Prelude.{◌≡◌, ◌≢◌, ◌≤◌, ◌<◌, ◌+◌, List, ℕ, length, IfErr, OnOk, Option, true, false};
-ghost use Rattle.bx_base.specs.declared.names.Actor.TheVariants.{Node};
-ghost use Rattle.bx_history.specs.Along.{Done};
-ghost use Rattle.bx_history.specs.Trace.{Taking};
+ghost use Rattle.std.specs.Prelude.{◌≡◌, ◌+◌, ◌<◌, ◌≤◌, List, ℕ, false, length, IfErr, OnOk, ◌∷◌};
+ghost use Rattle.bx_base.specs.Faults.{Rose};
+ghost use Rattle.bx_driver.specs.Racks.{KeepsRack};
+ghost use Rattle.bx_history.specs.Parts.{Part};
 ghost use Rattle.bx_model.specs.declared.tree.Tree.{Tree};
-ghost use Rattle.bx_script.specs.declared.line.Line.TheVariants.{Tick as TickLine};
-ghost use Rattle.bx_script.specs.Schedule.{reading_of};
-ghost use Rattle.bx_replay.specs.Course.{Moves};
-ghost use Rattle.bx_replay.specs.Doing.{CanTake};
-ghost use Rattle.bx_replay.specs.Headline.{IsInPlace, IsSteady, IsThere, greatest_with, machines_at};
-ghost use Rattle.bx_replay.specs.Replay.{AreWaiting, DoesLine, GoesOn, HasNodes, HasStepCause, Hears, HearsUp, Stands, StandsAfter, UnlessWrite};
-ghost use Rattle.bx_service.specs.Rounds.{Doubt};
+ghost use Rattle.bx_schedule.specs.Places.{CanGo, place_of};
+ghost use Rattle.bx_schedule.specs.Placing.{Done, lines_of};
+ghost use Rattle.bx_script.specs.declared.line.Line.{Line};
+ghost use Rattle.bx_replay.specs.Lines.{IsInPlace, after_lines};
+ghost use Rattle.bx_replay.specs.Replay.{DoesLine, HasStepCause, IsRefusedFor, Reached, Stands, StandsAfter, UnlessWrite};
 
-use crate::calls::Incoming;
-use crate::state::Replay;
-use bx_base::Actor;
-use bx_disk::{CrashRack, Rack};
-use bx_outside::Sink;
+use crate::stops::stop_of;
+use bx_disk::CrashRack;
+use bx_opens::Cluster;
+use bx_outside::{Sink, write_all};
+use bx_schedule::{Schedule, down_by_lines, lines_are_placed, parts_stand_apart};
 use bx_script::Line;
-use bx_service::Service;
 use bx_stops::Stop;
+use bx_world_events::first_cause_is_told;
 use std::alloc::Global;
 
-impl<M: Service> Replay<M> {
-    /// Does a line behind the heading, unless it names a node that isn't there, or its reading lies too far back.
-    pub fn step<K: Sink, B: CrashRack>(
-        &mut self,
-        alloc: Global,
-        number: u64,
-        line: Line,
-        bench: &mut B,
-        out: &mut K,
-    ) -> Result<(), Stop>
-        requires in_place { IsInPlace false self.old.nodes line }
-        requires can { CanTake M.Service self.old }
-        requires ready { M.ready self.old.service (B.state bench.old).sizes }
+/// A line and its number, which counts from 1.
+#[derive(Clone, Copy)]
+pub(crate) struct Numbered<'a> {
+    /// The number.
+    pub(crate) number: u64,
+    /// The line.
+    pub(crate) line: &'a Line,
+}
 
-        ensures does { (tree : Tree) (doubts : ℕ → Option Doubt) (done : List Done) (start : List ℕ) → K.tells out.old → B.tells bench.old → M.holds self.old.service (B.state bench.old) tree doubts → length done < 4294967295
-            → AreWaiting (M.waits self.old.service) done → Stands tree (machines_at self.old.nodes (M.up self.old.service) self.old.clock) self.old.desks.items doubts self.old.calls done start (K.written out.old)
-            → DoesLine result (StandsAfter (M.holds self.new.service (B.state bench.new)) (M.waits self.new.service) (machines_at self.new.nodes (M.up self.new.service) self.new.clock) self.new.desks.items self.new.calls line done start (K.written out.new)) line done start (K.written out.old) (K.written out.new) }
-        ensures holds { (tree : Tree) (doubts : ℕ → Option Doubt) → B.tells bench.old → M.holds self.old.service (B.state bench.old) tree doubts → OnOk result ((next : Tree) × (now : ℕ → Option Doubt) × M.holds self.new.service (B.state bench.new) next now) }
-        ensures nodes { OnOk result (HasNodes self.new.nodes (M.nodes self.new.service) (length self.new.desks.items) × (self.new.nodes ≡ self.old.nodes)) }
-        ensures latest { OnOk result (M.latest self.new.service ≤ self.new.calls) }
-        ensures ready { OnOk result (M.ready self.new.service (B.state bench.new).sizes) }
-        ensures hears { Hears result (machines_at self.old.nodes (M.up self.old.service) self.old.clock) (machines_at self.new.nodes (M.up self.new.service) self.new.clock) line }
-        ensures moves { (tree : Tree) (doubts : ℕ → Option Doubt) → B.tells bench.old → M.holds self.old.service (B.state bench.old) tree doubts
-            → OnOk result (Moves M.rests M.returns M.turns line (M.up self.old.service) (record { service = self.old.service; disks = B.state bench.old; faults = B.faults bench.old }) (record { service = self.new.service; disks = B.state bench.new; faults = B.faults bench.new })) }
-        ensures ticks { (reading node : ℕ) → line ≡ TickLine reading (Node node) → ((call : Taking) → M.waits self.old.service call → call.node ≢ node) → OnOk result (M.tidies self.new.service node ≡ true) }
-        ensures cause { IfErr result (λ stop. HasStepCause stop number (K.faults out.old) (K.faults out.new)) }
-        ensures first { UnlessWrite result (K.faults out.new ≡ K.faults out.old) }
-        ensures calls { self.new.calls ≤ self.old.calls + 1 }
-        ensures goes_on { GoesOn (K.tells out.old) (K.tells out.new) (K.faults out.old) (K.faults out.new) (B.tells bench.old) (B.tells bench.new) (B.faults bench.old) (B.faults bench.new) }
-    {
-        let clock = self.admit(number, &line)?;
-        self.act(alloc, number, line, bench, out)?;
-        self.clock = clock;
-        Ok(())
+/// Does a line behind the heading, and writes the lines of the trace that it comes to. One that is refused changes nothing.
+pub(crate) fn step<C: Cluster, K: Sink, B: CrashRack>(
+    alloc: Global,
+    schedule: &mut Schedule<C>,
+    at: Numbered<'_>,
+    bench: &mut B,
+    out: &mut K,
+) -> Result<(), Stop>
+    requires line { IsInPlace false at.line.now }
+    requires goes { CanGo C.seen C.room B.Rack (place_of schedule.old) bench.old }
+    requires few { C.events schedule.old.cluster + 20 < 4611686018427387904 }
+    ensures goes { OnOk result (CanGo C.seen C.room B.Rack (place_of schedule.new) bench.new) }
+    ensures counted { OnOk result (C.events schedule.new.cluster ≤ C.events schedule.old.cluster + 20) }
+    ensures reaches { (start : ℕ) (done : List Line) → start ≤ B.faults bench.old → length done < 4294967295 → Reached (Rose start (B.faults bench.old)) (C.seen schedule.old.cluster) (place_of schedule.old).clock done
+        → OnOk result (Reached (Rose start (B.faults bench.new)) (C.seen schedule.new.cluster) (place_of schedule.new).clock (at.entry.line.now ∷ done)) }
+    ensures refused { (start : ℕ) (done : List Line) → start ≤ B.faults bench.old → Reached (Rose start (B.faults bench.old)) (C.seen schedule.old.cluster) (place_of schedule.old).clock done
+        → IfErr result (λ stop. IsRefusedFor (Rose start (B.faults bench.old)) stop at.entry.number (after_lines done) at.entry.line.now) }
+    ensures does { (start : ℕ) (done : List Done) (begun : List ℕ) → K.tells out.old → B.tells bench.old → start ≤ B.faults bench.old → length (lines_of done) < 4294967295
+        → Reached (Rose start (B.faults bench.old)) (C.seen schedule.old.cluster) (place_of schedule.old).clock (lines_of done)
+        → Stands (Rose start (B.faults bench.old)) (C.led schedule.old.cluster (B.state bench.old)) (place_of schedule.old).lacking done begun (K.written out.old)
+        → DoesLine result (λ written. Reached (Rose start (B.faults bench.new)) (C.seen schedule.new.cluster) (place_of schedule.new).clock (at.entry.line.now ∷ lines_of done)
+        × StandsAfter (Rose start (B.faults bench.new)) (C.led schedule.new.cluster (B.state bench.new)) (place_of schedule.new).lacking at.entry.line.now done begun written) (K.written out.old) (K.written out.new) }
+    ensures leads { (tree : Tree) (parts : List Part) → B.tells bench.old → C.led schedule.old.cluster (B.state bench.old) tree parts → OnOk result ((now : List Part) × C.led schedule.new.cluster (B.state bench.new) tree now) }
+    ensures cause { IfErr result (λ stop. HasStepCause stop at.entry.number (K.faults out.old) (K.faults out.new)) }
+    ensures first { UnlessWrite result (K.faults out.new ≡ K.faults out.old) }
+    ensures later { K.faults out.old ≤ K.faults out.new }
+    ensures keeps_telling { K.tells out.old → K.tells out.new }
+    ensures bench { KeepsRack B.Rack bench.old bench.new }
+{
+    first_cause_is_told();
+    lines_are_placed();
+    down_by_lines();
+    parts_stand_apart();
+    if let Err(error) = schedule.step(alloc, bench, at.line) {
+        return Err(stop_of(at.number, error));
     }
-
-    /// Does a line whose node is there, and whose reading doesn't lie too far back: a datagram arrives; a run does rounds; all
-    /// crash, or come back; a clock ticks.
-    fn act<K: Sink, B: CrashRack>(
-        &mut self,
-        alloc: Global,
-        number: u64,
-        line: Line,
-        bench: &mut B,
-        out: &mut K,
-    ) -> Result<(), Stop>
-        requires there { IsThere self.old.nodes line }
-        requires in_place { IsInPlace false self.old.nodes line }
-        requires can { CanTake M.Service self.old }
-        requires ready { M.ready self.old.service (B.state bench.old).sizes }
-
-        ensures does { (tree : Tree) (doubts : ℕ → Option Doubt) (greatest : ℕ) (done : List Done) (start : List ℕ) → K.tells out.old → B.tells bench.old → M.holds self.old.service (B.state bench.old) tree doubts → length done < 4294967295
-            → IsSteady greatest line → AreWaiting (M.waits self.old.service) done → Stands tree (machines_at self.old.nodes (M.up self.old.service) greatest) self.old.desks.items doubts self.old.calls done start (K.written out.old)
-            → DoesLine result (StandsAfter (M.holds self.new.service (B.state bench.new)) (M.waits self.new.service) (machines_at self.new.nodes (M.up self.new.service) (greatest_with (reading_of line) greatest)) self.new.desks.items self.new.calls line done start (K.written out.new)) line done start (K.written out.old) (K.written out.new) }
-        ensures holds { (tree : Tree) (doubts : ℕ → Option Doubt) → B.tells bench.old → M.holds self.old.service (B.state bench.old) tree doubts → OnOk result ((next : Tree) × (now : ℕ → Option Doubt) × M.holds self.new.service (B.state bench.new) next now) }
-        ensures nodes { OnOk result (HasNodes self.new.nodes (M.nodes self.new.service) (length self.new.desks.items) × (self.new.nodes ≡ self.old.nodes)) }
-        ensures latest { OnOk result (M.latest self.new.service ≤ self.new.calls) }
-        ensures ready { OnOk result (M.ready self.new.service (B.state bench.new).sizes) }
-        ensures hears { HearsUp result (M.up self.old.service) (M.up self.new.service) line }
-        ensures moves { (tree : Tree) (doubts : ℕ → Option Doubt) → B.tells bench.old → M.holds self.old.service (B.state bench.old) tree doubts
-            → OnOk result (Moves M.rests M.returns M.turns line (M.up self.old.service) (record { service = self.old.service; disks = B.state bench.old; faults = B.faults bench.old }) (record { service = self.new.service; disks = B.state bench.new; faults = B.faults bench.new })) }
-        ensures ticks { (reading node : ℕ) → line ≡ TickLine reading (Node node) → ((call : Taking) → M.waits self.old.service call → call.node ≢ node) → OnOk result (M.tidies self.new.service node ≡ true) }
-        ensures cause { IfErr result (λ stop. HasStepCause stop number (K.faults out.old) (K.faults out.new)) }
-        ensures first { UnlessWrite result (K.faults out.new ≡ K.faults out.old) }
-        ensures calls { self.new.calls ≤ self.old.calls + 1 }
-        ensures goes_on { GoesOn (K.tells out.old) (K.tells out.new) (K.faults out.old) (K.faults out.new) (B.tells bench.old) (B.tells bench.new) (B.faults bench.old) (B.faults bench.new) }
-    {
-        match line {
-            Line::Call {
-                reading,
-                node,
-                client,
-                datagram,
-            } => {
-                let incoming = Incoming {
-                    reading,
-                    node,
-                    client,
-                    datagram,
-                };
-                self.call(alloc, number, incoming, out)
-            }
-            Line::Run { reading, limit } => self.run(alloc, reading, limit, bench, out),
-            Line::CrashAll { noise } => self.crash(noise, bench),
-            Line::RestartAll { reading: _ } => self.restart(bench, out),
-            Line::Tick {
-                reading: _,
-                machine,
-            } => match machine {
-                Actor::Node(node) => self.tick(number, node),
-                // Clocks of other machines don't tick in this stage.
-                _ => Ok(()),
-            },
-            // No other line has its place here.
-            _ => Ok(()),
-        }
-    }
+    write_all(out, schedule.text())?;
+    Ok(())
 }

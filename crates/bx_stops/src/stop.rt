@@ -18,9 +18,21 @@ pub enum Reason {
     /// Its reading lies so many milliseconds further behind an earlier one than clocks may differ. That is at least 1.
     #[error("clock back by {0}")]
     ClockBack(u64),
-    /// It is a call or a tick, and its node is down.
+    /// The packet that is to arrive isn't there: none has this number.
+    #[error("no such packet {0}")]
+    NoPacket(u64),
+    /// A machine has to be down for it, and is up.
+    #[error("up")]
+    Up,
+    /// A machine has to be up for it, and is down.
     #[error("down")]
     Down,
+    /// The machine's disk has no write that waits for a sync.
+    #[error("nothing to sync")]
+    NothingToSync,
+    /// The machine's disk isn't one that its device does without.
+    #[error("still needed")]
+    StillNeeded,
 }
 
 /// Why a replay stops short of its end.

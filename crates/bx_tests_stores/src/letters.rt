@@ -268,61 +268,37 @@ fn number_of(alloc: Global, post: &Post, which: Which, from: Actor, to: Actor) -
 }
 
 impl<S: Store, R: CrashRack> Desk<S, R> {
-    /// A letter comes at a reading, and goes where it doesn't stay under way.
-    fn comes(&mut self, number: u64, to: Actor, reading: u64, out: &mut Outbox) -> Told
+    /// One of the letters from one machine to another comes at a reading. It is under way no more, unless it stays: then a copy came.
+    fn comes(
+        &mut self,
+        lane: (Which, Actor, Actor),
+        reading: u64,
+        stays: bool,
+        out: &mut Outbox,
+    ) -> Told
         requires { IsDesk (S.made self.old.store) (S.needs self.old.store) (R.state self.old.rack).sizes self.old.known }
         ensures { IsDesk (S.made self.new.store) (S.needs self.new.store) (R.state self.new.rack).sizes self.new.known }
     {
+        let (which, from, to) = lane;
+        let Some(number) = number_of(self.alloc, &self.post, which, from, to) else {
+            return Told::Fails;
+        };
         let Some(packet) = self.post.packet(number) else {
             return Told::Fails;
         };
         let input = Input::Packet(packet, reading);
-        hears(
+        let told = hears(
             &mut self.store,
             &mut self.rack,
             &self.known,
             to,
             &input,
             out,
-        )
-    }
-
-    /// A letter from one machine to another comes at a reading, and is under way no more.
-    fn takes(
-        &mut self,
-        which: Which,
-        from: Actor,
-        to: Actor,
-        reading: u64,
-        out: &mut Outbox,
-    ) -> Told
-        requires { IsDesk (S.made self.old.store) (S.needs self.old.store) (R.state self.old.rack).sizes self.old.known }
-        ensures { IsDesk (S.made self.new.store) (S.needs self.new.store) (R.state self.new.rack).sizes self.new.known }
-    {
-        let Some(number) = number_of(self.alloc, &self.post, which, from, to) else {
-            return Told::Fails;
-        };
-        let told = self.comes(number, to, reading, out);
-        self.post.settle(number);
+        );
+        if !stays {
+            self.post.settle(number);
+        }
         told
-    }
-
-    /// A copy of one comes at a reading.
-    fn repeats(
-        &mut self,
-        which: Which,
-        from: Actor,
-        to: Actor,
-        reading: u64,
-        out: &mut Outbox,
-    ) -> Told
-        requires { IsDesk (S.made self.old.store) (S.needs self.old.store) (R.state self.old.rack).sizes self.old.known }
-        ensures { IsDesk (S.made self.new.store) (S.needs self.new.store) (R.state self.new.rack).sizes self.new.known }
-    {
-        let Some(number) = number_of(self.alloc, &self.post, which, from, to) else {
-            return Told::Fails;
-        };
-        self.comes(number, to, reading, out)
     }
 
     /// An event without a letter.
@@ -385,13 +361,13 @@ impl<S: Store, R: CrashRack> Desk<S, R> {
     {
         match step {
             Step::Comes(from, to) => {
-                self.takes(Which::Oldest, from, to, 1000, out) == Told::Nothing
+                self.comes((Which::Oldest, from, to), 1000, false, out) == Told::Nothing
             }
             Step::ComesAt(which, from, to, reading) => {
-                self.takes(which, from, to, reading, out) == Told::Nothing
+                self.comes((which, from, to), reading, false, out) == Told::Nothing
             }
             Step::Repeats(which, from, to, reading, wanted) => {
-                self.repeats(which, from, to, reading, out) == wanted
+                self.comes((which, from, to), reading, true, out) == wanted
             }
             Step::Syncs(at) => self.ticks(at, &Input::Synced, out) == Told::Nothing,
             Step::Ticks(at, reading, wanted) => {

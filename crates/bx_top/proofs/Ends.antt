@@ -4,6 +4,7 @@ use Rattle.std.proofs.lemmas.Bool.{and_parts}
 use Rattle.std.proofs.lemmas.Bool.Decides.{nat_tests}
 use Rattle.std.specs.List.{list_all, list_any}
 use Rattle.std.specs.Prelude.{Option, Some, None}
+use Rattle.bx_base.specs.Faults.{Rose}
 use Rattle.bx_command_line.proofs.Lines.{one_line}
 use Rattle.bx_command_line.specs.declared.command_line.CommandLine.{CommandLine}
 use Rattle.bx_command_line.specs.declared.command_line.CommandLine.TheVariants.{Replay, Format, Check}
@@ -87,16 +88,15 @@ pub replay_starved : {S K B : Type 0} (source : sources.Ghosts S) (sink : sinks.
 replay_starved source sink rack input out err err_new bench status nine = record {
   among = rw nine refl;
   replayed = λ zero. absurd (omega (arith, nine, zero));
-  course = λ zero. absurd (omega (arith, nine, zero));
   dropped = λ zero. absurd (omega (arith, nine, zero));
   refused = λ two. absurd (omega (arith, nine, two));
-  refuses = λ tells number reason first no_read no_write. inr (inl nine);
+  refuses = λ tells number reason told first no_read no_write. inr (inl nine);
   read_fault = λ three. absurd (omega (arith, nine, three));
   cut_off = λ three. absurd (omega (arith, nine, three));
   write_fault = λ four. absurd (omega (arith, nine, four));
   disk_fault = λ five. absurd (omega (arith, nine, five));
   disk_when = λ five. absurd (omega (arith, nine, five));
-  broken = λ which tells sink_tells. begins_broken (source.left input) (sink.written out);
+  broken = λ which tells sink_tells. begins_broken (Rose (rack.faults bench) (rack.faults bench)) (source.left input) (sink.written out);
   source_first = λ other. refl;
   sink_first = λ other. refl;
   complete = λ tells schedule is served no_read no_write. inr (inl nine);

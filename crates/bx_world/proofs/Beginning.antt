@@ -17,8 +17,8 @@ use Rattle.bx_world_standing.specs.Standing.{Course}
 use Rattle.bx_history.specs.Account.{AwaitsNewest}
 use Rattle.bx_history.specs.Parts.{waiting}
 use Rattle.bx_history.specs.Trace.{Entry}
-use Rattle.bx_node_calls.specs.Turns.{acting_in}
-use Rattle.bx_node_calls.specs.Waits.{NoneWaits}
+use Rattle.bx_world_machines.specs.bx_node_calls.specs.Turns.{acting_in}
+use Rattle.bx_world_machines.specs.bx_node_calls.specs.Waits.{NoneWaits}
 use Rattle.bx_node_steps.specs.Calls.{Acting, IsThat, WaitsAt, acting_of, call_written, point_in}
 use Rattle.bx_node_steps.specs.declared.machine.Machine.{Machine}
 use Rattle.bx_node_tries.specs.declared.round.Waiting.{Waiting}

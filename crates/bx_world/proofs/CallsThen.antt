@@ -8,7 +8,7 @@ use Rattle.bx_desk.specs.Desks.{AtDesk}
 use Rattle.bx_disk.specs.Disks.{Disks}
 use Rattle.bx_facts.specs.declared.register.Register as register
 use Rattle.bx_facts.specs.declared.store.Store as store
-use Rattle.bx_node_calls.specs.Turns.{Rounded}
+use Rattle.bx_world_machines.specs.bx_node_calls.specs.Turns.{Rounded}
 use Rattle.bx_node_tries.specs.declared.round.Said.{Said}
 use Rattle.bx_facts.specs.declared.owners.Owners as owners
 use Rattle.bx_post.specs.declared.packets.Letter.{Letter}

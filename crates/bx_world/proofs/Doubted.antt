@@ -12,7 +12,7 @@ use Rattle.bx_history.specs.Placed.{HasReadingSince, Repeat, Rules}
 use Rattle.bx_history.specs.Trace.{Entry, FitsNewest, IsIn, Taking, has_point, taking_of}
 use Rattle.bx_history.proofs.OnePart.{lines_with, took_lines}
 use Rattle.bx_history.proofs.Serving.{Served, is_among, served_pointed}
-use Rattle.bx_node_calls.specs.Waits.{AreTold, Waits}
+use Rattle.bx_world_machines.specs.bx_node_calls.specs.Waits.{AreTold, Waits}
 use Rattle.bx_node_steps.specs.Calls.{IsAnswered}
 use Rattle.bx_node_steps.specs.declared.machine.Machine.{Machine}
 use Rattle.bx_node_tries.specs.declared.round.Said.{Said}

@@ -14,11 +14,11 @@ use Rattle.bx_facts.specs.declared.input.FactError.{FactError}
 use Rattle.bx_facts.specs.declared.input.FactError.TheVariants.{Disk, OutOfMemory}
 use Rattle.bx_facts.specs.declared.register.Register as register
 use Rattle.bx_facts.specs.declared.store.Store as store
-use Rattle.bx_node_calls.specs.Turns.{Rounded}
+use Rattle.bx_world_machines.specs.bx_node_calls.specs.Turns.{Rounded}
 use Rattle.bx_node_steps.specs.declared.machine.Machine.{Machine}
 use Rattle.bx_node_tries.specs.declared.round.Said.{Said}
-use Rattle.bx_nodes.proofs.Machines.{if_ok_so}
-use Rattle.bx_nodes.specs.Stopping.{Empties}
+use Rattle.bx_world_machines.specs.bx_nodes.proofs.Machines.{if_ok_so}
+use Rattle.bx_world_machines.specs.bx_nodes.specs.Stopping.{Empties}
 use Rattle.bx_facts.specs.declared.owners.Owners as owners
 use Rattle.bx_post.specs.declared.packets.Letter.{Letter}
 use Rattle.bx_post.specs.Posts.{Posted, fresh}

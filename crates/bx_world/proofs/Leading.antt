@@ -11,13 +11,13 @@ use Rattle.bx_desk.proofs.Going.{desk_opened, desk_stays}
 use Rattle.bx_history.specs.Parts.{Part, trace_since, unanswered, waiting}
 use Rattle.bx_history.specs.Placed.{HasReadingSince}
 use Rattle.bx_history.specs.Trace.{IsIn, kept_answers}
-use Rattle.bx_node_calls.specs.Turns.{acting_at, acting_in}
-use Rattle.bx_node_calls.specs.Waits.{Waits}
+use Rattle.bx_world_machines.specs.bx_node_calls.specs.Turns.{acting_at, acting_in}
+use Rattle.bx_world_machines.specs.bx_node_calls.specs.Waits.{Waits}
 use Rattle.bx_node_steps.specs.Calls.{Acting, CallOf, WaitsAt, under_way}
 use Rattle.bx_node_steps.specs.declared.machine.Machine.{Machine}
-use Rattle.bx_nodes.specs.Stopping.{Empties, HasNothing}
-use Rattle.bx_nodes.proofs.Calling.{none_wait}
-use Rattle.bx_nodes.proofs.Emptied.{emptied}
+use Rattle.bx_world_machines.specs.bx_nodes.specs.Stopping.{Empties, HasNothing}
+use Rattle.bx_world_machines.specs.bx_nodes.proofs.Calling.{none_wait}
+use Rattle.bx_world_machines.specs.bx_nodes.proofs.Emptied.{emptied}
 use Rattle.bx_world.specs.Led.{AreDesks, AreLeft, taking_as}
 use Rattle.bx_world.specs.Outcomes as outcomes
 use Rattle.bx_world.specs.Outcomes.{desks_without}

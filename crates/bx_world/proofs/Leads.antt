@@ -14,9 +14,9 @@ use Rattle.bx_history.specs.Placed.{HasReadingSince, IsAnsweredAtOnce, IsAnswere
 use Rattle.bx_history.specs.Trace.{Entry, IsIn, IsSentBefore, Taking, has_point, has_reply, taken_count}
 use Rattle.bx_history.proofs.OnePart.{IsServed, answered_elsewhere, answered_here, arrived, going, in_list, lines_count, lines_lack, lines_with, part_served, part_with, took_lines, waits_on_now}
 use Rattle.bx_history.proofs.Serving.{Served, entry_by, is_among, served, served_pointed, served_replied}
-use Rattle.bx_node_calls.proofs.Found.{same_or}
-use Rattle.bx_node_calls.specs.Turns.{acting_at}
-use Rattle.bx_node_calls.specs.Waits.{AreNumbered, Waits}
+use Rattle.bx_world_machines.specs.bx_node_calls.proofs.Found.{same_or}
+use Rattle.bx_world_machines.specs.bx_node_calls.specs.Turns.{acting_at}
+use Rattle.bx_world_machines.specs.bx_node_calls.specs.Waits.{AreNumbered, Waits}
 use Rattle.bx_node_steps.specs.Calls.{Acting, AreToOthers, CallOf, IsAnswered, acting_said, call_of}
 use Rattle.bx_node_steps.specs.declared.machine.Machine.{Machine}
 use Rattle.bx_node_tries.specs.Tries.{IsAnswerTo, LeadsBack}

@@ -17,9 +17,9 @@ use Rattle.bx_history.specs.Placed.{Repeat}
 use Rattle.bx_history.specs.Trace.{IsIn, Taking, taken_count}
 use Rattle.bx_history.proofs.OnePart.{awaits_before, going, part_with}
 use Rattle.bx_history.proofs.Serving.{taken_waits}
-use Rattle.bx_node_calls.proofs.Found.{same_or}
-use Rattle.bx_node_calls.specs.Turns.{acting_at}
-use Rattle.bx_node_calls.specs.Waits.{AreNumbered, Waits}
+use Rattle.bx_world_machines.specs.bx_node_calls.proofs.Found.{same_or}
+use Rattle.bx_world_machines.specs.bx_node_calls.specs.Turns.{acting_at}
+use Rattle.bx_world_machines.specs.bx_node_calls.specs.Waits.{AreNumbered, Waits}
 use Rattle.bx_node_steps.specs.Calls.{Acting, CallOf, call_of}
 use Rattle.bx_node_tries.specs.declared.round.Said.{Said}
 use Rattle.bx_node_tries.specs.declared.round.Waiting.{Waiting}

@@ -18,8 +18,8 @@ use Rattle.bx_history.specs.Placed.{Repeat}
 use Rattle.bx_history.specs.Trace.{Taking, taken_count}
 use Rattle.bx_history.proofs.OnePart.{going, lines_lack, part_with, took_lines}
 use Rattle.bx_history.proofs.Serving.{Served, entry_by, is_among}
-use Rattle.bx_node_calls.specs.Turns.{Rounded, acting_at, acting_in}
-use Rattle.bx_node_calls.specs.Waits.{Waits}
+use Rattle.bx_world_machines.specs.bx_node_calls.specs.Turns.{Rounded, acting_at, acting_in}
+use Rattle.bx_world_machines.specs.bx_node_calls.specs.Waits.{Waits}
 use Rattle.bx_node_steps.proofs.Answering.{fits_numbered}
 use Rattle.bx_node_steps.specs.Calls.{Acting, CallOf}
 use Rattle.bx_node_steps.specs.Ready.{WasReady}

@@ -6,9 +6,9 @@ use Rattle.bx_facts.proofs.Lists.{behind, front, front_or_behind}
 use Rattle.bx_facts.specs.declared.register.Register as register
 use Rattle.bx_facts.specs.declared.store.Store as store
 use Rattle.bx_node_steps.specs.Seen.{seen}
-use Rattle.bx_nodes.specs.bx_node_events.proofs.Decided.{lettered}
-use Rattle.bx_nodes.specs.bx_node_events.proofs.Faulted.{lost}
-use Rattle.bx_nodes.specs.bx_node_events.proofs.Registered.{HandedLaws}
+use Rattle.bx_world_machines.specs.bx_nodes.specs.bx_node_events.proofs.Decided.{lettered}
+use Rattle.bx_world_machines.specs.bx_nodes.specs.bx_node_events.proofs.Faulted.{lost}
+use Rattle.bx_world_machines.specs.bx_nodes.specs.bx_node_events.proofs.Registered.{HandedLaws}
 use Rattle.bx_facts.specs.declared.owners.Owners as owners
 use Rattle.bx_post.specs.declared.packets.Letter.{Letter}
 use Rattle.bx_post.specs.declared.packets.Packet.{Packet}

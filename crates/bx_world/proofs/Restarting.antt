@@ -17,7 +17,7 @@ use Rattle.bx_history.specs.Account.{AwaitsNewest}
 use Rattle.bx_history.specs.Along.{ends_one, none_ends}
 use Rattle.bx_history.specs.Parts.{Arrival, Part, waiting}
 use Rattle.bx_history.proofs.OnePart.{some_ended}
-use Rattle.bx_node_calls.specs.Waits.{Waits}
+use Rattle.bx_world_machines.specs.bx_node_calls.specs.Waits.{Waits}
 use Rattle.bx_node_steps.specs.Calls.{CallOf}
 use Rattle.bx_script.specs.declared.trace_line.TraceLine.{TraceLine}
 use Rattle.bx_script.specs.declared.trace_line.TraceLine.TheVariants.{Acted}

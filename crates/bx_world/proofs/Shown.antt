@@ -8,9 +8,9 @@ use Rattle.bx_facts.specs.declared.owners.Owners as owners
 use Rattle.bx_facts.specs.declared.register.Register as register
 use Rattle.bx_facts.specs.declared.store.Store as store
 use Rattle.bx_history.specs.Parts.{Part}
-use Rattle.bx_nodes.specs.Standing.{Stand}
-use Rattle.bx_nodes.specs.bx_node_events.proofs.Registered.{HandedLaws}
-use Rattle.bx_nodes.specs.bx_world_volumes.specs.Left.{MayShow}
+use Rattle.bx_world_machines.specs.bx_nodes.specs.Standing.{Stand}
+use Rattle.bx_world_machines.specs.bx_nodes.specs.bx_node_events.proofs.Registered.{HandedLaws}
+use Rattle.bx_world_machines.specs.bx_nodes.specs.bx_world_volumes.specs.Left.{MayShow}
 use Rattle.bx_post.specs.declared.packets.Letter.{Letter}
 use Rattle.bx_views.specs.declared.engine.Engine as engine
 use Rattle.bx_world.specs.Laws.{shown_from}

@@ -5,9 +5,9 @@ use Rattle.bx_cluster.specs.declared.outcome.Outcome.{Outcome}
 use Rattle.bx_disk.specs.Disks.{Disks}
 use Rattle.bx_facts.specs.declared.register.Register as register
 use Rattle.bx_facts.specs.declared.store.Store as store
-use Rattle.bx_node_calls.specs.Turns.{Rounded}
+use Rattle.bx_world_machines.specs.bx_node_calls.specs.Turns.{Rounded}
 use Rattle.bx_node_tries.specs.declared.round.Said.{Said}
-use Rattle.bx_nodes.specs.Stopping.{Empties}
+use Rattle.bx_world_machines.specs.bx_nodes.specs.Stopping.{Empties}
 use Rattle.bx_facts.specs.declared.owners.Owners as owners
 use Rattle.bx_views.specs.declared.engine.Engine as engine
 use Rattle.bx_world.specs.Outcomes.{IsBy, desks_said, desks_without, outcome_said, stopped_at}

@@ -14,11 +14,11 @@ use Rattle.bx_facts.specs.Writes.{IsOnlyOther, store_room}
 use Rattle.bx_history.specs.Parts.{Part}
 use Rattle.bx_node_machines.specs.Nodes.{known_of}
 use Rattle.bx_node_steps.specs.Seen.{seen as views}
-use Rattle.bx_nodes.specs.bx_node_events.proofs.Registered.{HandedLaws}
-use Rattle.bx_nodes.specs.bx_world_volumes.specs.Left.{MayShow}
-use Rattle.bx_nodes.specs.bx_world_volumes.proofs.Left.{image_has}
-use Rattle.bx_nodes.specs.bx_world_volumes.proofs.Volumes.{shown_after}
-use Rattle.bx_nodes.proofs.Moments.{MomentLaws}
+use Rattle.bx_world_machines.specs.bx_nodes.specs.bx_node_events.proofs.Registered.{HandedLaws}
+use Rattle.bx_world_machines.specs.bx_nodes.specs.bx_world_volumes.specs.Left.{MayShow}
+use Rattle.bx_world_machines.specs.bx_nodes.specs.bx_world_volumes.proofs.Left.{image_has}
+use Rattle.bx_world_machines.specs.bx_nodes.specs.bx_world_volumes.proofs.Volumes.{shown_after}
+use Rattle.bx_world_machines.specs.bx_nodes.proofs.Moments.{MomentLaws}
 use Rattle.bx_views.specs.Truths.{no_hints}
 use Rattle.bx_views.specs.declared.engine.Engine as engine
 use Rattle.bx_world.specs.Led.{Led}

@@ -12,8 +12,8 @@ use Rattle.bx_history.specs.Parts.{Part, trace_of, waiting}
 use Rattle.bx_history.specs.Placed.{HasReadingSince}
 use Rattle.bx_history.specs.Trace as traces
 use Rattle.bx_history.specs.Trace.{IsIn}
-use Rattle.bx_node_calls.specs.Turns.{acting_at}
-use Rattle.bx_node_calls.specs.Waits.{Waits}
+use Rattle.bx_world_machines.specs.bx_node_calls.specs.Turns.{acting_at}
+use Rattle.bx_world_machines.specs.bx_node_calls.specs.Waits.{Waits}
 use Rattle.bx_node_steps.specs.Calls.{Acting, CallOf}
 use Rattle.bx_node_steps.specs.declared.machine.Machine.{Machine}
 use Rattle.bx_facts.specs.declared.owners.Owners as owners

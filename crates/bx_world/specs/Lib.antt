@@ -9,3 +9,6 @@ pub mod Shown
 pub mod Starting
 pub mod Trees
 pub mod World
+pub use Rattle.bx_world_machines
+pub use Rattle.bx_world_machines.specs.bx_node_calls
+pub use Rattle.bx_world_machines.specs.bx_nodes

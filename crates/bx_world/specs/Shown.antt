@@ -8,7 +8,7 @@ use Rattle.bx_facts.specs.declared.store.Store as store
 use Rattle.bx_history.specs.Account.{AwaitsNewest}
 use Rattle.bx_history.specs.Parts.{Part, waiting}
 use Rattle.bx_history.specs.Trace as traces
-use Rattle.bx_nodes.specs.bx_world_volumes.specs.Left.{HasTruth, IsOf}
+use Rattle.bx_world_machines.specs.bx_nodes.specs.bx_world_volumes.specs.Left.{HasTruth, IsOf}
 use Rattle.bx_rows.specs.Words.{row_in}
 use Rattle.bx_rows.specs.declared.session.SessionRow.{SessionRow}
 use Rattle.bx_views.specs.Attempts.{Deed}

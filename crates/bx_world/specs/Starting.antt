@@ -7,8 +7,8 @@ use Rattle.bx_disk.specs.Disks.{Disks}
 use Rattle.bx_facts.specs.declared.owners.Owners as owners
 use Rattle.bx_facts.specs.declared.register.Register as register
 use Rattle.bx_facts.specs.declared.store.Store as store
-use Rattle.bx_nodes.specs.Starting.{MayStart}
-use Rattle.bx_nodes.specs.Stopping.{Empties}
+use Rattle.bx_world_machines.specs.bx_nodes.specs.Starting.{MayStart}
+use Rattle.bx_world_machines.specs.bx_nodes.specs.Stopping.{Empties}
 use Rattle.bx_views.specs.declared.engine.Engine as engine
 use Rattle.bx_world.specs.Going.{Stops}
 use Rattle.bx_world.specs.Outcomes.{nothing}

@@ -2,7 +2,7 @@
 
 ghost use Rattle.std.specs.Prelude.{◌≡◌, ℕ, [], IfOk, List, None};
 ghost use Rattle.bx_disk.specs.Disks.{Disks};
-ghost use Rattle.bx_node_calls.specs.Waits.{NoneWaits};
+ghost use Rattle.bx_world_machines.specs.bx_node_calls.specs.Waits.{NoneWaits};
 ghost use Rattle.bx_world.specs.Led.{Led};
 ghost use Rattle.bx_world.specs.Outcomes.{empty_desks};
 ghost use Rattle.bx_world.specs.World.{IsReady};

@@ -13,4 +13,10 @@ mod stops;
 mod tells;
 mod world;
 
+pub use bx_world_machines::Machines;
 pub use world::World;
+
+/// What the crates above use of `bx_nodes`.
+pub mod all_nodes {
+    pub use bx_world_machines::all_nodes::{Nodes, first_machines, what_nodes_begin_with};
+}

@@ -4,7 +4,7 @@ ghost use Rattle.std.specs.Prelude.{◌≡◌, ◌∷◌, [], ℕ, None, List};
 ghost use Rattle.bx_cluster.specs.Steps.{Shown, part_at};
 ghost use Rattle.bx_disk.specs.Disks.{Disks};
 ghost use Rattle.bx_history.specs.Parts.{Part};
-ghost use Rattle.bx_nodes.specs.Stopping.{Empties};
+ghost use Rattle.bx_world_machines.specs.bx_nodes.specs.Stopping.{Empties};
 ghost use Rattle.bx_world.specs.Led.{Led};
 ghost use Rattle.bx_world.specs.Outcomes.{desks_without, nothing};
 ghost use Rattle.bx_world.specs.World.{IsReady, StandsBehind, StandsBy, seen};

@@ -9,10 +9,10 @@ use Rattle.bx_node_steps.specs.Calls.{ActsOn, IsOpening, IsToAct, IsWritten, May
 use Rattle.bx_node_steps.specs.declared.machine.Machine.{Machine}
 use Rattle.bx_node_tries.specs.declared.round.Said.{Said}
 use Rattle.bx_node_tries.specs.declared.round.Waiting.{Waiting}
-use Rattle.bx_nodes.specs.Calls.{WaitsBehind}
-use Rattle.bx_nodes.specs.Renewing.{Renews}
-use Rattle.bx_nodes.specs.Renewing.Renews.{Anew, Stays}
-use Rattle.bx_nodes.specs.Turns.{OnlyMachine}
+use Rattle.bx_node_calls.specs.bx_nodes.specs.Calls.{WaitsBehind}
+use Rattle.bx_node_calls.specs.bx_nodes.specs.Renewing.{Renews}
+use Rattle.bx_node_calls.specs.bx_nodes.specs.Renewing.Renews.{Anew, Stays}
+use Rattle.bx_node_calls.specs.bx_nodes.specs.Turns.{OnlyMachine}
 use Rattle.bx_world_machines.specs.Acts.{ActThen, MayActAt, OpenStill, OpensAt}
 
 pub acts_same : (old new : List Machine) → new ≡ old → ActThen old new

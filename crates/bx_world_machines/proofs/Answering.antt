@@ -8,7 +8,7 @@ use Rattle.bx_global.specs.declared.state.GlobalState.{GlobalState}
 use Rattle.bx_node_calls.specs.Turns.{IsTurn, acting_at, acting_in}
 use Rattle.bx_node_calls.specs.Waits.{AreNumbered, AreTold, Waits}
 use Rattle.bx_node_calls.proofs.Coming.{Changed, changed_at, numbered_on}
-use Rattle.bx_nodes.proofs.Machines.{of_there, two_there}
+use Rattle.bx_node_calls.specs.bx_nodes.proofs.Machines.{of_there, two_there}
 use Rattle.bx_node_calls.proofs.Found.{and_some, same_or, some_and}
 use Rattle.bx_node_calls.proofs.Ticking.{still_ticked, waits_ticked}
 use Rattle.bx_node_calls.proofs.Turning.{there_then}
@@ -17,11 +17,11 @@ use Rattle.bx_node_steps.specs.Calls.{Acting, ActsAt, Answers, AnswersCalls, Are
 use Rattle.bx_node_steps.specs.Tidying.{Ticks}
 use Rattle.bx_node_steps.specs.declared.machine.Machine.{Machine}
 use Rattle.bx_node_tries.specs.declared.round.Said.{Said}
-use Rattle.bx_nodes.specs.Renewing.{Renews}
-use Rattle.bx_nodes.specs.Renewing.Renews.{Anew, Stays}
-use Rattle.bx_nodes.specs.Standing.{OfBoth, OfNode}
-use Rattle.bx_nodes.specs.Turns.{IsOldOrTold, OnlyMachine}
-use Rattle.bx_nodes.specs.declared.nodes.Nodes.{Nodes}
+use Rattle.bx_node_calls.specs.bx_nodes.specs.Renewing.{Renews}
+use Rattle.bx_node_calls.specs.bx_nodes.specs.Renewing.Renews.{Anew, Stays}
+use Rattle.bx_node_calls.specs.bx_nodes.specs.Standing.{OfBoth, OfNode}
+use Rattle.bx_node_calls.specs.bx_nodes.specs.Turns.{IsOldOrTold, OnlyMachine}
+use Rattle.bx_node_calls.specs.bx_nodes.specs.declared.nodes.Nodes.{Nodes}
 use Rattle.bx_world_standing.specs.bx_volume.specs.Overlay.{Logs}
 use Rattle.bx_world_standing.specs.bx_volume.specs.Records.{Logged}
 use Rattle.bx_world_machines.specs.Acts.{ActThen, MayActAt, OpenStill}

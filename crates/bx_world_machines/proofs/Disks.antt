@@ -17,13 +17,13 @@ use Rattle.bx_facts.specs.Pasts.{RegisterPast}
 use Rattle.bx_facts.specs.Writes.{GoesOn, IsOnlyOther, IsOnlyOtherRow, StorePast, member_disk}
 use Rattle.bx_global.specs.declared.state.GlobalState.{GlobalState}
 use Rattle.bx_node_steps.specs.Seen.{seen}
-use Rattle.bx_nodes.specs.bx_node_events.proofs.Decided as decided
-use Rattle.bx_nodes.specs.bx_node_events.proofs.Decided.{lettered}
-use Rattle.bx_nodes.specs.bx_node_events.proofs.Registered.{HandedLaws}
-use Rattle.bx_nodes.specs.bx_node_events.proofs.Taken.{tighten}
-use Rattle.bx_nodes.specs.bx_node_events.specs.bx_world_stays.proofs.Labels.{crash_labels, labels_keep, same_labels}
-use Rattle.bx_nodes.specs.Standing.{Stand}
-use Rattle.bx_nodes.specs.declared.nodes.Nodes.{Nodes}
+use Rattle.bx_node_calls.specs.bx_nodes.specs.bx_node_events.proofs.Decided as decided
+use Rattle.bx_node_calls.specs.bx_nodes.specs.bx_node_events.proofs.Decided.{lettered}
+use Rattle.bx_node_calls.specs.bx_nodes.specs.bx_node_events.proofs.Registered.{HandedLaws}
+use Rattle.bx_node_calls.specs.bx_nodes.specs.bx_node_events.proofs.Taken.{tighten}
+use Rattle.bx_node_calls.specs.bx_nodes.specs.bx_node_events.specs.bx_world_stays.proofs.Labels.{crash_labels, labels_keep, same_labels}
+use Rattle.bx_node_calls.specs.bx_nodes.specs.Standing.{Stand}
+use Rattle.bx_node_calls.specs.bx_nodes.specs.declared.nodes.Nodes.{Nodes}
 use Rattle.bx_post.specs.declared.packets.Letter.{Letter}
 use Rattle.bx_global.specs.bx_rows.specs.declared.device.DeviceRow.{DeviceRow}
 use Rattle.bx_views.specs.declared.engine.Engine as engine

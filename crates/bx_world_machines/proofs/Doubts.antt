@@ -6,7 +6,7 @@ use Rattle.bx_global.specs.Allowed.{IsAllowed}
 use Rattle.bx_global.specs.bx_rows.specs.Words.{row_in}
 use Rattle.bx_node_calls.proofs.Found.{same_or}
 use Rattle.bx_node_steps.specs.declared.machine.Machine.{Machine}
-use Rattle.bx_nodes.specs.bx_node_events.specs.Works.{KeepsWorks, LeavesWorks}
+use Rattle.bx_node_calls.specs.bx_nodes.specs.bx_node_events.specs.Works.{KeepsWorks, LeavesWorks}
 use Rattle.bx_views.specs.Attempts.{Deed}
 use Rattle.bx_world_machines.specs.Acts.{MayActAt, OpenStill, OpensAt}
 use Rattle.bx_world_machines.specs.Doubts.{AreInDoubt, DoubtsGo, IsOpenIn}

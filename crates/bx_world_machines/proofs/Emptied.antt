@@ -6,8 +6,8 @@ use Rattle.bx_facts.proofs.Lists.{nothing}
 use Rattle.bx_node_steps.specs.Calls.{IsOpening, IsToAct, IsWritten, call_written}
 use Rattle.bx_node_steps.specs.declared.machine.Machine.{Machine}
 use Rattle.bx_node_tries.specs.declared.round.Waiting.{Waiting}
-use Rattle.bx_nodes.specs.Stopping.{Empties, HasNothing}
-use Rattle.bx_nodes.proofs.Emptied.{emptied}
+use Rattle.bx_node_calls.specs.bx_nodes.specs.Stopping.{Empties, HasNothing}
+use Rattle.bx_node_calls.specs.bx_nodes.proofs.Emptied.{emptied}
 use Rattle.bx_world_machines.specs.Acts.{MayActAt, OpenStill, OpensAt}
 use Rattle.bx_world_machines.specs.Doubts.{AreInDoubt}
 use Rattle.bx_world_machines.proofs.Doubts.{WereOpen, in_doubt_kept}

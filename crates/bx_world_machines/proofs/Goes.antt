@@ -24,10 +24,10 @@ use Rattle.bx_node_steps.specs.declared.machine.Stage.{Stage}
 use Rattle.bx_node_steps.specs.declared.machine.Stage.TheVariants as stages
 use Rattle.bx_node_tries.specs.declared.round.Said.{Said}
 use Rattle.bx_node_tries.specs.declared.round.Waiting.{Waiting}
-use Rattle.bx_nodes.specs.Standing.{OfNode, Stand}
-use Rattle.bx_nodes.specs.Turns.{IsOldOrTold, TurnedUnder}
-use Rattle.bx_nodes.specs.declared.nodes.Nodes.{Nodes}
-use Rattle.bx_nodes.proofs.Machines.{of_there, seen_there}
+use Rattle.bx_node_calls.specs.bx_nodes.specs.Standing.{OfNode, Stand}
+use Rattle.bx_node_calls.specs.bx_nodes.specs.Turns.{IsOldOrTold, TurnedUnder}
+use Rattle.bx_node_calls.specs.bx_nodes.specs.declared.nodes.Nodes.{Nodes}
+use Rattle.bx_node_calls.specs.bx_nodes.proofs.Machines.{of_there, seen_there}
 use Rattle.bx_post.specs.declared.packets.Letter.{Letter}
 use Rattle.bx_views.specs.Attempts.{Deed}
 use Rattle.bx_views.specs.declared.engine.Engine as engine

@@ -5,7 +5,7 @@ use Rattle.std.proofs.lemmas.Bool.Decides.{nat_tests}
 use Rattle.bx_facts.specs.Chains.{Chain, GrowsBy, IsPlace, last}
 use Rattle.bx_global.specs.declared.state.GlobalState.{GlobalState}
 use Rattle.bx_global.proofs.Rising.{index_rises}
-use Rattle.bx_nodes.specs.Taking.{Hears}
+use Rattle.bx_node_calls.specs.bx_nodes.specs.Taking.{Hears}
 use Rattle.bx_world_machines.specs.Machines.{greater}
 use Rattle.bx_world_standing.specs.bx_world_chains.proofs.Chains.{index_most}
 use Rattle.bx_world_standing.specs.Standing.{Course}

@@ -7,7 +7,7 @@ use Rattle.bx_facts.specs.declared.store.Store as store
 use Rattle.bx_facts.specs.Writes.{Made}
 use Rattle.bx_node_calls.specs.Turns.{IsTurn}
 use Rattle.bx_node_calls.proofs.Coming.{Changed, apart_then, changed_at}
-use Rattle.bx_nodes.proofs.Machines.{of_there, there_is, was_there}
+use Rattle.bx_node_calls.specs.bx_nodes.proofs.Machines.{of_there, there_is, was_there}
 use Rattle.bx_node_calls.proofs.Found.{same_or}
 use Rattle.bx_node_calls.proofs.Ready.{ready_still}
 use Rattle.bx_node_calls.proofs.Ticking.{apart_ticked}
@@ -16,10 +16,10 @@ use Rattle.bx_node_steps.specs.Calls.{AreApart, KeepsCalls}
 use Rattle.bx_node_steps.specs.Tidying.{Ticks}
 use Rattle.bx_node_steps.specs.declared.machine.Machine.{Machine}
 use Rattle.bx_node_tries.specs.declared.round.Said.{Said}
-use Rattle.bx_nodes.specs.Standing.{BeReady, OfBoth, OfNode}
-use Rattle.bx_nodes.specs.Stopping.{Empties}
-use Rattle.bx_nodes.specs.Turns.{OnlyMachine, OnlyStore}
-use Rattle.bx_nodes.specs.declared.nodes.Nodes.{Nodes}
+use Rattle.bx_node_calls.specs.bx_nodes.specs.Standing.{BeReady, OfBoth, OfNode}
+use Rattle.bx_node_calls.specs.bx_nodes.specs.Stopping.{Empties}
+use Rattle.bx_node_calls.specs.bx_nodes.specs.Turns.{OnlyMachine, OnlyStore}
+use Rattle.bx_node_calls.specs.bx_nodes.specs.declared.nodes.Nodes.{Nodes}
 use Rattle.bx_facts.specs.declared.owners.Owners as owners
 use Rattle.bx_views.specs.declared.engine.Engine as engine
 use Rattle.bx_world_machines.specs.Standing.{AreNodes}

@@ -16,14 +16,14 @@ use Rattle.bx_facts.specs.Writes.{GoesOn, IsOnlyOther, StorePast, member_disk}
 use Rattle.bx_node_machines.specs.Machines.{MachineView}
 use Rattle.bx_node_machines.specs.Nodes.{NodesStand, known_of}
 use Rattle.bx_node_steps.specs.Seen.{seen as views}
-use Rattle.bx_nodes.specs.bx_node_events.proofs.Decided as decided
-use Rattle.bx_nodes.specs.bx_node_events.proofs.Decided.{lettered}
-use Rattle.bx_nodes.specs.bx_node_events.proofs.Faulted.{lost}
-use Rattle.bx_nodes.specs.bx_node_events.proofs.Registered.{HandedLaws, same_lengths, same_member_lengths}
-use Rattle.bx_nodes.specs.bx_node_events.proofs.Taken.{loose, loosen, tighten}
-use Rattle.bx_nodes.specs.bx_world_stays.proofs.Labels.{crash_labels, labels_keep}
-use Rattle.bx_nodes.specs.bx_world_volumes.specs.Left.{MayShow}
-use Rattle.bx_nodes.proofs.Moments.{MomentLaws, has_logs, register_leaves}
+use Rattle.bx_node_calls.specs.bx_nodes.specs.bx_node_events.proofs.Decided as decided
+use Rattle.bx_node_calls.specs.bx_nodes.specs.bx_node_events.proofs.Decided.{lettered}
+use Rattle.bx_node_calls.specs.bx_nodes.specs.bx_node_events.proofs.Faulted.{lost}
+use Rattle.bx_node_calls.specs.bx_nodes.specs.bx_node_events.proofs.Registered.{HandedLaws, same_lengths, same_member_lengths}
+use Rattle.bx_node_calls.specs.bx_nodes.specs.bx_node_events.proofs.Taken.{loose, loosen, tighten}
+use Rattle.bx_node_calls.specs.bx_nodes.specs.bx_world_stays.proofs.Labels.{crash_labels, labels_keep}
+use Rattle.bx_node_calls.specs.bx_nodes.specs.bx_world_volumes.specs.Left.{MayShow}
+use Rattle.bx_node_calls.specs.bx_nodes.proofs.Moments.{MomentLaws, has_logs, register_leaves}
 use Rattle.bx_post.specs.declared.packets.Letter.{Letter}
 use Rattle.bx_views.specs.Attempts.{Deed}
 use Rattle.bx_views.specs.Truths.{Hints, Truth}

@@ -6,12 +6,12 @@ use Rattle.bx_facts.specs.declared.input.Input.{Input}
 use Rattle.bx_facts.specs.declared.register.Register as register
 use Rattle.bx_facts.specs.declared.store.Store as store
 use Rattle.bx_node_steps.specs.Seen.{seen}
-use Rattle.bx_nodes.specs.Standing.{Stand}
-use Rattle.bx_nodes.specs.Taking.{with_reading}
-use Rattle.bx_nodes.specs.declared.nodes.Nodes.{Nodes}
-use Rattle.bx_nodes.specs.bx_node_events.proofs.Faulted.{read_later}
-use Rattle.bx_nodes.specs.bx_node_events.proofs.Registered.{HandedLaws}
-use Rattle.bx_nodes.specs.bx_node_events.proofs.Stopping.{but_for, but_none}
+use Rattle.bx_node_calls.specs.bx_nodes.specs.Standing.{Stand}
+use Rattle.bx_node_calls.specs.bx_nodes.specs.Taking.{with_reading}
+use Rattle.bx_node_calls.specs.bx_nodes.specs.declared.nodes.Nodes.{Nodes}
+use Rattle.bx_node_calls.specs.bx_nodes.specs.bx_node_events.proofs.Faulted.{read_later}
+use Rattle.bx_node_calls.specs.bx_nodes.specs.bx_node_events.proofs.Registered.{HandedLaws}
+use Rattle.bx_node_calls.specs.bx_nodes.specs.bx_node_events.proofs.Stopping.{but_for, but_none}
 use Rattle.bx_facts.specs.declared.owners.Owners as owners
 use Rattle.bx_post.specs.declared.packets.Letter.{Letter}
 use Rattle.bx_views.specs.declared.engine.Engine as engine

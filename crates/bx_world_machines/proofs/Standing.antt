@@ -18,20 +18,20 @@ use Rattle.bx_global.specs.declared.state.GlobalState.{GlobalState}
 use Rattle.bx_node_calls.specs.Turns.{Rounded}
 use Rattle.bx_node_calls.specs.Waits.{AreNumbered, AreTold, Waits}
 use Rattle.bx_node_calls.proofs.Coming.{Changed, apart_then, changed_at, each_called, newest, numbered_on, numbered_with, still_called, told_on, told_with}
-use Rattle.bx_nodes.proofs.Machines.{of_there, two_there}
+use Rattle.bx_node_calls.specs.bx_nodes.proofs.Machines.{of_there, two_there}
 use Rattle.bx_node_steps.specs.Calls.{AreApart, CallOf, WaitsAt}
 use Rattle.bx_node_steps.specs.declared.machine.Machine.{Machine}
 use Rattle.bx_node_tries.specs.declared.round.Said.{Said}
 use Rattle.bx_node_tries.specs.declared.round.Waiting.{Waiting}
-use Rattle.bx_nodes.specs.Calls.{AddsCall, IsNewest, WaitsBehind}
-use Rattle.bx_nodes.specs.Standing.{BeReady, OfBoth, OfNode, Stand}
-use Rattle.bx_nodes.specs.Stopping.{Empties, with_down}
-use Rattle.bx_nodes.specs.Taking.{Hears, with_reading}
-use Rattle.bx_nodes.specs.Turns.{IsOldOrTold, OnlyMachine, Turned, TurnedUnder}
-use Rattle.bx_nodes.specs.bx_node_events.proofs.Works.{keeps_all}
-use Rattle.bx_nodes.specs.declared.nodes.Nodes.{Nodes}
-use Rattle.bx_nodes.proofs.Calling.{none_wait}
-use Rattle.bx_nodes.proofs.Emptied.{emptied}
+use Rattle.bx_node_calls.specs.bx_nodes.specs.Calls.{AddsCall, IsNewest, WaitsBehind}
+use Rattle.bx_node_calls.specs.bx_nodes.specs.Standing.{BeReady, OfBoth, OfNode, Stand}
+use Rattle.bx_node_calls.specs.bx_nodes.specs.Stopping.{Empties, with_down}
+use Rattle.bx_node_calls.specs.bx_nodes.specs.Taking.{Hears, with_reading}
+use Rattle.bx_node_calls.specs.bx_nodes.specs.Turns.{IsOldOrTold, OnlyMachine, Turned, TurnedUnder}
+use Rattle.bx_node_calls.specs.bx_nodes.specs.bx_node_events.proofs.Works.{keeps_all}
+use Rattle.bx_node_calls.specs.bx_nodes.specs.declared.nodes.Nodes.{Nodes}
+use Rattle.bx_node_calls.specs.bx_nodes.proofs.Calling.{none_wait}
+use Rattle.bx_node_calls.specs.bx_nodes.proofs.Emptied.{emptied}
 use Rattle.bx_facts.specs.declared.owners.Owners as owners
 use Rattle.bx_post.specs.declared.packets.Letter.{Letter}
 use Rattle.bx_views.specs.declared.engine.Engine as engine

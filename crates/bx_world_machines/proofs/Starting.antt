@@ -12,9 +12,9 @@ use Rattle.bx_facts.specs.Machines.{put_at}
 use Rattle.bx_facts.proofs.Machines.{is_itself, is_one}
 use Rattle.bx_node_calls.specs.Waits.{AreNumbered, AreTold}
 use Rattle.bx_node_calls.proofs.Coming.{numbered_on, told_on}
-use Rattle.bx_nodes.specs.Standing.{Stand}
-use Rattle.bx_nodes.specs.Starting.{Starts, with_boot, with_try}
-use Rattle.bx_nodes.specs.Stopping.{Empties}
+use Rattle.bx_node_calls.specs.bx_nodes.specs.Standing.{Stand}
+use Rattle.bx_node_calls.specs.bx_nodes.specs.Starting.{Starts, with_boot, with_try}
+use Rattle.bx_node_calls.specs.bx_nodes.specs.Stopping.{Empties}
 use Rattle.bx_post.specs.Machines.{is_same}
 use Rattle.bx_post.specs.declared.packets.Letter.{Letter}
 use Rattle.bx_views.specs.declared.engine.Engine as engine

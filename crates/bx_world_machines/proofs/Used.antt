@@ -4,9 +4,9 @@ use Rattle.std.specs.Prelude.{option_map, slice_get}
 use Rattle.bx_facts.specs.declared.owners.Owners as owners
 use Rattle.bx_node_calls.proofs.Coming.{changed_at}
 use Rattle.bx_node_steps.specs.declared.machine.Machine.{Machine}
-use Rattle.bx_nodes.specs.Standing.{IsUnderOwn, OfBoth}
-use Rattle.bx_nodes.specs.declared.nodes.Nodes.{Nodes}
-use Rattle.bx_nodes.proofs.Machines.{of_there}
+use Rattle.bx_node_calls.specs.bx_nodes.specs.Standing.{IsUnderOwn, OfBoth}
+use Rattle.bx_node_calls.specs.bx_nodes.specs.declared.nodes.Nodes.{Nodes}
+use Rattle.bx_node_calls.specs.bx_nodes.proofs.Machines.{of_there}
 use Rattle.bx_world_machines.specs.Doubts.{IsUsed}
 
 -- A node that did something under a session has it still.

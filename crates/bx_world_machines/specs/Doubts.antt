@@ -8,8 +8,8 @@ use Rattle.bx_node_steps.specs.Calls.{Acting, IsAnswered}
 use Rattle.bx_node_steps.specs.declared.machine.Machine.{Machine}
 use Rattle.bx_node_tries.specs.declared.round.Said.{Said}
 use Rattle.bx_facts.specs.declared.owners.Owners as owners
-use Rattle.bx_nodes.specs.Turns.{IsOldOrTold}
-use Rattle.bx_nodes.specs.declared.nodes.Nodes.{Nodes}
+use Rattle.bx_node_calls.specs.bx_nodes.specs.Turns.{IsOldOrTold}
+use Rattle.bx_node_calls.specs.bx_nodes.specs.declared.nodes.Nodes.{Nodes}
 use Rattle.bx_views.specs.Attempts.{Deed}
 use Rattle.bx_world_machines.specs.Acts.{MayActAt, OpensAt}
 use Rattle.bx_world_standing.specs.Standing.{Course}

@@ -10,8 +10,8 @@ use Rattle.bx_facts.specs.Writes.{store_room}
 use Rattle.bx_node_calls.specs.Waits.{AreNumbered, AreTold, Waits}
 use Rattle.bx_node_steps.specs.Calls.{AreApart, CallOf}
 use Rattle.bx_node_tries.specs.declared.round.Said.{Said}
-use Rattle.bx_nodes.specs.Standing.{BeReady, OfNode, Stand}
-use Rattle.bx_nodes.specs.declared.nodes.Nodes.{Nodes}
+use Rattle.bx_node_calls.specs.bx_nodes.specs.Standing.{BeReady, OfNode, Stand}
+use Rattle.bx_node_calls.specs.bx_nodes.specs.declared.nodes.Nodes.{Nodes}
 use Rattle.bx_facts.specs.declared.owners.Owners as owners
 use Rattle.bx_places.specs.Places.{replica_sectors}
 use Rattle.bx_post.specs.declared.packets.Letter.{Letter}

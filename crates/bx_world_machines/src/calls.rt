@@ -13,7 +13,7 @@ ghost use Rattle.bx_world_standing.specs.Standing.{Course};
 
 use crate::at_once::AtOnce;
 use crate::machines::Machines;
-use crate::wakes::turn;
+use crate::wakes::renew_and_turn;
 use bx_base::OutOfMemory;
 use bx_facts::{Outbox, Owners, Register, Store};
 use bx_node_tries::{Said, Waiting};
@@ -85,7 +85,7 @@ impl<G: Register, O: Owners, S: Store, E: Engine> Machines<G, O, S, E> {
         let number = call.number;
         self.nodes.call(node, call)?;
         self.latest = number;
-        turn(&mut self.nodes, node, reading, out)
+        renew_and_turn(&mut self.nodes, node, reading, out)
     }
 
     /// A node that is up has its turn, at a reading of its clock. Says the answers, in the order in which the calls acted.
@@ -108,6 +108,6 @@ impl<G: Register, O: Owners, S: Store, E: Engine> Machines<G, O, S, E> {
         ensures made { S.made self.new.nodes.store ≡ S.made self.old.nodes.store }
     {
         self.read(reading);
-        turn(&mut self.nodes, node, reading, out)
+        renew_and_turn(&mut self.nodes, node, reading, out)
     }
 }

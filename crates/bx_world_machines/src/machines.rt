@@ -8,7 +8,7 @@ use crate::up::is_among;
 use bx_base::{Actor, CallNo, OutOfMemory};
 use bx_facts::{Owners, Register, Store};
 use bx_global::GlobalState;
-use bx_nodes::Nodes;
+use bx_node_calls::nodes::Nodes;
 use bx_views::Engine;
 use bx_world_events::ClockRule;
 use std::alloc::Global;

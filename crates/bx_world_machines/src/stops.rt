@@ -2,7 +2,7 @@
 
 ghost use Rattle.std.specs.Prelude.{◌≡◌, ℕ, List, []};
 ghost use Rattle.bx_disk.specs.Disks.{Disks};
-ghost use Rattle.bx_nodes.specs.Stopping.{Empties};
+ghost use Rattle.bx_node_calls.specs.bx_nodes.specs.Stopping.{Empties};
 ghost use Rattle.bx_post.specs.declared.packets.Letter.{Letter};
 ghost use Rattle.bx_world_machines.specs.Machines.{up_without};
 ghost use Rattle.bx_world_machines.specs.Standing.{IsReady, StandsBehind, StandsBy};

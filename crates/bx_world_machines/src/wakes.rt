@@ -6,8 +6,8 @@ ghost use Rattle.bx_cluster.specs.Steps.{IsTime};
 ghost use Rattle.bx_disk.specs.Disks.{Disks};
 ghost use Rattle.bx_facts.specs.Inputs.{IsSteady};
 ghost use Rattle.bx_node_calls.specs.Waits.{AreNumbered};
-ghost use Rattle.bx_nodes.specs.Standing.{Stand};
-ghost use Rattle.bx_nodes.specs.Turns.{TurnedUnder};
+ghost use Rattle.bx_node_calls.specs.bx_nodes.specs.Standing.{Stand};
+ghost use Rattle.bx_node_calls.specs.bx_nodes.specs.Turns.{TurnedUnder};
 ghost use Rattle.bx_post.specs.declared.packets.Letter.{Letter};
 ghost use Rattle.bx_world_machines.specs.Answering.{Answered, reading_in};
 ghost use Rattle.bx_world_machines.specs.Doubts.{IsUsed};
@@ -17,8 +17,8 @@ ghost use Rattle.bx_world_standing.specs.Standing.{Course};
 
 use bx_base::OutOfMemory;
 use bx_facts::{Input, Outbox, Owners, Register, Store};
+use bx_node_calls::nodes::Nodes;
 use bx_node_tries::Said;
-use bx_nodes::Nodes;
 use bx_views::Engine;
 use std::alloc::Global;
 
@@ -72,8 +72,30 @@ fn tick<G: Register, O: Owners, S: Store, E: Engine>(
     turn(nodes, node, reading, out)
 }
 
+/// A node has what it has under its own session, and has its turn.
+pub(crate) fn renew_and_turn<G: Register, O: Owners, S: Store, E: Engine>(
+    nodes: &mut Nodes<G, O, S, E>,
+    node: u32,
+    reading: u64,
+    out: &mut Outbox,
+) -> Result<Vec<Said>, OutOfMemory>
+    requires there { node < length nodes.old.machines.items }
+    requires nodes { AreNodes G.Register O.Owners S.Store E.Engine nodes.old }
+    requires time { reading ≤ 4294967295999 }
+    ensures stands { (x : Disks) (letters : List Letter) (clocks : Clocks) (c : Course) (tree : E.Tree) → clocks.down (Node node) ≡ false → clocks.greatest ≤ reading + 500
+        → Stand G.Register O.Owners S.Store E.Engine nodes.old x (letters ++ out.old) clocks c tree
+        → IfOk result (λ said. TurnedUnder (IsUsed O.Owners nodes.new node) (E.step nodes.old.engine) (Stand G.Register O.Owners S.Store E.Engine nodes.new x (letters ++ out.new) clocks) c tree said.items) }
+    ensures answers { (latest : ℕ) → AreNumbered latest nodes.old.machines.items → IfOk result (λ said. Answered (Some reading) (Node node) nodes.old.machines.items nodes.new.machines.items said.items) }
+    ensures nodes { OnOk result (AreNodes G.Register O.Owners S.Store E.Engine nodes.new) }
+    ensures parts { (nodes.new.register ≡ nodes.old.register) × (nodes.new.engine ≡ nodes.old.engine) × (S.made nodes.new.store ≡ S.made nodes.old.store) }
+    ensures count { length nodes.new.machines.items ≡ length nodes.old.machines.items }
+{
+    nodes.renew(node)?;
+    turn(nodes, node, reading, out)
+}
+
 /// A node has its turn.
-pub(crate) fn turn<G: Register, O: Owners, S: Store, E: Engine>(
+fn turn<G: Register, O: Owners, S: Store, E: Engine>(
     nodes: &mut Nodes<G, O, S, E>,
     node: u32,
     reading: u64,

@@ -8,19 +8,19 @@ use Rattle.bx_cluster_parts.specs.Made.{made_by}
 use Rattle.bx_facts.proofs.Lists.{nothing}
 use Rattle.bx_facts.specs.Writes.{store_room}
 use Rattle.bx_format.specs.Formats.{HasSizes}
-use Rattle.bx_node_calls.specs.Waits.{AreTold, NoneWaits}
+use Rattle.bx_closings.specs.bx_world.specs.bx_node_calls.specs.Waits.{AreTold, NoneWaits}
 use Rattle.bx_node_steps.specs.Calls.{AreApart, CallOf, WaitsAt}
 use Rattle.bx_node_steps.specs.declared.machine.Machine.{Machine}
-use Rattle.bx_nodes.specs.Opening.{IsFirst}
-use Rattle.bx_nodes.specs.Stopping.{HasNothing}
-use Rattle.bx_nodes.specs.bx_world_stays.proofs.Begins.{no_logs}
+use Rattle.bx_closings.specs.bx_world.specs.bx_nodes.specs.Opening.{IsFirst}
+use Rattle.bx_closings.specs.bx_world.specs.bx_nodes.specs.Stopping.{HasNothing}
+use Rattle.bx_closings.specs.bx_world.specs.bx_nodes.specs.bx_world_stays.proofs.Begins.{no_logs}
 use Rattle.bx_places.specs.Places.{replica_sectors}
 use Rattle.bx_volume.specs.Records.{Logged}
 use Rattle.bx_world_events.specs.Causes.{IsThere}
 use Rattle.bx_world_events.specs.Refusals.{Seen}
-use Rattle.bx_world_machines.proofs.Beginning.{all_there}
-use Rattle.bx_world_machines.specs.Machines.{first_up, is_up}
-use Rattle.bx_world_machines.specs.Standing.{HasMachine}
+use Rattle.bx_closings.specs.bx_world.specs.bx_world_machines.proofs.Beginning.{all_there}
+use Rattle.bx_closings.specs.bx_world.specs.bx_world_machines.specs.Machines.{first_up, is_up}
+use Rattle.bx_closings.specs.bx_world.specs.bx_world_machines.specs.Standing.{HasMachine}
 
 -- no record
 pub none_logged : Logged

@@ -6,7 +6,7 @@ use Rattle.bx_model.specs.declared.call.Args.{Args}
 use Rattle.bx_model.specs.declared.call.Call.{Call}
 use Rattle.bx_nfs.proofs.Asking.{asked}
 use Rattle.bx_nfs.specs.Asked.{AsksPath, HasOwnArgs, IsAsked, IsNfs}
-use Rattle.bx_service.specs.AtOnce.{IsAtOnce, IsRefused, TouchesNoBlock}
+use Rattle.bx_closings.specs.bx_opens.specs.AtOnce.{IsAtOnce, IsRefused, TouchesNoBlock}
 
 -- a procedure of NFS that takes arguments touches blocks
 touches : (call : Call) (number : ℕ) → IsNfs number call → (number ≡ 0 → ⊥) → (number ≡ 3 → ⊥) → (number ≡ 7 → ⊥) → (IsRefused call → ⊥) → TouchesNoBlock call → ⊥

@@ -11,12 +11,12 @@ ghost use Rattle.bx_disk.specs.Disks.{Disks, Image};
 ghost use Rattle.bx_disk.specs.declared.fault.RackError.TheVariants.{Fault, OutOfMemory as NoMemory};
 ghost use Rattle.bx_format.specs.Formats.{HasSizes};
 ghost use Rattle.bx_global.specs.Opening.{opening_state};
-ghost use Rattle.bx_node_calls.specs.Waits.{NoneWaits};
-ghost use Rattle.bx_nodes.specs.bx_node_openings.specs.Opening.{AreNew};
-ghost use Rattle.bx_nodes.specs.bx_node_openings.specs.Resting.{VolumeRests};
+ghost use Rattle.bx_closings.specs.bx_world.specs.bx_node_calls.specs.Waits.{NoneWaits};
+ghost use Rattle.bx_closings.specs.bx_world.specs.bx_nodes.specs.bx_node_openings.specs.Opening.{AreNew};
+ghost use Rattle.bx_closings.specs.bx_world.specs.bx_nodes.specs.bx_node_openings.specs.Resting.{VolumeRests};
 ghost use Rattle.bx_truth.specs.Opening.{opening_truth};
-ghost use Rattle.bx_world_machines.specs.Machines.{first_up};
-ghost use Rattle.bx_world_machines.specs.Standing as standing;
+ghost use Rattle.bx_closings.specs.bx_world.specs.bx_world_machines.specs.Machines.{first_up};
+ghost use Rattle.bx_closings.specs.bx_world.specs.bx_world_machines.specs.Standing as standing;
 ghost use Rattle.bx_world_standing.specs.Standing.{Course};
 
 use bx_base::OutOfMemory;
@@ -25,14 +25,12 @@ use bx_closings::engine::BoxFs;
 use bx_closings::locks::Locks;
 use bx_closings::opens::Shape;
 use bx_closings::paxos_cluster::Paxos;
-use bx_closings::world::World;
+use bx_closings::world::all_nodes::{Nodes, first_machines, what_nodes_begin_with};
+use bx_closings::world::{Machines, World};
 use bx_cluster_parts::ClusterParts;
 use bx_disk::{Rack, RackError};
 use bx_facts::{Owners, Register, Store};
-use bx_nodes::node_openings::what_nodes_begin_with;
-use bx_nodes::{Nodes, first_machines};
 use bx_views::Engine;
-use bx_world_machines::Machines;
 use std::alloc::Global;
 
 /// The machines of a cluster, which are made of new parts: all are up, in their first boot, and no call came.

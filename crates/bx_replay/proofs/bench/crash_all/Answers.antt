@@ -2,7 +2,7 @@ use Rattle.std.proofs.Common.{ℕ, List, refl, sym, ◌∙◌, ap, arith, length
 use Rattle.bx_disk.specs.Crash.{crashed}
 use Rattle.bx_disk.specs.Disks.{Disks}
 use Rattle.bx_format.proofs.Sure.{all_sure}
-use Rattle.bx_replay.specs.Course.{after_crashes}
+use Rattle.bx_replay.specs.Bench.{after_crashes}
 use Rattle.bx_replay.proofs.Held.{crashed_unsure, image_before, one_crash, one_more, reads_are, stays_sure}
 use Rattle.bx_replay.proofs.bench.crash_all.Goals as goal
 

@@ -1,6 +1,6 @@
 use Rattle.std.proofs.Common.{◌≡◌, ℕ, ◌<◌, ◌≤◌, false, length}
 use Rattle.bx_disk.specs.Disks.{IsImage}
-use Rattle.bx_replay.specs.Course.{after_crashes}
+use Rattle.bx_replay.specs.Bench.{after_crashes}
 use Rattle.bx_replay.proofs.bench.crash_all.Given as goal
 
 abbrev pub invariant-loop-disk : goal.invariant-loop-disk

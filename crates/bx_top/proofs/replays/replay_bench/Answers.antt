@@ -1,6 +1,8 @@
 use Rattle.std.proofs.Common.{Err, ap, arith, rules}
-use Rattle.bx_replay.specs.Bench.{IsShownBy}
-use Rattle.bx_top.proofs.Completes.{among, breaks, completes, five_is, not_replayed, refused_early, refuses, refuses_at}
+use Rattle.bx_base.specs.Faults.{Rose}
+use Rattle.bx_replay.specs.Outcome.{IsShownBy}
+use Rattle.bx_replay.proofs.ByRun.{not_playable}
+use Rattle.bx_top.proofs.Completes.{among, breaks, completes, five_is, refused_early, refuses, refuses_at}
 use Rattle.bx_top.proofs.replays.replay_bench.Goals as goal
 
 pub returns-in-Err-clause-status : goal.returns-in-Err-clause-status
@@ -8,28 +10,28 @@ returns-in-Err-clause-status g c = among c.in-Err.stop c.report.result c.report.
 
 pub returns-in-Err-clause-complete : goal.returns-in-Err-clause-complete
 returns-in-Err-clause-complete g c = λ source_tells schedule is served no_read no_write.
-    completes (g.K.Sink.tells c.args.out.now × g.B.Rack.tells c.args.bench.now) (IsShownBy (g.B.Rack.state c.replay.new.bench)) c.in-Err.stop c.report.result _ _ _ _ schedule _ _ _ _ (g.B.Rack.tells c.args.bench.now) _ _ c.report.ensures.status c.in-Err.ensures.cause no_read no_write
+    completes (Rose (g.B.Rack.faults c.args.bench.now) (g.B.Rack.faults c.replay.new.bench)) (g.K.Sink.tells c.args.out.now × g.B.Rack.tells c.args.bench.now) (IsShownBy (g.B.Rack.state c.replay.new.bench)) c.in-Err.stop c.report.result _ _ _ _ schedule _ _ _ _ (g.B.Rack.tells c.args.bench.now) _ _ c.report.ensures.status c.in-Err.ensures.cause no_read no_write
     (c.in-Err.ensures.leaves source_tells) is served
 
 pub returns-in-Ok-clause-refuses : goal.returns-in-Ok-clause-refuses
-returns-in-Ok-clause-refuses g c = λ source_tells number reason first no_read no_write.
-    absurd (not_replayed _ number reason (c.in-Ok.ensures.leaves source_tells).0 first)
+returns-in-Ok-clause-refuses g c = λ source_tells number reason told first no_read no_write.
+    absurd (not_playable _ _ number reason told first (c.in-Ok.ensures.leaves source_tells).0)
 
 pub returns-in-Err-clause-refuses : goal.returns-in-Err-clause-refuses
-returns-in-Err-clause-refuses g c = λ source_tells number reason first no_read no_write.
+returns-in-Err-clause-refuses g c = λ source_tells number reason told first no_read no_write.
     refuses c.in-Err.stop c.report.result _ _ _ _ (g.B.Rack.tells c.args.bench.now) _ _ _ c.report.ensures.status c.in-Err.ensures.cause no_read no_write
-    (λ is. refused_early (g.S.Source.left c.args.input.now) number reason (c.in-Err.ensures.disk_when (ap Err is) source_tells) first)
+    (λ is. refused_early (Rose (g.B.Rack.faults c.args.bench.now) (g.B.Rack.faults c.replay.new.bench)) (g.S.Source.left c.args.input.now) number reason told (c.in-Err.ensures.disk_when (ap Err is) source_tells) first)
 
 pub returns-in-Err-clause-refused : goal.returns-in-Err-clause-refused
 returns-in-Err-clause-refused g c = λ two.
-    refuses_at (g.S.Source.tells c.args.input.now) (g.K.Sink.tells c.args.out.now × g.B.Rack.tells c.args.bench.now) (g.K.Sink.tells c.args.err.now) (IsShownBy (g.B.Rack.state c.replay.new.bench)) c.in-Err.stop c.report.result
+    refuses_at (Rose (g.B.Rack.faults c.args.bench.now) (g.B.Rack.faults c.replay.new.bench)) (g.S.Source.tells c.args.input.now) (g.K.Sink.tells c.args.out.now × g.B.Rack.tells c.args.bench.now) (g.K.Sink.tells c.args.err.now) (IsShownBy (g.B.Rack.state c.replay.new.bench)) c.in-Err.stop c.report.result
     (g.S.Source.left c.args.input.now) (g.S.Source.left c.replay.new.input) (g.K.Sink.written c.args.out.now) (g.K.Sink.written c.replay.new.out)
     (g.K.Sink.written c.args.err.now) (g.K.Sink.written c.report.new.err) (g.K.Sink.faults c.args.err.now) (g.K.Sink.faults c.report.new.err)
     c.report.ensures.status c.in-Err.ensures.leaves c.report.ensures.told two
 
 pub returns-in-Err-clause-broken : goal.returns-in-Err-clause-broken
 returns-in-Err-clause-broken g c = λ broken source_tells sink_tells.
-    breaks (g.K.Sink.tells c.args.out.now × g.B.Rack.tells c.args.bench.now) (IsShownBy (g.B.Rack.state c.replay.new.bench)) c.in-Err.stop c.report.result
+    breaks (Rose (g.B.Rack.faults c.args.bench.now) (g.B.Rack.faults c.replay.new.bench)) (g.K.Sink.tells c.args.out.now × g.B.Rack.tells c.args.bench.now) (IsShownBy (g.B.Rack.state c.replay.new.bench)) c.in-Err.stop c.report.result
     (g.S.Source.left c.args.input.now) (g.S.Source.left c.replay.new.input) (g.K.Sink.written c.args.out.now) (g.K.Sink.written c.replay.new.out)
     c.report.ensures.status (c.in-Err.ensures.leaves source_tells) broken sink_tells
 

@@ -1,7 +1,7 @@
 use Rattle.std.proofs.Common.{◌≡◌, ⊎_elim, inl, inr, ◌∙◌, false, refl, sym, ap, subst}
-use Rattle.bx_nodes.proofs.Ending.{err_back}
-use Rattle.bx_nodes.proofs.Leading.{under_as, under_none}
-use Rattle.bx_nodes.specs.Taking.{with_reading}
+use Rattle.bx_node_calls.specs.bx_nodes.proofs.Ending.{err_back}
+use Rattle.bx_node_calls.specs.bx_nodes.proofs.Leading.{under_as, under_none}
+use Rattle.bx_node_calls.specs.bx_nodes.specs.Taking.{with_reading}
 use Rattle.bx_world_machines.proofs.Answering.{none_answered, wakes_same}
 use Rattle.bx_world_machines.proofs.Clocks.{steady_then}
 use Rattle.bx_world_machines.proofs.hears.hear.Goals as goal

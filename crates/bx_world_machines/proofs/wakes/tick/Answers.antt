@@ -1,4 +1,4 @@
-use Rattle.bx_nodes.proofs.Machines.{if_ok_so}
+use Rattle.bx_node_calls.specs.bx_nodes.proofs.Machines.{if_ok_so}
 use Rattle.bx_base.specs.declared.names.Actor.TheVariants.{Node}
 use Rattle.bx_node_calls.proofs.Coming.{numbered_on}
 use Rattle.bx_world_machines.proofs.Answering.{answered_behind, wakes_ticked}

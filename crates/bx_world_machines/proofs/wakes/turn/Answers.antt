@@ -2,9 +2,9 @@ use Rattle.std.proofs.Common.{◌++◌}
 use Rattle.bx_facts.specs.Holds.{first_of}
 use Rattle.bx_node_calls.proofs.Found.{if_ok_with, on_ok_with}
 use Rattle.bx_node_calls.proofs.Turning.{turn_of}
-use Rattle.bx_nodes.proofs.Leading.{under_as}
-use Rattle.bx_nodes.proofs.Machines.{both_ok, there_is}
-use Rattle.bx_nodes.specs.Standing.{IsUnderOwn, Stand}
+use Rattle.bx_node_calls.specs.bx_nodes.proofs.Leading.{under_as}
+use Rattle.bx_node_calls.specs.bx_nodes.proofs.Machines.{both_ok, there_is}
+use Rattle.bx_node_calls.specs.bx_nodes.specs.Standing.{IsUnderOwn, Stand}
 use Rattle.bx_world_machines.specs.Doubts.{IsUsed}
 use Rattle.bx_world_machines.proofs.Used.{used_then}
 use Rattle.bx_world_machines.proofs.Answering.{turn_answers}

@@ -2,8 +2,8 @@ use Rattle.std.proofs.Common.{IfOk, sym, subst}
 use Rattle.bx_base.specs.declared.names.Actor.TheVariants.{Node}
 use Rattle.bx_facts.specs.Inputs.{IsSteady}
 use Rattle.bx_node_calls.proofs.Coming.{numbered_on}
-use Rattle.bx_nodes.proofs.Leading.{under_none}
-use Rattle.bx_nodes.proofs.Machines.{if_ok_so}
+use Rattle.bx_node_calls.specs.bx_nodes.proofs.Leading.{under_none}
+use Rattle.bx_node_calls.specs.bx_nodes.proofs.Machines.{if_ok_so}
 use Rattle.bx_world_machines.specs.Answering.{Answered, reading_in}
 use Rattle.bx_world_machines.proofs.Answering.{answered_behind, none_answered, wakes_renewed}
 use Rattle.bx_world_machines.proofs.Nodes.{nodes_renewed}

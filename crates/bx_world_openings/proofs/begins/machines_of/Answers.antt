@@ -4,7 +4,7 @@ use Rattle.bx_closings.specs.bx_opens.specs.Opening.{first_tree}
 use Rattle.bx_facts.specs.Writes.{Made}
 use Rattle.bx_global.specs.Opening.{opening_state}
 use Rattle.bx_node_steps.specs.Seen.{seen}
-use Rattle.bx_nodes.specs.bx_world_stays.proofs.Begins.{opening_course}
+use Rattle.bx_closings.specs.bx_world.specs.bx_nodes.specs.bx_world_stays.proofs.Begins.{opening_course}
 use Rattle.bx_places.specs.Places.{IsVolume}
 use Rattle.bx_truth.specs.Opening.{opening_truth}
 use Rattle.bx_world_openings.proofs.Firsts.{are_apart, has_nothing, member_long, none_logged, none_told, none_wait, replica_long}

@@ -1,6 +1,6 @@
 use Rattle.std.proofs.Common.{◌∙◌, ap, inl}
 use Rattle.bx_calls.specs.Laws.{leaves_implies}
-use Rattle.bx_nodes.proofs.Machines.{if_ok_so}
+use Rattle.bx_world_machines.specs.bx_nodes.proofs.Machines.{if_ok_so}
 use Rattle.bx_world.proofs.Acting.{each_ok}
 use Rattle.bx_world.proofs.cluster.WorldCluster.step.Goals as goal
 

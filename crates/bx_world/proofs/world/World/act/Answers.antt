@@ -1,10 +1,10 @@
 use Rattle.std.proofs.Common.{◌≡◌, None, refl, subst, arith}
 use Rattle.bx_base.specs.declared.names.Actor.TheVariants.{Node}
 use Rattle.bx_cluster.specs.Steps.{IsMoment}
-use Rattle.bx_node_calls.proofs.Found.{on_ok_then, on_ok_two}
-use Rattle.bx_nodes.proofs.Machines.{if_ok_so, ok_so}
-use Rattle.bx_nodes.specs.bx_node_events.proofs.Registered.{HandedLaws}
-use Rattle.bx_nodes.proofs.Moments.{MomentLaws}
+use Rattle.bx_world_machines.specs.bx_node_calls.proofs.Found.{on_ok_then, on_ok_two}
+use Rattle.bx_world_machines.specs.bx_nodes.proofs.Machines.{if_ok_so, ok_so}
+use Rattle.bx_world_machines.specs.bx_nodes.specs.bx_node_events.proofs.Registered.{HandedLaws}
+use Rattle.bx_world_machines.specs.bx_nodes.proofs.Moments.{MomentLaws}
 use Rattle.bx_world.specs.Laws.{all_shown}
 use Rattle.bx_world.specs.World.{seen}
 use Rattle.bx_world.proofs.Acting.{arrives_of, call_goes_on, down_of, led_still, may_start, shows_blank, steady_of, still_leaves, there_of, up_of}

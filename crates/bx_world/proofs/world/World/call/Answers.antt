@@ -3,8 +3,8 @@ use Rattle.std.specs.Prelude.{slice_get}
 use Rattle.std.proofs.lemmas.Option.{slice_get-get_or}
 use Rattle.bx_base.specs.declared.names.Actor.TheVariants.{Node}
 use Rattle.bx_desk.specs.Desks.{AtDesk}
-use Rattle.bx_node_calls.proofs.Found.{if_ok_with}
-use Rattle.bx_nodes.proofs.Machines.{if_ok_so}
+use Rattle.bx_world_machines.specs.bx_node_calls.proofs.Found.{if_ok_with}
+use Rattle.bx_world_machines.specs.bx_nodes.proofs.Machines.{if_ok_so}
 use Rattle.bx_world.proofs.LedCalls.{arrives_led}
 use Rattle.bx_world.specs.Calls.{Hears, Takes}
 use Rattle.bx_world.proofs.world.World.call.Goals as goal

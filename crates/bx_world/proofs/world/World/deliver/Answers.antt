@@ -2,9 +2,9 @@ use Rattle.std.proofs.Common.{◌≡◌, ◌∙◌, ◌≤◌, ◌++◌, Contain
 use Rattle.std.specs.Prelude.{IsSomeAnd, true}
 use Rattle.std.specs.Option.{option_copied}
 use Rattle.std.proofs.lemmas.List.{append-nil}
-use Rattle.bx_node_calls.proofs.Found.{if_ok_with}
-use Rattle.bx_nodes.proofs.Machines.{if_ok_so}
-use Rattle.bx_nodes.specs.bx_node_events.proofs.Registered.{HandedLaws}
+use Rattle.bx_world_machines.specs.bx_node_calls.proofs.Found.{if_ok_with}
+use Rattle.bx_world_machines.specs.bx_nodes.proofs.Machines.{if_ok_so}
+use Rattle.bx_world_machines.specs.bx_nodes.specs.bx_node_events.proofs.Registered.{HandedLaws}
 use Rattle.bx_post.specs.declared.packets.Letter.{Letter}
 use Rattle.bx_post.specs.Posts.{letter_of, packet_from}
 use Rattle.bx_world.specs.Going.{Went}

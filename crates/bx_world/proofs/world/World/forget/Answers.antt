@@ -1,5 +1,5 @@
 use Rattle.std.proofs.Common.{[], refl, sym, ap, subst, filter}
-use Rattle.bx_nodes.specs.bx_node_events.proofs.Registered.{HandedLaws}
+use Rattle.bx_world_machines.specs.bx_nodes.specs.bx_node_events.proofs.Registered.{HandedLaws}
 use Rattle.bx_post.specs.Posts.{is_waiting}
 use Rattle.bx_world.specs.World.{letters_in}
 use Rattle.bx_world.proofs.Doubted.{doubted_same, logged_same, none_in}

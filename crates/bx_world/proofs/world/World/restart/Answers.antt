@@ -2,7 +2,7 @@ use Rattle.std.proofs.Common.{◌≡◌, ◌∙◌, ◌++◌, List, [], Some, in
 use Rattle.std.specs.Prelude.{false, not}
 use Rattle.std.proofs.lemmas.List.{append-nil}
 use Rattle.bx_base.specs.declared.names.Actor.{Actor}
-use Rattle.bx_nodes.specs.bx_node_events.proofs.Registered.{HandedLaws}
+use Rattle.bx_world_machines.specs.bx_nodes.specs.bx_node_events.proofs.Registered.{HandedLaws}
 use Rattle.bx_post.specs.declared.packets.Letter.{Letter}
 use Rattle.bx_world.specs.World.{letters_in}
 use Rattle.bx_world.proofs.Ending.{without_length}

@@ -1,7 +1,7 @@
 use Rattle.std.proofs.Common.{◌≤◌, ◌∙◌, Some, refl, sym, inl, inr, ap}
-use Rattle.bx_node_calls.proofs.Found.{if_ok_with}
-use Rattle.bx_nodes.proofs.Machines.{if_ok_so}
-use Rattle.bx_nodes.specs.bx_node_events.proofs.Registered.{HandedLaws}
+use Rattle.bx_world_machines.specs.bx_node_calls.proofs.Found.{if_ok_with}
+use Rattle.bx_world_machines.specs.bx_nodes.proofs.Machines.{if_ok_so}
+use Rattle.bx_world_machines.specs.bx_nodes.specs.bx_node_events.proofs.Registered.{HandedLaws}
 use Rattle.bx_world.specs.World.{letters_in}
 use Rattle.bx_world_events.specs.declared.event.Event.TheVariants.{Tick}
 use Rattle.bx_world.proofs.LedOn.{are_named, went_led}

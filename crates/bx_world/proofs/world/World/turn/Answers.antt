@@ -1,5 +1,5 @@
 use Rattle.std.proofs.Common.{arith}
-use Rattle.bx_nodes.proofs.Machines.{if_ok_so}
+use Rattle.bx_world_machines.specs.bx_nodes.proofs.Machines.{if_ok_so}
 use Rattle.bx_world.specs.World.{letters_in}
 use Rattle.bx_world.proofs.CallsThen.{ready_turn, turns_then}
 use Rattle.bx_world.proofs.world.World.turn.Goals as goal

@@ -1,6 +1,6 @@
 use Rattle.std.proofs.Common.{◌≡◌, ◌∙◌, true, refl, sym, ap, subst}
 use Rattle.std.specs.Prelude.{not}
-use Rattle.bx_nodes.specs.bx_node_openings.specs.Opening.{opening_clocks}
+use Rattle.bx_node_calls.specs.bx_nodes.specs.bx_node_openings.specs.Opening.{opening_clocks}
 use Rattle.bx_world_machines.specs.Machines.{is_up}
 use Rattle.bx_world_machines.proofs.Doubts.{in_doubt_none}
 use Rattle.bx_world_machines.proofs.Beginning.{all_there, only_there}

@@ -1,8 +1,8 @@
 use Rattle.std.proofs.Common.{ap}
 use Rattle.std.specs.Prelude.{max}
 use Rattle.bx_facts.specs.declared.input.Input.TheVariants.{Tick}
-use Rattle.bx_nodes.specs.Taking.{with_reading}
-use Rattle.bx_nodes.specs.bx_node_events.proofs.Registered.{HandedLaws}
+use Rattle.bx_node_calls.specs.bx_nodes.specs.Taking.{with_reading}
+use Rattle.bx_node_calls.specs.bx_nodes.specs.bx_node_events.proofs.Registered.{HandedLaws}
 use Rattle.bx_world_machines.proofs.Reading.{stands_later}
 use Rattle.bx_world_machines.proofs.machines.Machines.note.Goals as goal
 

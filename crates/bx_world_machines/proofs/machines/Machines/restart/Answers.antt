@@ -1,8 +1,8 @@
 use Rattle.std.proofs.Common.{◌≡◌, ◌∙◌, ◌+◌, ◌<◌, ◌≤◌, ◌++◌, [], refl, rules, sym, ap, subst, arith}
 use Rattle.std.specs.Prelude.{not, true}
 use Rattle.bx_facts.specs.Machines.{IsMachine}
-use Rattle.bx_nodes.specs.Starting.{MayStart}
-use Rattle.bx_nodes.proofs.Ending.{err_back}
+use Rattle.bx_node_calls.specs.bx_nodes.specs.Starting.{MayStart}
+use Rattle.bx_node_calls.specs.bx_nodes.proofs.Ending.{err_back}
 use Rattle.bx_world_machines.specs.Standing.{HasMachine, StandsBehind}
 use Rattle.bx_world_standing.specs.Standing.{Course}
 use Rattle.bx_world_machines.proofs.Nodes.{nodes_emptied}

@@ -1,4 +1,0 @@
-pub mod Doubts
-pub mod Left
-pub mod Parts
-pub use Rattle.bx_plain_openings

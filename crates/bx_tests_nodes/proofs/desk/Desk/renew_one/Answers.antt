@@ -1,0 +1,9 @@
+use Rattle.std.proofs.Common.{ap}
+use Rattle.bx_node_calls.proofs.Found.{on_ok_then}
+use Rattle.bx_tests_nodes.proofs.Nodes.{one_done}
+use Rattle.bx_tests_nodes.proofs.desk.Desk.renew_one.Goals as goal
+
+pub returns-clause-ready : goal.returns-clause-ready
+returns-clause-ready g c =
+    let said = c.renew.ensures in
+    on_ok_then _ _ c.renew.result (one_done g.G.Register g.S.Store g.E.Engine c.args.self.now.nodes c.args.self.now.count c.requires.ready c.args.node c.renew.new.self said.count said.parts.0 said.parts.3 (ap g.S.Store.made said.parts.2) said.others (λ other ne. ap (λ (s : g.row.S.Denot). g.S.Store.asked s other) said.parts.2)) said.ready

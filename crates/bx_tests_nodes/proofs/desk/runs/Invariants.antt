@@ -1,0 +1,6 @@
+use Rattle.std.proofs.Common.{◌≡◌}
+use Rattle.bx_tests_nodes.specs.Desks.{IsReady}
+use Rattle.bx_tests_nodes.proofs.desk.runs.Given as goal
+
+abbrev pub invariant-loop : goal.invariant-loop
+invariant-loop g l = IsReady g.G.Register g.S.Store g.E.Engine l.desk.nodes l.desk.count × (l.desk.count ≡ l.fn.desk.count)

@@ -1,4 +1,3 @@
-use Rattle.std.proofs.Common.{ap}
 use Rattle.bx_node_calls.proofs.Found.{on_ok_then}
 use Rattle.bx_tests_nodes.proofs.Nodes.{one_done}
 use Rattle.bx_tests_nodes.proofs.desk.Desk.turn.Goals as goal

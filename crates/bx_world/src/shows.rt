@@ -1,5 +1,8 @@
 //! What the world shows of itself.
 
+ghost use Rattle.std.specs.Prelude.{◌≡◌};
+ghost use Rattle.bx_facts.specs.Machines.{IsMachine};
+
 use crate::world::World;
 use bx_base::Actor;
 use bx_facts::{Owners, Packet, Register, Store};
@@ -38,5 +41,15 @@ impl<G: Register, O: Owners, S: Store, E: Engine> Shows for World<G, O, S, E> {
 
     fn state(&self) -> &GlobalState {
         self.machines.state()
+    }
+}
+
+impl<G: Register, O: Owners, S: Store, E: Engine> World<G, O, S, E> {
+    /// The state that a machine of the cluster knows, up or down. It takes no memory.
+    pub fn known(&self, who: Actor) -> &GlobalState
+        requires { IsMachine (G.nodes self.now.machines.nodes.register) who }
+        ensures { result.now ≡ G.knows self.now.machines.nodes.register who }
+    {
+        self.machines.known(who)
     }
 }

@@ -2,6 +2,7 @@
 
 ghost use Rattle.std.specs.Prelude.{◌≡◌, not, OnOk};
 ghost use Rattle.bx_facts.specs.Machines.{IsMachine};
+ghost use Rattle.bx_facts.specs.Machines.{IsMachine};
 ghost use Rattle.bx_world_machines.specs.Machines.{greater, is_up};
 
 use crate::up::is_among;
@@ -69,6 +70,14 @@ impl<G: Register, O: Owners, S: Store, E: Engine> Machines<G, O, S, E> {
         ensures { result ≡ S.owes self.now.nodes.store who }
     {
         self.nodes.waiting(who)
+    }
+
+    /// The state that a machine knows.
+    pub fn known(&self, who: Actor) -> &GlobalState
+        requires { IsMachine (G.nodes self.now.nodes.register) who }
+        ensures { result.now ≡ G.knows self.now.nodes.register who }
+    {
+        self.nodes.known(who)
     }
 
     /// The greatest state that a machine has known.

@@ -9,7 +9,7 @@ use Rattle.bx_global.specs.declared.held.Held.{Held}
 use Rattle.bx_global.specs.Bytes.{held_text}
 use Rattle.bx_acceptor.specs.Disks.{Writes}
 use Rattle.bx_acceptor.specs.Saving.{IsSaved}
-use Rattle.bx_acceptor.specs.Standing.{HasCell, IsCellOf, IsStanding, Standing}
+use Rattle.bx_acceptor.specs.Standing.{HasCell, IsCellOf, IsAcceptorView, AcceptorView}
 
 -- ---- where nothing is written
 
@@ -83,11 +83,11 @@ quiet_unless false Changes Same spare quiet none = quiet refl
 at_cell : (T : Type 0) (replica : ℕ) (o : Option Known) (cell : Known) (disks : Disks) (Q : ℕ → Known → Type 0) → o ≡ Some cell → (T → EachSure disks (Holds cell) → Q replica cell) → IfSome o (λ c. T → EachSure disks (λ image. IfSome o (λ k. Holds k image)) → Q replica c)
 at_cell T replica o cell disks Q at did = subst (λ (x : Option Known). IfSome x (λ c. T → EachSure disks (λ image. IfSome x (λ k. Holds k image)) → Q replica c)) (sym at) did
 
-pub with_cell : (T : Type 0) (a b : Standing) (cell : Known) (disks : Disks) (Q : ℕ → Known → Type 0) → a ≡ b → a.cell ≡ Some cell → (T → EachSure disks (Holds cell) → Q a.replica cell) → IfSome b.cell (λ c. T → EachSure disks (HasCell b) → Q b.replica c)
-with_cell T a b cell disks Q same at did = subst (λ (s : Standing). IfSome s.cell (λ c. T → EachSure disks (HasCell s) → Q s.replica c)) same (at_cell T a.replica a.cell cell disks Q at did)
+pub with_cell : (T : Type 0) (a b : AcceptorView) (cell : Known) (disks : Disks) (Q : ℕ → Known → Type 0) → a ≡ b → a.cell ≡ Some cell → (T → EachSure disks (Holds cell) → Q a.replica cell) → IfSome b.cell (λ c. T → EachSure disks (HasCell b) → Q b.replica c)
+with_cell T a b cell disks Q same at did = subst (λ (s : AcceptorView). IfSome s.cell (λ c. T → EachSure disks (HasCell s) → Q s.replica c)) same (at_cell T a.replica a.cell cell disks Q at did)
 
-pub held_by : (R : Type 0) (a b : Standing) (cell : Known) (disks : Disks) → a ≡ b → a.cell ≡ Some cell → (EachSure disks (Holds cell) → R) → EachSure disks (HasCell b) → R
-held_by R a b cell disks same at did = subst (λ (s : Standing). EachSure disks (HasCell s) → R) same (subst (λ (o : Option Known). EachSure disks (λ image. IfSome o (λ k. Holds k image)) → R) (sym at) did)
+pub held_by : (R : Type 0) (a b : AcceptorView) (cell : Known) (disks : Disks) → a ≡ b → a.cell ≡ Some cell → (EachSure disks (Holds cell) → R) → EachSure disks (HasCell b) → R
+held_by R a b cell disks same at did = subst (λ (s : AcceptorView). EachSure disks (HasCell s) → R) same (subst (λ (o : Option Known). EachSure disks (λ image. IfSome o (λ k. Holds k image)) → R) (sym at) did)
 
 stored_at : (Y : Type 0) (o : Option Known) (cell new : Known) (value : List ℕ) → o ≡ Some cell → (new ≡ with_value cell value) ⊎ Y → IfSome o (λ c. (◌≡◌ {A = Option Known} (Some new) (Some (with_value c value))) ⊎ Y)
 stored_at Y o cell new value at did = subst (λ (x : Option Known). IfSome x (λ c. (◌≡◌ {A = Option Known} (Some new) (Some (with_value c value))) ⊎ Y)) (sym at) (by did)
@@ -96,34 +96,34 @@ stored_at Y o cell new value at did = subst (λ (x : Option Known). IfSome x (λ
     by (inl put) = inl (ap (λ (c : Known). Some c) put)
     by (inr kept) = inr kept
 
-same_standing : (a : Standing) (held : Held) (cell : Option Known) → held ≡ a.held → cell ≡ a.cell → record { replica = a.replica; first = a.first; origin = a.origin; held = held; cell = cell } ≡ a
+same_standing : (a : AcceptorView) (held : Held) (cell : Option Known) → held ≡ a.held → cell ≡ a.cell → record { replica = a.replica; first = a.first; origin = a.origin; held = held; cell = cell } ≡ a
 same_standing a held cell p q = rw (p, q) refl
 
-pub stored_so : (a b : Standing) (cell new : Known) (held : Held) (value : List ℕ) (Same : Type 0) → a ≡ b → a.cell ≡ Some cell → (new ≡ with_value cell value) ⊎ ((new ≡ cell) × (held ≡ a.held) × Same)
-    → IfSome b.cell (λ c. (◌≡◌ {A = Option Known} (Some new) (Some (with_value c value))) ⊎ ((◌≡◌ {A = Standing} (record { replica = a.replica; first = a.first; origin = a.origin; held = held; cell = Some new }) b) × Same))
+pub stored_so : (a b : AcceptorView) (cell new : Known) (held : Held) (value : List ℕ) (Same : Type 0) → a ≡ b → a.cell ≡ Some cell → (new ≡ with_value cell value) ⊎ ((new ≡ cell) × (held ≡ a.held) × Same)
+    → IfSome b.cell (λ c. (◌≡◌ {A = Option Known} (Some new) (Some (with_value c value))) ⊎ ((◌≡◌ {A = AcceptorView} (record { replica = a.replica; first = a.first; origin = a.origin; held = held; cell = Some new }) b) × Same))
 stored_so a b cell new held value Same same at did =
-    subst (λ (s : Standing). IfSome s.cell (λ c. (◌≡◌ {A = Option Known} (Some new) (Some (with_value c value))) ⊎ ((◌≡◌ {A = Standing} (record { replica = a.replica; first = a.first; origin = a.origin; held = held; cell = Some new }) s) × Same))) same
-    (stored_at ((◌≡◌ {A = Standing} (record { replica = a.replica; first = a.first; origin = a.origin; held = held; cell = Some new }) a) × Same) a.cell cell new value at (by did))
+    subst (λ (s : AcceptorView). IfSome s.cell (λ c. (◌≡◌ {A = Option Known} (Some new) (Some (with_value c value))) ⊎ ((◌≡◌ {A = AcceptorView} (record { replica = a.replica; first = a.first; origin = a.origin; held = held; cell = Some new }) s) × Same))) same
+    (stored_at ((◌≡◌ {A = AcceptorView} (record { replica = a.replica; first = a.first; origin = a.origin; held = held; cell = Some new }) a) × Same) a.cell cell new value at (by did))
   where
-    by : (new ≡ with_value cell value) ⊎ ((new ≡ cell) × (held ≡ a.held) × Same) → (new ≡ with_value cell value) ⊎ ((◌≡◌ {A = Standing} (record { replica = a.replica; first = a.first; origin = a.origin; held = held; cell = Some new }) a) × Same)
+    by : (new ≡ with_value cell value) ⊎ ((new ≡ cell) × (held ≡ a.held) × Same) → (new ≡ with_value cell value) ⊎ ((◌≡◌ {A = AcceptorView} (record { replica = a.replica; first = a.first; origin = a.origin; held = held; cell = Some new }) a) × Same)
     by (inl put) = inl put
     by (inr (kept, as_held, rest)) = inr (same_standing a held (Some new) as_held (ap (λ (c : Known). Some c) kept ∙ sym at), rest)
 
 -- ---- an acceptor that stays
 
-stored_none : (b : Standing) (Same : Type 0) → Same → (o : Option Known) → IfSome o (λ c. (b.cell ≡ Some (with_value c (held_text b.held))) ⊎ ((b ≡ b) × Same))
+stored_none : (b : AcceptorView) (Same : Type 0) → Same → (o : Option Known) → IfSome o (λ c. (b.cell ≡ Some (with_value c (held_text b.held))) ⊎ ((b ≡ b) × Same))
 stored_none b Same same None = tt
 stored_none b Same same (Some c) = inr (refl, same)
 
-pub stored_before : (b : Standing) (Same : Type 0) → Same → IfSome b.cell (λ c. (b.cell ≡ Some (with_value c (held_text b.held))) ⊎ ((b ≡ b) × Same))
+pub stored_before : (b : AcceptorView) (Same : Type 0) → Same → IfSome b.cell (λ c. (b.cell ≡ Some (with_value c (held_text b.held))) ⊎ ((b ≡ b) × Same))
 stored_before b Same same = stored_none b Same same b.cell
 
-either_of : (T : Type 0) (b : Standing) (disks : Disks) (value : List ℕ) (o : Option Known) → IfSome o (IsCellOf b.replica b.first b.origin b.held)
+either_of : (T : Type 0) (b : AcceptorView) (disks : Disks) (value : List ℕ) (o : Option Known) → IfSome o (IsCellOf b.replica b.first b.origin b.held)
     → IfSome o (λ c. T → EachSure disks (λ image. IfSome o (λ k. Holds k image)) → EachSure disks (HasEither disks b.replica 1 c.found (next c.found value)))
 either_of T b disks value None is = tt
 either_of T b disks value (Some c) is = λ tells each. either_stays disks b.replica c value is.disk is.base each
 
-pub unmoved_either : (T : Type 0) (a b : Standing) (disks : Disks) (value : List ℕ) → a ≡ b → IsStanding a → IfSome b.cell (λ c. T → EachSure disks (HasCell b) → EachSure disks (HasEither disks b.replica 1 c.found (next c.found value)))
+pub unmoved_either : (T : Type 0) (a b : AcceptorView) (disks : Disks) (value : List ℕ) → a ≡ b → IsAcceptorView a → IfSome b.cell (λ c. T → EachSure disks (HasCell b) → EachSure disks (HasEither disks b.replica 1 c.found (next c.found value)))
 unmoved_either T a b disks value same is =
-    let here : IsStanding b = subst IsStanding same is in
+    let here : IsAcceptorView b = subst IsAcceptorView same is in
     either_of T b disks value b.cell here.cell

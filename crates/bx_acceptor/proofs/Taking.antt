@@ -22,7 +22,7 @@ use Rattle.bx_post.specs.declared.packets.Letter.{Letter}
 use Rattle.bx_acceptor.specs.declared.origin.Origin.{Origin}
 use Rattle.bx_acceptor.specs.declared.origin.Origin.TheVariants.{Made, Found as FoundAs, Apart}
 use Rattle.bx_answers.specs.Handling.{Changes, MayBecome, caught_up, first_held}
-use Rattle.bx_acceptor.specs.Standing.{Answers, BecomesBy, Brings, CatchesUp, HasCell, HasContent, IsAsFound, IsCellOf, IsFound, IsNotFound, IsStanding, IsTaken, IsTakenBy, Standing, Takes, TakesPart, cell_with, devices_of}
+use Rattle.bx_acceptor.specs.Standing.{Answers, BecomesBy, Brings, CatchesUp, HasCell, HasContent, IsAsFound, IsCellOf, IsFound, IsNotFound, IsAcceptorView, IsTaken, IsTakenBy, AcceptorView, Takes, TakesPart, cell_with, devices_of}
 use Rattle.bx_acceptor.specs.Starting.{HoldsOf, IsCellAt, StandsSo, StartsWith}
 
 -- ---- what comes
@@ -42,44 +42,44 @@ pub brought_is : (devices others : ℕ) (input : Input) (m : Message) (f : Actor
 brought_is devices others input m f same p = message_is devices input m f (subst (λ (k : ℕ). Brings k input m f) same p)
 
 -- what was done with the message that was found was done with the one that came
-pub answered : (a b : Standing) (others : ℕ) (input : Input) (new : Held) (m n : Message) (f t : Actor) (before after : List Letter)
+pub answered : (a b : AcceptorView) (others : ℕ) (input : Input) (new : Held) (m n : Message) (f t : Actor) (before after : List Letter)
     → a ≡ b → others ≡ devices_of a → Brings others input m f → Brings (devices_of b) input n t
     → Answers a.replica a.held m f new before after → Answers b.replica b.held n t new before after
 answered a b others input new m n f t before after same count p q did =
     let here : Brings (devices_of b) input m f = subst (λ (k : ℕ). Brings k input m f) (count ∙ ap devices_of same) p in
     let one = one_brought (devices_of b) input m n f t here q in
-    subst (λ (s : Standing). Answers s.replica s.held n t new before after) same
+    subst (λ (s : AcceptorView). Answers s.replica s.held n t new before after) same
     (subst (λ (x : Actor). Answers a.replica a.held n x new before after) one.1 (subst (λ (x : Message). Answers a.replica a.held x f new before after) one.0 did))
 
-pub became : (a b : Standing) (others : ℕ) (input : Input) (new : Held) (m n : Message) (f t : Actor)
+pub became : (a b : AcceptorView) (others : ℕ) (input : Input) (new : Held) (m n : Message) (f t : Actor)
     → a ≡ b → others ≡ devices_of a → Brings others input m f → Brings (devices_of b) input n t
     → MayBecome a.held m new → MayBecome b.held n new
 became a b others input new m n f t same count p q did =
     let here : Brings (devices_of b) input m f = subst (λ (k : ℕ). Brings k input m f) (count ∙ ap devices_of same) p in
     let one = one_brought (devices_of b) input m n f t here q in
-    subst (λ (s : Standing). MayBecome s.held n new) same (subst (λ (x : Message). MayBecome a.held x new) one.0 did)
+    subst (λ (s : AcceptorView). MayBecome s.held n new) same (subst (λ (x : Message). MayBecome a.held x new) one.0 did)
 
-pub brought_here : (a b : Standing) (others : ℕ) (input : Input) (m : Message) (f : Actor) → a ≡ b → others ≡ devices_of a → Brings others input m f → Brings (devices_of b) input m f
+pub brought_here : (a b : AcceptorView) (others : ℕ) (input : Input) (m : Message) (f : Actor) → a ≡ b → others ≡ devices_of a → Brings others input m f → Brings (devices_of b) input m f
 brought_here a b others input m f same count p = subst (λ (k : ℕ). Brings k input m f) (count ∙ ap devices_of same) p
 
-pub takes_here : (a b : Standing) (m : Message) → a ≡ b → Takes a m → Takes b m
-takes_here a b m same takes = subst (λ (s : Standing). Takes s m) same takes
+pub takes_here : (a b : AcceptorView) (m : Message) → a ≡ b → Takes a m → Takes b m
+takes_here a b m same takes = subst (λ (s : AcceptorView). Takes s m) same takes
 
-pub took_so : (a b : Standing) (others : ℕ) (input : Input) (held : Held) (m : Message) (f : Actor) (before after : List Letter) (new : Standing) (Same : Type 0) → a ≡ b → others ≡ devices_of a → Brings others input m f → Takes a m
+pub took_so : (a b : AcceptorView) (others : ℕ) (input : Input) (held : Held) (m : Message) (f : Actor) (before after : List Letter) (new : AcceptorView) (Same : Type 0) → a ≡ b → others ≡ devices_of a → Brings others input m f → Takes a m
     → Answers a.replica a.held m f held before after → ((new ≡ b) × (after ≡ before) × Same) ⊎ ((message : Message) × (from : Actor) × Brings (devices_of b) input message from × Takes b message × Answers b.replica b.held message from held before after)
 took_so a b others input held m f before after new Same same count p takes did =
-    inr (m, f, brought_here a b others input m f same count p, takes_here a b m same takes, subst (λ (s : Standing). Answers s.replica s.held m f held before after) same did)
+    inr (m, f, brought_here a b others input m f same count p, takes_here a b m same takes, subst (λ (s : AcceptorView). Answers s.replica s.held m f held before after) same did)
 
-pub became_so : (a b : Standing) (others : ℕ) (input : Input) (held : Held) (m : Message) (f : Actor) → a ≡ b → others ≡ devices_of a → Brings others input m f → MayBecome a.held m held → BecomesBy b input held
-became_so a b others input held m f same count p did = inr (m, f, brought_here a b others input m f same count p, subst (λ (s : Standing). MayBecome s.held m held) same did)
+pub became_so : (a b : AcceptorView) (others : ℕ) (input : Input) (held : Held) (m : Message) (f : Actor) → a ≡ b → others ≡ devices_of a → Brings others input m f → MayBecome a.held m held → BecomesBy b input held
+became_so a b others input held m f same count p did = inr (m, f, brought_here a b others input m f same count p, subst (λ (s : AcceptorView). MayBecome s.held m held) same did)
 
-pub changes_not : (a b : Standing) (others : ℕ) (input : Input) (m n : Message) (f t : Actor)
+pub changes_not : (a b : AcceptorView) (others : ℕ) (input : Input) (m n : Message) (f t : Actor)
     → a ≡ b → others ≡ devices_of a → Brings others input m f → Brings (devices_of b) input n t
     → (Changes b.held n → ⊥) → Changes a.held m → ⊥
 changes_not a b others input m n f t same count p q spare changes =
     let here : Brings (devices_of b) input m f = subst (λ (k : ℕ). Brings k input m f) (count ∙ ap devices_of same) p in
     let one = one_brought (devices_of b) input m n f t here q in
-    spare (subst (λ (s : Standing). Changes s.held n) same (subst (λ (x : Message). Changes a.held x) one.0 changes))
+    spare (subst (λ (s : AcceptorView). Changes s.held n) same (subst (λ (x : Message). Changes a.held x) one.0 changes))
 
 -- where a message that is taken changes what is held, a number is left for the cell
 pub changed_rises : (held : Held) (m : Message) (number : ℕ) → IsTaken number m → Changes held m → number + 1 < 2 ^ 64
@@ -101,8 +101,8 @@ untaken (Some c) m none taken = none_is_some c (sym none)
 
 -- ---- how it stands
 
-pub stands_with : (a : Standing) (held : Held) (cell : Option Known) → IsStanding a → IsHeld (devices_of a) held → IfSome cell (IsCellOf a.replica a.first a.origin held)
-    → IsStanding (record { replica = a.replica; first = a.first; origin = a.origin; held = held; cell = cell })
+pub stands_with : (a : AcceptorView) (held : Held) (cell : Option Known) → IsAcceptorView a → IsHeld (devices_of a) held → IfSome cell (IsCellOf a.replica a.first a.origin held)
+    → IsAcceptorView (record { replica = a.replica; first = a.first; origin = a.origin; held = held; cell = cell })
 stands_with a held cell is as_held as_cell = record { first = is.first; index = is.index; held = as_held; cell = as_cell }
 
 -- what is put counts as it stands: its number is above the one that was found
@@ -176,11 +176,11 @@ unmoved_at T replica first origin held (Some c) disks moment since value is only
   keeps = λ t image at_most left. left;
 }
 
-pub unmoved : (T : Type 0) (a b : Standing) (disks : Disks) (moment : ℕ) (since : ℕ → Image → Type 0) (value : List ℕ) → a ≡ b → IsStanding a
+pub unmoved : (T : Type 0) (a b : AcceptorView) (disks : Disks) (moment : ℕ) (since : ℕ → Image → Type 0) (value : List ℕ) → a ≡ b → IsAcceptorView a
     → (T → (image : Image) → since moment image → IsImage disks image)
     → IfSome b.cell (λ c. T → EachSure disks (HasCell b) → LeavesOnly moment moment since since (HasEither disks b.replica 1 c.found (next c.found value)))
 unmoved T a b disks moment since value same is only =
-    let here : IsStanding b = subst IsStanding same is in
+    let here : IsAcceptorView b = subst IsAcceptorView same is in
     unmoved_at T b.replica b.first b.origin b.held b.cell disks moment since value here.cell only
 
 -- ---- what is found

@@ -21,14 +21,14 @@ use Rattle.bx_answers.specs.Replies.{letters_of}
 
 -- An acceptor: the number of its replica, which is that of its disk; the first state; how its cell came to be; what it holds; and its
 -- cell, where it has one.
-pub record Standing : Type 0 where
+pub record AcceptorView : Type 0 where
   pub replica : ℕ
   pub first : GlobalState
   pub origin : Origin
   pub held : Held
   pub cell : Option Known
 
-abbrev pub devices_of : Standing → ℕ
+abbrev pub devices_of : AcceptorView → ℕ
 devices_of a = length a.first.devices
 
 -- The cell stands as it was found: under that number.
@@ -63,7 +63,7 @@ pub record IsCellOf (replica : ℕ) (first : GlobalState) (origin : Origin) (hel
   pub content : HasContent origin first held cell.found
 
 -- what holds of each acceptor
-pub record IsStanding (a : Standing) : Type 0 where
+pub record IsAcceptorView (a : AcceptorView) : Type 0 where
   pub first : IsAllowed a.first
   pub index : a.first.index + 1 < 2 ^ 64
   pub held : IsHeld (devices_of a) a.held
@@ -91,7 +91,7 @@ abbrev pub IsTakenBy : Option Known → Message → Type 0
 IsTakenBy cell message = IsSomeAnd cell (λ c. IsTaken c.found.number message)
 
 -- the acceptor takes the message
-abbrev pub Takes : Standing → Message → Type 0
+abbrev pub Takes : AcceptorView → Message → Type 0
 Takes a message = IsTakenBy a.cell message
 
 -- A message is taken, and its answer put into the box.
@@ -99,25 +99,25 @@ abbrev pub Answers : ℕ → Held → Message → Actor → Held → List Letter
 Answers replica held message from new before after = (answer : Option Message) × Handles held message new answer × (after ≡ before ++ letters_of replica from answer)
 
 -- What comes is passed over, and nothing changes; or it brings a message that is taken and answered.
-abbrev pub TakesIn : Standing → Input → Standing → List Letter → List Letter → Type 0 → Type 0
+abbrev pub TakesIn : AcceptorView → Input → AcceptorView → List Letter → List Letter → Type 0 → Type 0
 TakesIn a input new before after Same =
     ((new ≡ a) × (after ≡ before) × Same)
     ⊎ ((message : Message) × (from : Actor) × Brings (devices_of a) input message from × Takes a message × Answers a.replica a.held message from new.held before after)
 
 -- What is held stays, or it is what a message that came makes of it.
-abbrev pub BecomesBy : Standing → Input → Held → Type 0
+abbrev pub BecomesBy : AcceptorView → Input → Held → Type 0
 BecomesBy a input new = (new ≡ a.held) ⊎ ((message : Message) × (from : Actor) × Brings (devices_of a) input message from × MayBecome a.held message new)
 
 -- the image has what the cell holds
-abbrev pub HasCell : Standing → Image → Type 0
+abbrev pub HasCell : AcceptorView → Image → Type 0
 HasCell a image = IfSome a.cell (λ cell. Holds cell image)
 
 -- the acceptor without a cell, until it starts again
-abbrev pub stopped : Standing → Standing
+abbrev pub stopped : AcceptorView → AcceptorView
 stopped a = record a { cell = None }
 
 -- .. and one that never had a cell that can be read: it knows the first state
-abbrev pub without_cell : ℕ → GlobalState → Origin → Standing
+abbrev pub without_cell : ℕ → GlobalState → Origin → AcceptorView
 without_cell replica s origin = record { replica = replica; first = s; origin = origin; held = first_held s; cell = None }
 
 -- the cell of a replica that may be put, and has this

@@ -15,7 +15,7 @@ ghost use Rattle.bx_packets.specs.declared.message.Message.{Message};
 ghost use Rattle.bx_places.specs.Places.{replica_sectors};
 ghost use Rattle.bx_acceptor.specs.Disks.{Syncs, Writes};
 ghost use Rattle.bx_answers.specs.Handling.{Changes, MayBecome};
-ghost use Rattle.bx_acceptor.specs.Standing.{Answers, BecomesBy, Brings, HasCell, IsStanding, Takes, TakesIn, devices_of, stopped, without_cell};
+ghost use Rattle.bx_acceptor.specs.Standing.{Answers, BecomesBy, Brings, HasCell, IsAcceptorView, Takes, TakesIn, devices_of, stopped, without_cell};
 ghost use Rattle.bx_acceptor.specs.Starting.{StartsWith};
 
 use crate::hearing::heard;
@@ -46,13 +46,13 @@ pub struct Acceptor {
 }
 
 impl Model for Acceptor {
-    ghost use Rattle.bx_acceptor.specs.Standing.{IsStanding, Standing};
+    ghost use Rattle.bx_acceptor.specs.Standing.{IsAcceptorView, AcceptorView};
 
-    ghost Value = { Standing };
+    ghost Value = { AcceptorView };
 
     ghost view = { λ a. record { replica = a.replica; first = a.first; origin = a.origin; held = a.held; cell = a.cell } };
 
-    ghost invariant = { λ a. IsStanding (record { replica = a.replica; first = a.first; origin = a.origin; held = a.held; cell = a.cell }) };
+    ghost invariant = { λ a. IsAcceptorView (record { replica = a.replica; first = a.first; origin = a.origin; held = a.held; cell = a.cell }) };
 }
 
 impl Acceptor {
@@ -98,7 +98,7 @@ impl Acceptor {
         ensures starts { R.tells rack.old → OnOk result (StartsWith self.old.replica self.old.first self.old.origin ((R.state rack.old).reads self.old.replica) self.new.held self.new.cell) }
         ensures failed { OnErr result (self.new ≡ stopped self.old) }
         ensures stays { (self.new.replica ≡ self.old.replica) × (self.new.first ≡ self.old.first) × (self.new.origin ≡ self.old.origin) }
-        ensures standing { IsStanding self.new }
+        ensures standing { IsAcceptorView self.new }
         ensures holds { R.tells rack.old → OnOk result (EachSure (R.state rack.new) (HasCell self.new)) }
         ensures sure { R.tells rack.old → OnOk result (IsSynced (R.state rack.new) self.old.replica) }
         ensures disks { R.tells rack.old → Syncs (R.state rack.old) (R.state rack.new) (R.moment rack.old) (R.moment rack.new) (R.left_since rack.old) (R.left_since rack.new) self.old.replica }
@@ -133,7 +133,7 @@ impl Acceptor {
         ensures fault { IsErrOf result DiskFails → self.new.cell ≡ None }
         ensures failed { OnErr result ((self.new ≡ self.old) ⊎ (self.new.cell ≡ None)) }
         ensures stays { (self.new.replica ≡ self.old.replica) × (self.new.first ≡ self.old.first) × (self.new.origin ≡ self.old.origin) }
-        ensures standing { IsStanding self.new }
+        ensures standing { IsAcceptorView self.new }
         ensures holds { R.tells rack.old → EachSure (R.state rack.old) (HasCell self.old) → OnOk result (EachSure (R.state rack.new) (HasCell self.new)) }
         ensures any_moment { IfSome self.old.cell (λ cell. R.tells rack.old → EachSure (R.state rack.old) (HasCell self.old)
             → LeavesOnly (R.moment rack.old) (R.moment rack.new) (R.left_since rack.old) (R.left_since rack.new) (HasEither (R.state rack.old) self.old.replica 1 cell.found (next cell.found (held_text self.new.held)))) }

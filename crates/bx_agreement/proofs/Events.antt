@@ -13,7 +13,7 @@ use Rattle.bx_packets.specs.declared.message.Message.{Message}
 use Rattle.bx_packets.specs.declared.message.Message.TheVariants.{Ask, Decided, Prepare, Promise as Promising, Accept, Accepted, Refused}
 use Rattle.bx_answers.specs.Handling.{Handles}
 use Rattle.bx_agreement.specs.Passing.{MayCome, answered, promised_by}
-use Rattle.bx_agreement.specs.Events.{Decides, Is, Machine, Stands, Turns}
+use Rattle.bx_agreement.specs.Events.{Decides, Is, Machine, HistoryStands, Turns}
 use Rattle.bx_agreement.specs.Round.{Round, IsRound, IsProposer, IsLater, Counts, prepared, sending}
 use Rattle.bx_agreement.proofs.Sent.{promised_more, voted_more}
 use Rattle.bx_agreement.proofs.Decide.{decides, grows, handed, contains_more}
@@ -58,8 +58,8 @@ later_answer h n (Some (Refused i b)) = later_same h
 
 -- ---- a packet at a replica
 
-pub at_replica : (h : History) (old cells : ℕ → Option Held) (machines : ℕ → Machine) (n : ℕ) (held new : Held) (message : Message) (answer : Option Message) → Stands h old machines → n < 3 → old n ≡ Some held
-    → Puts n new old cells → MayCome h message → Handles held message new answer → Stands (answered n answer h) cells machines
+pub at_replica : (h : History) (old cells : ℕ → Option Held) (machines : ℕ → Machine) (n : ℕ) (held new : Held) (message : Message) (answer : Option Message) → HistoryStands h old machines → n < 3 → old n ≡ Some held
+    → Puts n new old cells → MayCome h message → Handles held message new answer → HistoryStands (answered n answer h) cells machines
 at_replica h old cells machines n held new message answer stands three at puts may does = record {
   sound = handles h old cells n held new message answer stands.sound three at puts may does;
   each = λ me. goes_on h (answered n answer h) me (machines me).boot (machines me).seen (machines me).known (machines me).out (stands.each me) (later_answer h n answer);
@@ -67,10 +67,10 @@ at_replica h old cells machines n held new message answer stands three at puts m
 
 -- ---- a second promise at a proposer: it sends its accept
 
-pub at_second_promise : (h : History) (cells : ℕ → Option Held) (old new : ℕ → Machine) (me : ℕ) (round : Round) (p q : Promised) (s : GlobalState) (change : Change) → ComesBy h.chain h.proposed change s → Stands h cells old → (old me).out ≡ Some round
+pub at_second_promise : (h : History) (cells : ℕ → Option Held) (old new : ℕ → Machine) (me : ℕ) (round : Round) (p q : Promised) (s : GlobalState) (change : Change) → ComesBy h.chain h.proposed change s → HistoryStands h cells old → (old me).out ≡ Some round
     → round.sent ≡ None → round.promise ≡ Some p → Counts h round q → p.replica ≢ q.replica → Picks p q round.own s
     → Turns me (record { boot = (old me).boot; seen = (old me).seen; known = (old me).known; out = Some (sending s round) }) old new
-    → Stands (with_proposal round.ballot s change h) cells new
+    → HistoryStands (with_proposal round.ballot s change h) cells new
 at_second_promise h cells old new me round p q s change by stands out none first counts differ picks turns = record {
   sound = sends_proposal h cells stands.sound round.ballot round.own s change p q (may_send h me (old me).boot (old me).seen round p q s change by it none first counts differ picks);
   each = turned (with_proposal round.ballot s change h) old new me (record { boot = (old me).boot; seen = (old me).seen; known = (old me).known; out = Some (sending s round) }) turns
@@ -83,7 +83,7 @@ at_second_promise h cells old new me round p q s change by stands out none first
 
 -- ---- a state was chosen: the chain grows by it, or has it
 
-pub at_choice : (h : History) (cells : ℕ → Option Held) (machines : ℕ → Machine) (s : GlobalState) (change : Change) → Stands h cells machines → IsChosen h.proposals h.votes s → ComesBy h.chain h.proposed change s
+pub at_choice : (h : History) (cells : ℕ → Option Held) (machines : ℕ → Machine) (s : GlobalState) (change : Change) → HistoryStands h cells machines → IsChosen h.proposals h.votes s → ComesBy h.chain h.proposed change s
     → Decides h h cells machines s ⊎ Decides h (with_state change h) cells machines s
 at_choice h cells machines s change stands chosen by =
     elim (decides h cells s change stands.sound chosen by) [
@@ -101,7 +101,7 @@ at_choice h cells machines s change stands chosen by =
 
 -- ---- a change is handed in
 
-pub at_change : (h : History) (cells : ℕ → Option Held) (machines : ℕ → Machine) (change : Change) → Stands h cells machines → Stands (with_change change h) cells machines
+pub at_change : (h : History) (cells : ℕ → Option Held) (machines : ℕ → Machine) (change : Change) → HistoryStands h cells machines → HistoryStands (with_change change h) cells machines
 at_change h cells machines change stands = record {
   sound = handed h cells change stands.sound;
   each = λ me. goes_on h (with_change change h) me (machines me).boot (machines me).seen (machines me).known (machines me).out (stands.each me) (later_change h change);
@@ -109,24 +109,24 @@ at_change h cells machines change stands = record {
 
 -- ---- a proposer alone: it prepares, learns a state, or starts again
 
-pub at_prepare : (h : History) (cells : ℕ → Option Held) (old new : ℕ → Machine) (me : ℕ) (own : GlobalState) → Stands h cells old → ComesNext h.chain h.proposed own
-    → Turns me (record { boot = (old me).boot; seen = (old me).seen + 1; known = (old me).known; out = Some (prepared me (old me).boot (old me).seen own) }) old new → Stands h cells new
+pub at_prepare : (h : History) (cells : ℕ → Option Held) (old new : ℕ → Machine) (me : ℕ) (own : GlobalState) → HistoryStands h cells old → ComesNext h.chain h.proposed own
+    → Turns me (record { boot = (old me).boot; seen = (old me).seen + 1; known = (old me).known; out = Some (prepared me (old me).boot (old me).seen own) }) old new → HistoryStands h cells new
 at_prepare h cells old new me own stands next turns = record {
   sound = stands.sound;
   each = turned h old new me (record { boot = (old me).boot; seen = (old me).seen + 1; known = (old me).known; out = Some (prepared me (old me).boot (old me).seen own) }) turns
       (prepares h me (old me).boot (old me).seen (old me).known own (old me).out (stands.each me) next) (λ m apart. stands.each m);
 }
 
-pub at_learning : (h : History) (cells : ℕ → Option Held) (old new : ℕ → Machine) (me : ℕ) (s : GlobalState) → Stands h cells old → IsPlace h.chain s
-    → Turns me (record { boot = (old me).boot; seen = (old me).seen; known = s; out = None }) old new → Stands h cells new
+pub at_learning : (h : History) (cells : ℕ → Option Held) (old new : ℕ → Machine) (me : ℕ) (s : GlobalState) → HistoryStands h cells old → IsPlace h.chain s
+    → Turns me (record { boot = (old me).boot; seen = (old me).seen; known = s; out = None }) old new → HistoryStands h cells new
 at_learning h cells old new me s stands place turns = record {
   sound = stands.sound;
   each = turned h old new me (record { boot = (old me).boot; seen = (old me).seen; known = s; out = None }) turns
       (record { place = place; before = (stands.each me).before; round = λ r e. absurd cc }) (λ m apart. stands.each m);
 }
 
-pub at_restart : (h : History) (cells : ℕ → Option Held) (old new : ℕ → Machine) (me later : ℕ) (first : GlobalState) → Stands h cells old → (old me).boot < later → IsPlace h.chain first
-    → Turns me (record { boot = later; seen = 0; known = first; out = None }) old new → Stands h cells new
+pub at_restart : (h : History) (cells : ℕ → Option Held) (old new : ℕ → Machine) (me later : ℕ) (first : GlobalState) → HistoryStands h cells old → (old me).boot < later → IsPlace h.chain first
+    → Turns me (record { boot = later; seen = 0; known = first; out = None }) old new → HistoryStands h cells new
 at_restart h cells old new me later first stands above place turns = record {
   sound = stands.sound;
   each = turned h old new me (record { boot = later; seen = 0; known = first; out = None }) turns

@@ -14,7 +14,7 @@ pub record Machine : Type 0 where
   pub known : GlobalState
   pub out : Option Round
 
-pub record Stands (h : History) (cells : ℕ → Option Held) (machines : ℕ → Machine) : Type 0 where
+pub record HistoryStands (h : History) (cells : ℕ → Option Held) (machines : ℕ → Machine) : Type 0 where
   pub sound : IsSound h cells
   pub each : (me : ℕ) → IsProposer h me (machines me).boot (machines me).seen (machines me).known (machines me).out
 
@@ -28,7 +28,7 @@ Is h me x = IsProposer h me x.boot x.seen x.known x.out
 
 -- A state is known: the chain has it, as it was or grown by one change, which makes it.
 pub record Decides (h new : History) (cells : ℕ → Option Held) (machines : ℕ → Machine) (s : GlobalState) : Type 0 where
-  pub stands : Stands new cells machines
+  pub stands : HistoryStands new cells machines
   pub place : IsPlace new.chain s
   pub grows : GrowsBy h.proposed h.chain new.chain
   pub told : (new.chain ≡ h.chain) ⊎ (s ≡ last new.chain)

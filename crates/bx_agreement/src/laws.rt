@@ -8,7 +8,7 @@ ghost use Rattle.bx_global.specs.declared.held.Held.{Held};
 ghost use Rattle.bx_global.specs.declared.state.GlobalState.{GlobalState};
 ghost use Rattle.bx_packets.specs.declared.message.Message.{Message};
 ghost use Rattle.bx_agreement.specs.Cells.{CatchUp, KnowsFirst, opening};
-ghost use Rattle.bx_agreement.specs.Events.{Decides, Machine, Stands, Turns};
+ghost use Rattle.bx_agreement.specs.Events.{Decides, Machine, HistoryStands, Turns};
 ghost use Rattle.bx_agreement.specs.History.{ComesBy, ComesNext, History, IsChosen, Promised};
 ghost use Rattle.bx_agreement.specs.Passing.{MayCome, answered};
 ghost use Rattle.bx_agreement.specs.Round.{Counts, Round, prepared, sending};
@@ -47,42 +47,42 @@ pub fn a_replica_is_put()
 
 /// A replica takes a message, and has answered.
 pub fn a_replica_answers()
-    ensures { (h : History) (old cells : ℕ → Option Held) (machines : ℕ → Machine) (n : ℕ) (held new : Held) (message : Message) (answer : Option Message) → Stands h old machines → n < 3 → old n ≡ Some held
-        → Puts n new old cells → MayCome h message → Handles held message new answer → Stands (answered n answer h) cells machines }
+    ensures { (h : History) (old cells : ℕ → Option Held) (machines : ℕ → Machine) (n : ℕ) (held new : Held) (message : Message) (answer : Option Message) → HistoryStands h old machines → n < 3 → old n ≡ Some held
+        → Puts n new old cells → MayCome h message → Handles held message new answer → HistoryStands (answered n answer h) cells machines }
 {}
 
 /// A proposer that has a promise of another replica too sends its accept.
 pub fn a_proposer_sends()
-    ensures { (h : History) (cells : ℕ → Option Held) (old new : ℕ → Machine) (me : ℕ) (round : Round) (p q : Promised) (s : GlobalState) (change : Change) → ComesBy h.chain h.proposed change s → Stands h cells old
+    ensures { (h : History) (cells : ℕ → Option Held) (old new : ℕ → Machine) (me : ℕ) (round : Round) (p q : Promised) (s : GlobalState) (change : Change) → ComesBy h.chain h.proposed change s → HistoryStands h cells old
         → (old me).out ≡ Some round → round.sent ≡ None → round.promise ≡ Some p → Counts h round q → p.replica ≢ q.replica → Picks p q round.own s
-        → Turns me (record { boot = (old me).boot; seen = (old me).seen; known = (old me).known; out = Some (sending s round) }) old new → Stands (with_proposal round.ballot s change h) cells new }
+        → Turns me (record { boot = (old me).boot; seen = (old me).seen; known = (old me).known; out = Some (sending s round) }) old new → HistoryStands (with_proposal round.ballot s change h) cells new }
 {}
 
 /// A state that was chosen is a place of the chain, or the chain grows by it.
 pub fn a_choice_is_known()
-    ensures { (h : History) (cells : ℕ → Option Held) (machines : ℕ → Machine) (s : GlobalState) (change : Change) → Stands h cells machines → IsChosen h.proposals h.votes s → ComesBy h.chain h.proposed change s
+    ensures { (h : History) (cells : ℕ → Option Held) (machines : ℕ → Machine) (s : GlobalState) (change : Change) → HistoryStands h cells machines → IsChosen h.proposals h.votes s → ComesBy h.chain h.proposed change s
         → Decides h h cells machines s ⊎ Decides h (with_state change h) cells machines s }
 {}
 
 /// A change is handed in.
 pub fn a_change_is_handed_in()
-    ensures { (h : History) (cells : ℕ → Option Held) (machines : ℕ → Machine) (change : Change) → Stands h cells machines → Stands (with_change change h) cells machines }
+    ensures { (h : History) (cells : ℕ → Option Held) (machines : ℕ → Machine) (change : Change) → HistoryStands h cells machines → HistoryStands (with_change change h) cells machines }
 {}
 
 /// A proposer begins a round, whose number is one above the greatest that it has seen.
 pub fn a_proposer_prepares()
-    ensures { (h : History) (cells : ℕ → Option Held) (old new : ℕ → Machine) (me : ℕ) (own : GlobalState) → Stands h cells old → ComesNext h.chain h.proposed own
-        → Turns me (record { boot = (old me).boot; seen = (old me).seen + 1; known = (old me).known; out = Some (prepared me (old me).boot (old me).seen own) }) old new → Stands h cells new }
+    ensures { (h : History) (cells : ℕ → Option Held) (old new : ℕ → Machine) (me : ℕ) (own : GlobalState) → HistoryStands h cells old → ComesNext h.chain h.proposed own
+        → Turns me (record { boot = (old me).boot; seen = (old me).seen + 1; known = (old me).known; out = Some (prepared me (old me).boot (old me).seen own) }) old new → HistoryStands h cells new }
 {}
 
 /// A proposer learns a state, and drops its round.
 pub fn a_state_is_learned()
-    ensures { (h : History) (cells : ℕ → Option Held) (old new : ℕ → Machine) (me : ℕ) (s : GlobalState) → Stands h cells old → IsPlace h.chain s
-        → Turns me (record { boot = (old me).boot; seen = (old me).seen; known = s; out = None }) old new → Stands h cells new }
+    ensures { (h : History) (cells : ℕ → Option Held) (old new : ℕ → Machine) (me : ℕ) (s : GlobalState) → HistoryStands h cells old → IsPlace h.chain s
+        → Turns me (record { boot = (old me).boot; seen = (old me).seen; known = s; out = None }) old new → HistoryStands h cells new }
 {}
 
 /// A proposer starts again with a greater boot.
 pub fn a_proposer_starts_again()
-    ensures { (h : History) (cells : ℕ → Option Held) (old new : ℕ → Machine) (me later : ℕ) (first : GlobalState) → Stands h cells old → (old me).boot < later → IsPlace h.chain first
-        → Turns me (record { boot = later; seen = 0; known = first; out = None }) old new → Stands h cells new }
+    ensures { (h : History) (cells : ℕ → Option Held) (old new : ℕ → Machine) (me later : ℕ) (first : GlobalState) → HistoryStands h cells old → (old me).boot < later → IsPlace h.chain first
+        → Turns me (record { boot = later; seen = 0; known = first; out = None }) old new → HistoryStands h cells new }
 {}

@@ -2,7 +2,7 @@
 use Rattle.std.proofs.Common.{◌≡◌, ℕ, ◌≤◌, ◌<◌, ◌^◌, false, true, List, [], ◌∷◌, Some, refl, sym, ap, ◌∙◌, subst, inl, inr, arith, lit≤}
 use Rattle.std.specs.Prelude.{◌⊎◌, Err}
 use Rattle.bx_attempts.specs.Replies.{IsChanged, IsRefused, done_with}
-use Rattle.bx_steps.specs.Steps.{StandsWith, Step}
+use Rattle.bx_steps.specs.Steps.{StandsWith, StepOfTree}
 use Rattle.bx_changes.specs.Changes.{Changes, IsChange}
 use Rattle.bx_changes.specs.Growing.{IsChangeBy, IsMaking, IsNearlyFull, LeavesTrees, Makes}
 use Rattle.bx_changes.specs.declared.error.ChangeError.{ChangeError}
@@ -99,14 +99,14 @@ module _ (volume areas client : ℕ) (bytes : List ℕ) (moment : ℕ) (truth : 
   free = free_slots areas truth
 
   abbrev GivesStep : Attempt → Type 0
-  GivesStep attempt = Gives (StandsWith volume areas) Step free client bytes moment truth tree attempt
+  GivesStep attempt = Gives (StandsWith volume areas) StepOfTree free client bytes moment truth tree attempt
 
   module _ (reply : Reply) (spare made : ℕ) (next : Tree) (acts : act tree call moment spare made ≡ Some (reply, next)) (few : spare ≤ 4294967295) (made_fits : made < 2 ^ 64)
       (enough : tells_spare reply ≡ false → spare ≡ 8) where
     abbrev acted : Done
     acted = record { reply = reply_text xid reply; spare = spare; made = made }
 
-    one_step : Step tree (deed_of client bytes moment acted) next
+    one_step : StepOfTree tree (deed_of client bytes moment acted) next
     one_step = record {
       xid = xid;
       call = call;
@@ -121,7 +121,7 @@ module _ (volume areas client : ℕ) (bytes : List ℕ) (moment : ℕ) (truth : 
     }
 
     by_step : (draft : List Changed) → TellsSpare free acted → Stands volume areas (with_draft truth draft) next → ((hints : Hints) → HintsFitAll areas hints truth → HintsFitAll areas hints (with_draft truth draft))
-        → Acts (StandsWith volume areas) Step free (deed_of client bytes moment acted) acted truth draft tree
+        → Acts (StandsWith volume areas) StepOfTree free (deed_of client bytes moment acted) acted truth draft tree
     by_step draft tells stands leads = record {
       next = next;
       step = one_step;

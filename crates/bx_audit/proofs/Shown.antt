@@ -1,7 +1,7 @@
 -- What the disks of a volume stand for, once their blocks are read.
 use Rattle.std.proofs.Common.{◌≡◌, ℕ, Bool, inl, inr, sym, ap, ◌∙◌, subst, refl, Result, Ok, Err, IfOk}
 use Rattle.std.specs.Prelude.{IfErr}
-use Rattle.bx_audit.specs.Audited.{AreOpen, IsRefusal, IsTorn, StandFor, StandForNone}
+use Rattle.bx_audit.specs.Audited.{AreOpen, IsAuditRefusal, IsTorn, StandFor, StandForNone}
 use Rattle.bx_audit.specs.Blocks.{StandForNoTree, blocks_of}
 use Rattle.bx_disk.specs.Disks.{Disks}
 use Rattle.bx_global.specs.declared.state.GlobalState.{GlobalState}
@@ -76,12 +76,12 @@ module _ (disks : Disks) (state : GlobalState) (read : VolumeDisks) (is : IsRead
   }
 
   -- a block is wrong
-  pub wrong_blocks : (error : AuditError) → IsTorn read.members.areas (blocks_of disks read) error → StandForNone disks state → IsRefusal disks state error
+  pub wrong_blocks : (error : AuditError) → IsTorn read.members.areas (blocks_of disks read) error → StandForNone disks state → IsAuditRefusal disks state error
   wrong_blocks error torn none = record { why = inr record { read = read; is = is; torn = torn }; none = none }
 
 -- disks whose labels, members or logs are refused
 pub refused : (disks : Disks) (state : GlobalState) (error : AuditError) → ((second : ℕ → Bool) (tree : Tree) → IsRefused disks state error → AreReadFrom state second → ShowsTree disks.sizes disks.reads state (by_device second) tree → ⊥)
-    → IsRefused disks state error → IsRefusal disks state error
+    → IsRefused disks state error → IsAuditRefusal disks state error
 refused disks state error never why = record {
   why = inl why;
   none = λ tree stands. never stands.second tree why (subst (λ (s : GlobalState). AreReadFrom s stands.second) stands.is_state stands.reads)

@@ -4,9 +4,9 @@ use Rattle.std.proofs.lemmas.Bool.Decides.{nat_tests}
 use Rattle.bx_audit.specs.Blocks.{IsTornBlock, error_of}
 use Rattle.bx_audit_owners.specs.bx_audit_slots.specs.Told.{IsTold}
 use Rattle.bx_audit_owners.specs.Whole.{IsTreeTorn}
-use Rattle.bx_audit_trees.specs.declared.error.AuditError.{AuditError as TreeError}
-use Rattle.bx_audit_trees.specs.declared.error.AuditError.TheVariants.{Torn as TornTree, Fault as TreeFault, OutOfMemory as OutOfTreeMemory}
-use Rattle.bx_audit_trees.specs.Errors.{IfTornError, CountsError}
+use Rattle.bx_audit_pages.specs.declared.error.AuditError.{AuditError as TreeError}
+use Rattle.bx_audit_pages.specs.declared.error.AuditError.TheVariants.{Torn as TornTree, Fault as TreeFault, OutOfMemory as OutOfTreeMemory}
+use Rattle.bx_audit_pages.specs.Errors.{IfTornError, CountsError}
 use Rattle.bx_disk.specs.declared.fault.RackError.{RackError}
 use Rattle.bx_disk.specs.declared.fault.RackError.TheVariants.{Fault, OutOfMemory}
 use Rattle.bx_homes.specs.Slots.{AreBlocks, HasBlock, StaysSo}

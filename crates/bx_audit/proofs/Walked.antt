@@ -15,10 +15,10 @@ use Rattle.bx_audit_owners.proofs.MetFiles.{same_files}
 use Rattle.bx_audit_owners.proofs.Walking.{wrong_met}
 use Rattle.bx_audit_owners.proofs.Wholes.{have_tree, tree_shows}
 use Rattle.bx_audit_owners.proofs.Worded.{met_chunk, worded}
-use Rattle.bx_audit_trees.specs.declared.error.AuditError.{AuditError as TreeError}
-use Rattle.bx_audit_trees.specs.declared.error.AuditError.TheVariants.{Torn as TornTree, Fault as TreeFault, OutOfMemory as OutOfTreeMemory}
-use Rattle.bx_audit_trees.specs.Errors.{IfTorn, IfTornError}
-use Rattle.bx_audit_trees.specs.Shown.{Shows}
+use Rattle.bx_audit_pages.specs.declared.error.AuditError.{AuditError as TreeError}
+use Rattle.bx_audit_pages.specs.declared.error.AuditError.TheVariants.{Torn as TornTree, Fault as TreeFault, OutOfMemory as OutOfTreeMemory}
+use Rattle.bx_audit_pages.specs.Errors.{IfTorn, IfTornError}
+use Rattle.bx_audit_pages.specs.Shown.{Shows}
 use Rattle.bx_homes.specs.Slots.{StaysSo}
 use Rattle.bx_layout.specs.declared.block.Block.{Block}
 use Rattle.bx_overlay.specs.declared.error.AuditError.{AuditError}

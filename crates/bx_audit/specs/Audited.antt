@@ -65,6 +65,6 @@ abbrev pub Refuses : Disks → GlobalState → AuditError → Type 0
 Refuses disks state error = IsRefused disks state error ⊎ HasWrongBlocks disks state error
 
 -- the disks are refused for this, and stand for no file tree
-pub record IsRefusal (disks : Disks) (state : GlobalState) (error : AuditError) : Type 0 where
+pub record IsAuditRefusal (disks : Disks) (state : GlobalState) (error : AuditError) : Type 0 where
   pub why : Refuses disks state error
   pub none : StandForNone disks state

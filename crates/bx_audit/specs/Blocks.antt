@@ -1,8 +1,8 @@
 -- What the blocks of a volume stand for, as they are read.
 use Rattle.std.specs.Prelude.{◌≡◌, ◌⊎◌, ℕ}
 use Rattle.bx_audit_owners.specs.Whole.{IsTreeTorn}
-use Rattle.bx_audit_trees.specs.declared.error.AuditError.{AuditError as TreeError}
-use Rattle.bx_audit_trees.specs.declared.error.AuditError.TheVariants.{Torn as TornTree, Fault as TreeFault, OutOfMemory as OutOfTreeMemory}
+use Rattle.bx_audit_pages.specs.declared.error.AuditError.{AuditError as TreeError}
+use Rattle.bx_audit_pages.specs.declared.error.AuditError.TheVariants.{Torn as TornTree, Fault as TreeFault, OutOfMemory as OutOfTreeMemory}
 use Rattle.bx_disk.specs.Disks.{Disks}
 use Rattle.bx_homes.specs.Slots.{AreBlocks, HasHandle, IsFirstFault, wanted_handle}
 use Rattle.bx_layout.specs.declared.block.Block.{Block}

@@ -5,7 +5,7 @@ use Rattle.bx_audit_owners.specs.Holding.{Holdings}
 use Rattle.bx_audit_owners.specs.Walks.{IsWalked, IsWrongMet}
 use Rattle.bx_audit_owners.specs.Words.{AreWorded, IsFirstWrongAt, IsMetChunk}
 use Rattle.bx_audit_owners.specs.bx_audit_slots.specs.Numbers.{IsToldOf}
-use Rattle.bx_audit_trees.specs.Shown.{Shows}
+use Rattle.bx_audit_pages.specs.Shown.{Shows}
 use Rattle.bx_layout.specs.declared.block.Block.{Block}
 use Rattle.bx_model.specs.declared.tree.Tree.{Tree}
 use Rattle.bx_model.specs.FileTrees.{IsFileTree}

@@ -1,7 +1,7 @@
 //! The audit.
 
 ghost use Rattle.std.specs.Prelude.{◌≡◌, ◌⊎◌, IfOk, IfErr};
-ghost use Rattle.bx_audit.specs.Audited.{IsListed, IsRefusal, StandFor};
+ghost use Rattle.bx_audit.specs.Audited.{IsListed, IsAuditRefusal, StandFor};
 ghost use Rattle.bx_model.specs.declared.tree.Tree.{Tree as ModelTree};
 ghost use Rattle.bx_model.specs.Listing.{listing};
 ghost use Rattle.bx_overlay.specs.Kept.{ReadsDisks};
@@ -35,7 +35,7 @@ pub fn audit<R: Rack>(
     state: &GlobalState,
 ) -> Result<Listing, AuditError>
     ensures ok { R.tells rack.old → IfOk result (IsListed (R.state rack.old) state.now) }
-    ensures err { R.tells rack.old → IfErr result (λ error. IsBreak error ⊎ IsRefusal (R.state rack.old) state.now error) }
+    ensures err { R.tells rack.old → IfErr result (λ error. IsBreak error ⊎ IsAuditRefusal (R.state rack.old) state.now error) }
     ensures stands { R.tells rack.old → (tree : ModelTree) → StandFor (R.state rack.old) state.now tree → IfOk result (λ listed. listed.text ≡ listing tree) }
     ensures breaks { R.tells rack.old → (tree : ModelTree) → StandFor (R.state rack.old) state.now tree → IfErr result IsBreak }
     ensures rack { ReadsDisks R.Rack rack.old rack.new result }
@@ -51,7 +51,7 @@ fn listed_by<R: Rack>(
     state: &GlobalState,
 ) -> Result<Listing, AuditError>
     ensures ok { R.tells rack.old → IfOk result (IsListed (R.state rack.old) state.now) }
-    ensures err { R.tells rack.old → IfErr result (λ error. IsBreak error ⊎ IsRefusal (R.state rack.old) state.now error) }
+    ensures err { R.tells rack.old → IfErr result (λ error. IsBreak error ⊎ IsAuditRefusal (R.state rack.old) state.now error) }
     ensures rack { ReadsDisks R.Rack rack.old rack.new result }
 {
     what_is_read_is_shown();

@@ -50,13 +50,13 @@ fn tree_of<B: Blocks>(
 }
 
 /// Why an audit fails, where what is read of its trees does.
-pub(crate) fn audit_error(error: bx_audit_trees::AuditError) -> AuditError
+pub(crate) fn audit_error(error: bx_audit_pages::AuditError) -> AuditError
     ensures { result ≡ error_of error }
 {
     match error {
-        bx_audit_trees::AuditError::Torn(at, found, wanted) => AuditError::Torn(at, found, wanted),
-        bx_audit_trees::AuditError::Fault => AuditError::DiskFault,
-        bx_audit_trees::AuditError::OutOfMemory => AuditError::OutOfMemory,
+        bx_audit_pages::AuditError::Torn(at, found, wanted) => AuditError::Torn(at, found, wanted),
+        bx_audit_pages::AuditError::Fault => AuditError::DiskFault,
+        bx_audit_pages::AuditError::OutOfMemory => AuditError::OutOfMemory,
     }
 }
 

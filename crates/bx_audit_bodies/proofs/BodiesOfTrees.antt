@@ -23,7 +23,7 @@ use Rattle.bx_truth.proofs.Put.{is_live}
 use Rattle.bx_audit_files.proofs.PairedEntries.{value_at, of_all}
 use Rattle.bx_audit_files.proofs.Rising.{map_rises}
 use Rattle.bx_audit_files.specs.Inodes.{IsBlockAt}
-use Rattle.bx_audit_trees.specs.Trees.{tree_of}
+use Rattle.bx_audit_pages.specs.Trees.{tree_of}
 use Rattle.bx_audit_bodies.specs.Bodies.{HasPieces, IsBodyOf, HasBodyOf, file_with}
 use Rattle.bx_audit_bodies.specs.Claiming.{page_claims, piece_claims}
 use Rattle.bx_audit_bodies.specs.Claims.{AgreesWith, AreClaims, IsNamedBy, IsPieceNamed}

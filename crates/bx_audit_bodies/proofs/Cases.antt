@@ -1,9 +1,9 @@
 -- What results imply.
 use Rattle.std.proofs.Common.{ℕ, Result, Ok, Err}
 use Rattle.std.specs.Prelude.{OnOk}
-use Rattle.bx_audit_trees.specs.declared.error.AuditError.{AuditError}
-use Rattle.bx_audit_trees.specs.declared.error.AuditError.TheVariants.{Torn, Fault, OutOfMemory}
-use Rattle.bx_audit_trees.specs.Errors.{IfTorn}
+use Rattle.bx_audit_pages.specs.declared.error.AuditError.{AuditError}
+use Rattle.bx_audit_pages.specs.declared.error.AuditError.TheVariants.{Torn, Fault, OutOfMemory}
+use Rattle.bx_audit_pages.specs.Errors.{IfTorn}
 
 pub torn_too : {A : Type 0} (P Q : ℕ → ℕ → ℕ → Type 0) (r : Result A AuditError) → ((at found wanted : ℕ) → P at found wanted → Q at found wanted) → IfTorn r P → IfTorn r Q
 torn_too P Q (Ok x) implies is = is

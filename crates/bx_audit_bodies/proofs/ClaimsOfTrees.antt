@@ -9,8 +9,8 @@ use Rattle.bx_truth.specs.Keys.{content_key}
 use Rattle.bx_truth.specs.PageTrees.{Chunks, Node, PageTree, IsIn, IsPageOf, IsTree}
 use Rattle.bx_truth.specs.Stored.{Owner, PageOf, DataOf, Stored}
 use Rattle.bx_truth.proofs.OneTree.{one_map, same_pages}
-use Rattle.bx_audit_trees.specs.Trees.{tree_of}
-use Rattle.bx_audit_trees.proofs.Descents.{root_page_at}
+use Rattle.bx_audit_pages.specs.Trees.{tree_of}
+use Rattle.bx_audit_pages.proofs.Descents.{root_page_at}
 use Rattle.bx_audit_bodies.specs.Claiming.{page_claim, page_claims, piece_claims}
 use Rattle.bx_audit_bodies.specs.Claims.{AgreesWith, AreClaims, IsClaim, IsNamedBy, IsPieceNamed, owner_by}
 use Rattle.bx_audit_bodies.specs.Pieces.{HasPiece}

@@ -7,9 +7,9 @@ use Rattle.bx_truth.specs.PageTrees.{Chunks, Node, PageTree, IsIn, IsTree, entri
 use Rattle.bx_audit_files.specs.Inodes.{IsBlockAt}
 use Rattle.bx_audit_files.proofs.Rising.{map_rises}
 use Rattle.bx_audit_files.proofs.Steps.{leaf_of_all}
-use Rattle.bx_audit_trees.specs.Leading.{AreLedTo, IsLedTo}
-use Rattle.bx_audit_trees.proofs.Lookups.{split}
-use Rattle.bx_audit_trees.proofs.NodeLists.{all_in, at_place, place_of}
+use Rattle.bx_audit_pages.specs.Leading.{AreLedTo, IsLedTo}
+use Rattle.bx_audit_pages.proofs.Lookups.{split}
+use Rattle.bx_audit_pages.proofs.NodeLists.{all_in, at_place, place_of}
 use Rattle.bx_audit_bodies.specs.Claims.{IsPieceNamed}
 use Rattle.bx_audit_bodies.specs.Contents.{IsClear}
 use Rattle.bx_audit_bodies.specs.Faults.{HasEntries, HasFaultIn, HasPages, Entry, Page, Piece as PieceFault}

@@ -2,7 +2,7 @@
 use Rattle.std.proofs.Common.{◌≡◌, zero, suc, arith, List, [], ◌∷◌, ap, subst}
 use Rattle.std.specs.Prelude.{Contains, map}
 use Rattle.bx_truth.specs.PageTrees.{IsIn}
-use Rattle.bx_audit_trees.proofs.NodeLists.{at_place, place_of}
+use Rattle.bx_audit_pages.proofs.NodeLists.{at_place, place_of}
 use Rattle.bx_audit_files.proofs.PairedEntries.{head_in, tail_in}
 
 pub contains_map : {X Y : Type 0} (f : X → Y) (xs : List X) (x : X) → Contains xs x → Contains (map f xs) (f x)

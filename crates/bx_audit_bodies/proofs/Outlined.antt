@@ -2,7 +2,7 @@
 use Rattle.std.proofs.Common.{◌≡◌, ℕ, ◌^◌, ◌<◌, ◌⊎◌, inr, arith, List, sym, ap, ◌∙◌, subst, Option, Some, None}
 use Rattle.std.specs.Prelude.{All}
 use Rattle.bx_audit_files.specs.Inodes.{IsInodeAt}
-use Rattle.bx_audit_trees.specs.Trees.{tree_of}
+use Rattle.bx_audit_pages.specs.Trees.{tree_of}
 use Rattle.bx_audit_bodies.specs.Bodies.{file_with}
 use Rattle.bx_audit_bodies.specs.Contents.{HasClear}
 use Rattle.bx_audit_bodies.specs.Faults.{Within}

@@ -9,9 +9,9 @@ use Rattle.bx_truth.specs.PageTrees.{Chunks, Node, IsIn, IsTree, entries_of, map
 use Rattle.bx_audit_files.specs.Inodes.{IsBlockAt}
 use Rattle.bx_layout.specs.declared.block.Block.{Block}
 use Rattle.bx_audit_files.proofs.PairedEntries.{of_all}
-use Rattle.bx_audit_trees.specs.Leading.{AreLedTo, IsLedTo, Below}
-use Rattle.bx_audit_trees.specs.Trees.{tree_of}
-use Rattle.bx_audit_trees.proofs.NodeLists.{all_in, at_place}
+use Rattle.bx_audit_pages.specs.Leading.{AreLedTo, IsLedTo, Below}
+use Rattle.bx_audit_pages.specs.Trees.{tree_of}
+use Rattle.bx_audit_pages.proofs.NodeLists.{all_in, at_place}
 use Rattle.bx_audit_bodies.specs.Parts.{IsFirstPiece, IsOfOne}
 use Rattle.bx_audit_bodies.specs.Pieces.{ArePieces, HasPiece, IsPieceEntry, piece_in}
 use Rattle.bx_audit_bodies.specs.declared.pieces.Piece.{Piece}

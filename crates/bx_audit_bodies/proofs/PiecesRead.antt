@@ -7,7 +7,7 @@ use Rattle.bx_audit_files.specs.Inodes.{IsBlockAt}
 use Rattle.bx_layout.specs.declared.block.Block.{Block}
 use Rattle.bx_truth.specs.PageTrees.{Chunks}
 use Rattle.bx_truth.specs.Stored.{AreBytesOf, byte_in}
-use Rattle.bx_audit_bodies.specs.Contents.{HasClear, IsClear, PutsPiece, with_piece}
+use Rattle.bx_audit_bodies.specs.Contents.{HasClear, IsClear, AddsPiece, with_piece}
 use Rattle.bx_audit_bodies.specs.Pieces.{AreApart, HasPiece, piece_among}
 use Rattle.bx_audit_bodies.specs.declared.pieces.Piece.{Piece}
 use Rattle.bx_audit_bodies.proofs.PiecesAmong.{among_none, among_new, among_other, among_at}
@@ -85,7 +85,7 @@ module _ (chunks : Chunks) (pieces : List Piece) (k : ℕ) (d : Piece) (less : k
       let i_less : i < k = omega (arith, within, long, less) in
       apart i k e i_less less (ap (λ (q : Piece). q.index) (sym (get_or-take k pieces i e i_less)) ∙ same ∙ ap (λ (q : Piece). q.index) (get_or_default pieces k d e less))
 
-  pub bytes_step : (size tail : ℕ) (old new : List ℕ) → AreApart pieces → AreBytesOf (piece_among chunks (take k pieces)) size tail old → PutsPiece chunks (get_or pieces k d) size tail old new
+  pub bytes_step : (size tail : ℕ) (old new : List ℕ) → AreApart pieces → AreBytesOf (piece_among chunks (take k pieces)) size tail old → AddsPiece chunks (get_or pieces k d) size tail old new
       → AreBytesOf (piece_among chunks (take (k + 1) pieces)) size tail new
   bytes_step size tail old new apart are puts =
       let p = get_or pieces k d in

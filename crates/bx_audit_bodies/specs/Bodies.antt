@@ -6,7 +6,7 @@ use Rattle.bx_tree_files.specs.declared.file.File.{File}
 use Rattle.bx_tree_files.specs.Files.{IsFile}
 use Rattle.bx_truth.specs.PageTrees.{Chunks, Node, PageTree, IsTree, map_of}
 use Rattle.bx_truth.specs.Stored.{Owner, IsFileOr}
-use Rattle.bx_audit_trees.specs.Trees.{tree_of}
+use Rattle.bx_audit_pages.specs.Trees.{tree_of}
 use Rattle.bx_audit_bodies.specs.Claiming.{page_claims, piece_claims}
 use Rattle.bx_audit_bodies.specs.Claims.{AgreesWith, AreClaims, IsNamedBy}
 use Rattle.bx_audit_bodies.specs.Pieces.{ArePieces}

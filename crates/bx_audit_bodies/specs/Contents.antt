@@ -16,7 +16,7 @@ with_piece size index payload bytes =
     if nat_lt (4096 * index) size then written_over (4096 * index) (take (size - 4096 * index) (take 4096 payload)) bytes else bytes
 
 -- the block of a piece, clear from the tail on, was put into the bytes of a file of a size
-pub record PutsPiece (chunks : Chunks) (piece : Piece) (size tail : ℕ) (old new : List ℕ) : Type 0 where
+pub record AddsPiece (chunks : Chunks) (piece : Piece) (size tail : ℕ) (old new : List ℕ) : Type 0 where
   pub block : Block
   pub at : IsBlockAt chunks piece.handle 3 block
   pub clear : IsClear tail piece.index block.payload

@@ -4,7 +4,7 @@ use Rattle.bx_audit_bodies.specs.Claims.{IsPieceNamed}
 use Rattle.bx_audit_bodies.specs.Contents.{IsClear}
 use Rattle.bx_audit_bodies.specs.Parts.{IsFirstLeaf}
 use Rattle.bx_audit_files.specs.Inodes.{IsBlockAt, IsInodeAt}
-use Rattle.bx_audit_trees.specs.Torn.{IsTornPage}
+use Rattle.bx_audit_pages.specs.Torn.{IsTornPage}
 use Rattle.bx_layout.specs.declared.block.Block.{Block}
 use Rattle.bx_layout.specs.declared.inode.Inode.{Inode}
 use Rattle.bx_tree_files.specs.declared.file.Name.{Name}

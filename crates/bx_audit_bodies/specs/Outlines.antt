@@ -12,7 +12,7 @@ use Rattle.bx_audit_bodies.specs.declared.outlines.Parts.{Parts}
 use Rattle.bx_audit_bodies.specs.declared.outlines.Parts.TheVariants.{Pieces, Whole}
 use Rattle.bx_audit_bodies.specs.declared.pieces.Piece.{Piece}
 use Rattle.bx_audit_files.specs.Inodes.{IsInodeAt}
-use Rattle.bx_audit_trees.specs.Leading.{IsLedTo}
+use Rattle.bx_audit_pages.specs.Leading.{IsLedTo}
 use Rattle.bx_layout.specs.declared.inode.Inode.{Inode}
 use Rattle.bx_layout.specs.Inodes.{IsInode}
 use Rattle.bx_tree_files.specs.declared.file.File.{File}

@@ -4,8 +4,8 @@ use Rattle.bx_audit_bodies.specs.declared.pieces.Piece.{Piece}
 use Rattle.bx_audit_bodies.specs.Contents.{IsClear}
 use Rattle.bx_audit_bodies.specs.Pieces.{ArePieces, HasPiece, IsPieceEntry}
 use Rattle.bx_audit_files.specs.Inodes.{IsBlockAt, IsInodeAt}
-use Rattle.bx_audit_trees.specs.Leading.{IsLedTo}
-use Rattle.bx_audit_trees.specs.Torn.{IsTornPage}
+use Rattle.bx_audit_pages.specs.Leading.{IsLedTo}
+use Rattle.bx_audit_pages.specs.Torn.{IsTornPage}
 use Rattle.bx_layout.specs.declared.block.Block.{Block}
 use Rattle.bx_layout.specs.declared.inode.Inode.{Inode}
 use Rattle.bx_truth.specs.PageTrees.{Chunks, Node, PageTree, IsTree, entries_of, map_of}

@@ -4,7 +4,7 @@ ghost use Rattle.std.specs.Prelude.{◌≡◌, ◌++◌, map, IfOk, OnOk};
 ghost use Rattle.bx_audit_bodies.specs.Claiming.{page_claim, page_claims, piece_claims};
 
 use crate::pieces::Piece;
-use bx_audit_trees::{ReadTree, TreePage};
+use bx_audit_pages::{ReadTree, TreePage};
 use bx_base::OutOfMemory;
 use std::alloc::Global;
 

@@ -1,7 +1,7 @@
 //! The bytes of regular files, off the blocks of their pieces.
 
 ghost use Rattle.std.specs.Prelude.{◌≡◌, ◌*◌, ◌^◌, ◌<◌, ◌↔◌, All, take, IfOk, OnOk, IsTrue, length};
-ghost use Rattle.bx_audit_bodies.specs.Contents.{HasClear, IsClear, PutsPiece, with_piece};
+ghost use Rattle.bx_audit_bodies.specs.Contents.{HasClear, IsClear, AddsPiece, with_piece};
 ghost use Rattle.bx_audit_bodies.specs.Parts.{IsFirstPiece, IsOfOne, IsUnclearPiece};
 ghost use Rattle.bx_audit_bodies.specs.Pieces.{AreApart, HasPiece, piece_among};
 ghost use Rattle.bx_audit_files.specs.Inodes.{IsBlockAt};
@@ -11,7 +11,7 @@ ghost use Rattle.bx_truth.specs.Stored.{AreBytesOf};
 
 use crate::pieces::Piece;
 use bx_audit_files::block_at;
-use bx_audit_trees::{AuditError, torn_at};
+use bx_audit_pages::{AuditError, torn_at};
 use bx_base::{OutOfMemory, are_zeros};
 use bx_homes::Blocks;
 use bx_layout::Block;
@@ -103,7 +103,7 @@ fn put_piece<B: Blocks>(
 ) -> Result<(), AuditError>
     requires blocks { CanRead B.Blocks areas blocks.old }
     requires size { size < 2 ^ 31 }
-    ensures ok { (chunks : Chunks) → Shows (B.tells blocks.old) areas (B.stands blocks.old) chunks → OnOk result (PutsPiece chunks piece.now size tail content.old content.new) }
+    ensures ok { (chunks : Chunks) → Shows (B.tells blocks.old) areas (B.stands blocks.old) chunks → OnOk result (AddsPiece chunks piece.now size tail content.old content.new) }
     ensures len { OnOk result (length content.old ≡ size → length content.new ≡ size) }
     ensures torn { (chunks : Chunks) → Shows (B.tells blocks.old) areas (B.stands blocks.old) chunks
         → IfTorn result (λ at found wanted. (block : Block) → IsBlockAt chunks piece.now.handle 3 block → IsClear tail piece.now.index block.payload → ⊥) }

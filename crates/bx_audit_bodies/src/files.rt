@@ -16,7 +16,7 @@ use crate::bodies::{dead_of, directory_of, link_of, regular_of};
 use crate::contents::{bytes_of, check_pieces};
 use crate::outlines::{FileOutline, Outline, Parts};
 use bx_audit_files::inode_at;
-use bx_audit_trees::AuditError;
+use bx_audit_pages::AuditError;
 use bx_homes::Blocks;
 use bx_inodes::file_with;
 use bx_tree_files::{Body, DIRECTORY, File, LINK, REGULAR};

@@ -3,13 +3,13 @@
 ghost use Rattle.std.specs.Prelude.{◌≡◌, ◌++◌, ◌^◌, ◌<◌, ℕ, [], All, take, drop, map, slice_index_or, IfOk, IfSome, IfNone, IsErrOf, IsTrue, IsFalse};
 ghost use Rattle.bx_audit_bodies.specs.Parts.{IsFirstLeaf};
 ghost use Rattle.bx_audit_bodies.specs.Pieces.{ArePieces, IsPieceEntry, IsOfPiece, piece_in};
-ghost use Rattle.bx_audit_trees.specs.declared.error.AuditError.TheVariants.{Fault as DiskFailed};
-ghost use Rattle.bx_audit_trees.specs.Errors.{IfTorn};
-ghost use Rattle.bx_audit_trees.specs.Trees.{tree_of};
+ghost use Rattle.bx_audit_pages.specs.declared.error.AuditError.TheVariants.{Fault as DiskFailed};
+ghost use Rattle.bx_audit_pages.specs.Errors.{IfTorn};
+ghost use Rattle.bx_audit_pages.specs.Trees.{tree_of};
 ghost use Rattle.bx_truth.specs.Keys.{content_value};
 ghost use Rattle.bx_truth.specs.PageTrees.{map_of};
 
-use bx_audit_trees::{AuditError, ReadTree, torn_at};
+use bx_audit_pages::{AuditError, ReadTree, torn_at};
 use bx_base::OutOfMemory;
 use bx_keys::{handle_in, number_behind};
 use bx_page::{Entry, Page};

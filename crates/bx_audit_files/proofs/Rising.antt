@@ -10,8 +10,8 @@ use Rattle.bx_page.specs.declared.entry.Entry.{Entry}
 use Rattle.bx_page.specs.Keys.{is_below, IsBelow}
 use Rattle.bx_page.specs.Contents.{Rises}
 use Rattle.bx_page.proofs.Order.{below_trans, not_below_back, same_from_cmp, greater_cmp}
-use Rattle.bx_truth.specs.PageTrees.{Chunks, Node, IsIn, IsNode, Leads, IsLevel, PageTree, IsTree, entries_of, map_of}
-use Rattle.bx_audit_trees.proofs.Walk.{here, later}
+use Rattle.bx_truth.specs.PageTrees.{Chunks, Node, IsIn, IsNode, PagesLead, IsLevel, PageTree, IsTree, entries_of, map_of}
+use Rattle.bx_audit_pages.proofs.Walk.{here, later}
 
 no_true : false ≡ true → ⊥
 no_true e = cc
@@ -35,7 +35,7 @@ join (x ∷ xs) ys rises more apart =
 
 module _ (chunks : Chunks) (level : ℕ) where
   -- the entries from a page on, and where its range begins
-  rise_on : (x : Node) (others : List Node) → ((node : Node) → IsIn node (x ∷ others) → IsNode chunks level node) → Leads x others
+  rise_on : (x : Node) (others : List Node) → ((node : Node) → IsIn node (x ∷ others) → IsNode chunks level node) → PagesLead x others
       → Rises (entries_of (x ∷ others)) × All (λ (e : Entry). is_below e.key x.begins ≡ false) (entries_of (x ∷ others))
   rise_on x [] all last =
       let is = all x (here x []) in

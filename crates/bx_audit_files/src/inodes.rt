@@ -8,7 +8,7 @@ ghost use Rattle.bx_layout.specs.declared.inode.Inode.{Inode};
 ghost use Rattle.bx_layout.specs.Inodes.{IsInode};
 ghost use Rattle.bx_truth.specs.Stored.{HasInode};
 
-use bx_audit_trees::{AuditError, chunk_at, torn_at};
+use bx_audit_pages::{AuditError, chunk_at, torn_at};
 use bx_base::OutOfMemory;
 use bx_homes::Blocks;
 use bx_layout::{Block, Inode};

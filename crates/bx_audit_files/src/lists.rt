@@ -2,14 +2,14 @@
 
 ghost use Rattle.std.specs.Prelude.{◌≡◌, ◌++◌, ◌+◌, ◌<◌, ◌≤◌, ℕ, List, [], ◌∷◌, IfOk, IfSome, IfNone, IsTrue, IsFalse, None};
 ghost use Rattle.bx_audit_files.specs.Lists.{AreListed, CanFollow};
-ghost use Rattle.bx_audit_trees.specs.Trees.{tree_of};
+ghost use Rattle.bx_audit_pages.specs.Trees.{tree_of};
 ghost use Rattle.bx_tree_files.specs.declared.file.Name.{Name as Named};
 ghost use Rattle.bx_tree_files.specs.Entries.{AreBelow, entry_named};
 ghost use Rattle.bx_truth.specs.PageTrees.{Chunks, IsTree, map_of};
 ghost use Rattle.bx_truth.specs.Stored.{AreNames};
 
 use crate::names::names_of;
-use bx_audit_trees::ReadTree;
+use bx_audit_pages::ReadTree;
 use bx_base::OutOfMemory;
 use bx_tree_files::{Name, NameList};
 use std::alloc::Global;

@@ -2,7 +2,7 @@
 
 ghost use Rattle.std.specs.Prelude.{◌≡◌, ◌↔◌, ◌++◌, ◌∷◌, [], ℕ, List, All, take, drop, Some, IfOk, IfSome, IfNone, IsTrue, IsFalse};
 ghost use Rattle.bx_audit_files.specs.Names.{IsPaired, names_in};
-ghost use Rattle.bx_audit_trees.specs.Trees.{tree_of};
+ghost use Rattle.bx_audit_pages.specs.Trees.{tree_of};
 ghost use Rattle.bx_page.specs.Contents.{value_of};
 ghost use Rattle.bx_tree_files.specs.declared.file.Name.{Name};
 ghost use Rattle.bx_truth.specs.Keys.{name_key, name_value, entry_key, entry_value};
@@ -10,7 +10,7 @@ ghost use Rattle.bx_truth.specs.PageTrees.{Chunks, IsTree, map_of};
 ghost use Rattle.bx_truth.specs.Stored.{AreNames};
 
 use crate::fields::{by_name, by_number};
-use bx_audit_trees::ReadTree;
+use bx_audit_pages::ReadTree;
 use bx_base::{OutOfMemory, Raw};
 use bx_keys::{key_by_name, key_by_number, value_by_name, value_by_number};
 use bx_page::{Entry, Page};

@@ -1,9 +1,9 @@
 -- What follows where something is torn, or ends otherwise.
 use Rattle.std.proofs.Common.{◌≡◌, ℕ, subst, Result, Ok, Err}
 use Rattle.std.specs.Prelude.{OnOk}
-use Rattle.bx_audit_trees.specs.declared.error.AuditError.{AuditError}
-use Rattle.bx_audit_trees.specs.declared.error.AuditError.TheVariants.{Torn, Fault, OutOfMemory}
-use Rattle.bx_audit_trees.specs.Errors.{IfTorn, IfTornError}
+use Rattle.bx_audit_pages.specs.declared.error.AuditError.{AuditError}
+use Rattle.bx_audit_pages.specs.declared.error.AuditError.TheVariants.{Torn, Fault, OutOfMemory}
+use Rattle.bx_audit_pages.specs.Errors.{IfTorn, IfTornError}
 
 -- what is never torn is torn for any reason
 pub never_torn : {A : Type 0} (Q : ℕ → ℕ → ℕ → Type 0) (now : Result A AuditError) → IfTorn now (λ at found wanted. ⊥) → IfTorn now Q

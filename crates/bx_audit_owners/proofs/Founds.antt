@@ -4,7 +4,7 @@ use Rattle.std.specs.Prelude.{◌≢◌, ◌==◌, if◌then◌else◌, Contains
 use Rattle.bx_audit_bodies.specs.declared.claims.Claim.{Claim}
 use Rattle.bx_audit_owners.specs.declared.holders.Holder.{Holder}
 use Rattle.bx_audit_owners.specs.declared.holders.Holder.TheVariants.{File as OfFile}
-use Rattle.bx_audit_owners.specs.Holding.{Holdings, holder_by, holder_for, Adds}
+use Rattle.bx_audit_owners.specs.Holding.{Holdings, holder_by, holder_for, AddsHolder}
 use Rattle.bx_audit_owners.specs.Found.{Reading, IsReadSo, IsInode, IsFound}
 use Rattle.bx_layout.specs.declared.inode.Inode.{Inode}
 use Rattle.bx_tree_files.specs.declared.file.File.{File}
@@ -58,7 +58,7 @@ none_found chunks = record {
 }
 
 module _ (chunks : Chunks) (before now : Holdings) (files files_now : List File) (handle : ℕ) (file : Option File) (reading : Reading) (found : IsFound chunks before files)
-    (read : IsReadSo chunks handle file reading) (new : before handle ≡ None) (adds : Adds before handle (holder_for file) reading.claims (length reading.claims) now)
+    (read : IsReadSo chunks handle file reading) (new : before handle ≡ None) (adds : AddsHolder before handle (holder_for file) reading.claims (length reading.claims) now)
     (here : file_at files_now handle ≡ file) (others : (at : ℕ) → at ≢ handle → file_at files_now at ≡ file_at files at) where
   abbrev readings : ℕ → Reading
   readings at = if at == handle then reading else found.readings at

@@ -8,7 +8,7 @@ use Rattle.bx_audit_owners.specs.Walks.{IsWalked, IsWalkedOn}
 use Rattle.bx_audit_owners.proofs.Wholes.{named_chunk, root_chunk, shows_at}
 use Rattle.bx_audit_slots.specs.Told.{IsTold}
 use Rattle.bx_audit_slots.proofs.Numbers.{slot_of}
-use Rattle.bx_audit_trees.specs.Shown.{IsOfSlot, NamesBlock, Shows}
+use Rattle.bx_audit_pages.specs.Shown.{IsOfSlot, NamesBlock, Shows}
 use Rattle.bx_places.specs.Handles.{parts_of}
 use Rattle.bx_layout.specs.declared.block.Block.{Block}
 use Rattle.bx_model.specs.Opening.{root_handle}

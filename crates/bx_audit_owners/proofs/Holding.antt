@@ -7,7 +7,7 @@ use Rattle.std.specs.Map.{lookup}
 use mathlib.Core.Path.{fun_ext}
 use Rattle.bx_audit_bodies.specs.declared.claims.Claim.{Claim}
 use Rattle.bx_audit_owners.specs.declared.holders.Holder.{Holder}
-use Rattle.bx_audit_owners.specs.Holding.{Holdings, holdings_of, holder_by, Puts, HasOther, IsAmong, IsHeldAfter, Adds, Clashes}
+use Rattle.bx_audit_owners.specs.Holding.{Holdings, holdings_of, holder_by, Puts, HasOther, IsAmong, IsHeldAfter, AddsHolder, Clashes}
 use Rattle.bx_truth.proofs.Cases.{same_or}
 
 some_same : {X : Type 0} (x y : X) → Some x ≡ Some y → x ≡ y
@@ -21,7 +21,7 @@ one_there (x ∷ xs) (suc k) a b less = one_there xs k a b (omega (arith, less))
 
 module _ (before : Holdings) (inode : ℕ) (holder : Holder) (claims : List Claim) where
   -- the inode itself
-  pub none_added : (now : Holdings) → Puts before inode holder now → Adds before inode holder claims 0 now
+  pub none_added : (now : Holdings) → Puts before inode holder now → AddsHolder before inode holder claims 0 now
   none_added now puts = record {
     itself = puts.itself;
     each = λ claim there. absurd (omega (arith, there.1));
@@ -52,8 +52,8 @@ module _ (before : Holdings) (inode : ℕ) (holder : Holder) (claims : List Clai
       (below_or there.0 count there.1)
 
   -- one claim more
-  pub one_added : (count : ℕ) (last : Claim) (mid now : Holdings) → slice_index_or claims count last ≡ last → count < length claims → Adds before inode holder claims count mid
-      → Puts mid last.handle (holder_by inode last.piece) now → Adds before inode holder claims (count + 1) now
+  pub one_added : (count : ℕ) (last : Claim) (mid now : Holdings) → slice_index_or claims count last ≡ last → count < length claims → AddsHolder before inode holder claims count mid
+      → Puts mid last.handle (holder_by inode last.piece) now → AddsHolder before inode holder claims (count + 1) now
   one_added count last mid now is within adds puts = record {
     itself = kept inode holder adds.itself;
     each = λ claim there. ⊎_elim
@@ -74,7 +74,7 @@ module _ (before : Holdings) (inode : ℕ) (holder : Holder) (claims : List Clai
           (same_or at last.handle)
 
   -- a claim of a chunk that has another holder
-  pub one_clash : (count : ℕ) (last : Claim) (mid : Holdings) → slice_index_or claims count last ≡ last → count < length claims → Adds before inode holder claims count mid
+  pub one_clash : (count : ℕ) (last : Claim) (mid : Holdings) → slice_index_or claims count last ≡ last → count < length claims → AddsHolder before inode holder claims count mid
       → HasOther mid last.handle (holder_by inode last.piece) → Clashes before inode holder claims
   one_clash count last mid is within adds has = record {
     claim = last;
@@ -89,7 +89,7 @@ module _ (before : Holdings) (inode : ℕ) (holder : Holder) (claims : List Clai
   }
 
   -- which is the one that is wanted
-  pub clash_wanted : (count : ℕ) (last : Claim) (mid : Holdings) (wanted : ℕ) → slice_index_or claims count last ≡ last → count < length claims → Adds before inode holder claims count mid
+  pub clash_wanted : (count : ℕ) (last : Claim) (mid : Holdings) (wanted : ℕ) → slice_index_or claims count last ≡ last → count < length claims → AddsHolder before inode holder claims count mid
       → HasOther mid last.handle (holder_by inode last.piece) × (wanted ≡ last.handle) → (clash : Clashes before inode holder claims) × (wanted ≡ clash.claim.handle)
   unfolding one_clash
   clash_wanted count last mid wanted is within adds has = (one_clash count last mid is within adds has.0, has.1)

@@ -7,7 +7,7 @@ use Rattle.bx_audit_slots.specs.declared.own_blocks.OwnBlock.TheVariants.{Slots,
 use Rattle.bx_audit_owners.specs.Holding.{Holdings}
 use Rattle.bx_audit_slots.specs.OwnBlocks.{AreOwn}
 use Rattle.bx_audit_owners.specs.Words.{AreWorded, HasWord, IsFirstTornIn, IsFirstWrongAt, IsInOwn, IsRightOwn, IsTornIn, IsTornOwn, IsWrongAt, IsWrongOwn, IsWrongWord}
-use Rattle.bx_audit_trees.specs.Shown.{IsOfSlot}
+use Rattle.bx_audit_pages.specs.Shown.{IsOfSlot}
 use Rattle.bx_places.specs.Handles.{parts_of}
 use Rattle.bx_homes.specs.Slots.{HasHandle}
 use Rattle.bx_layout.specs.declared.block.Block.{Block}

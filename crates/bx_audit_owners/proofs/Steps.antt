@@ -6,7 +6,7 @@ use Rattle.bx_audit_bodies.specs.Reading.{IsReadAs, IsStored}
 use Rattle.bx_audit_owners.specs.declared.holders.Holder.{Holder}
 use Rattle.bx_audit_owners.specs.declared.holders.Holder.TheVariants.{File as OfFile}
 use Rattle.bx_audit_owners.specs.Found.{Reading, IsReadSo, IsFound, HaveNoFiles}
-use Rattle.bx_audit_owners.specs.Holding.{Holdings, Adds, Clashes, holder_for}
+use Rattle.bx_audit_owners.specs.Holding.{Holdings, AddsHolder, Clashes, holder_for}
 use Rattle.bx_audit_owners.proofs.Founds.{one_found}
 use Rattle.bx_audit_owners.proofs.InOrder.{with_here, with_other}
 use Rattle.bx_audit_owners.proofs.Owners.{owner_in, owner_same, found_owner, no_clash}
@@ -23,12 +23,12 @@ holder_or None is = absurd (is refl)
 holder_or (Some x) is = (x, refl)
 
 -- what was held still is
-pub still_held : (before now : Holdings) (handle : ℕ) (holder : Holder) (claims : List Claim) (count : ℕ) → Adds before handle holder claims count now → (at : ℕ) → before at ≢ None → now at ≢ None
+pub still_held : (before now : Holdings) (handle : ℕ) (holder : Holder) (claims : List Claim) (count : ℕ) → AddsHolder before handle holder claims count now → (at : ℕ) → before at ≢ None → now at ≢ None
 still_held before now handle holder claims count adds at was none =
     let x = holder_or (before at) was in
     none_some (now at) x.0 none (adds.still at x.0 x.1)
 
-pub now_held : (before now : Holdings) (handle : ℕ) (holder : Holder) (claims : List Claim) (count : ℕ) → Adds before handle holder claims count now → now handle ≢ None
+pub now_held : (before now : Holdings) (handle : ℕ) (holder : Holder) (claims : List Claim) (count : ℕ) → AddsHolder before handle holder claims count now → now handle ≢ None
 now_held before now handle holder claims count adds none = none_some (now handle) holder none adds.itself
 
 module _ (chunks : Chunks) (before : Holdings) (files : List File) (handle : ℕ) (claims : List Claim) (found : IsFound chunks before files) where
@@ -46,7 +46,7 @@ module _ (chunks : Chunks) (before : Holdings) (files : List File) (handle : ℕ
       by (Some f) is = absurd (none_some (before handle) OfFile new (found.is_file handle f is))
 
   -- an inode that was read is put beside what was found
-  pub with_inode : (now : Holdings) (files_now : List File) (file : Option File) → IsReadAs chunks handle file claims → before handle ≡ None → Adds before handle (holder_for file) claims (length claims) now
+  pub with_inode : (now : Holdings) (files_now : List File) (file : Option File) → IsReadAs chunks handle file claims → before handle ≡ None → AddsHolder before handle (holder_for file) claims (length claims) now
       → IfSome file (λ f. files_now ≡ with_file files f) → IfNone file (files_now ≡ files) → IsFound chunks now files_now
   with_inode now files_now None read new adds some none =
       one_found chunks before now files files_now handle None (reading_of None read) found (is_so None read) new adds

@@ -11,7 +11,7 @@ use Rattle.bx_audit_bodies.proofs.Members.{contains_map, from_map}
 use Rattle.bx_audit_owners.specs.declared.holders.Holder.{Holder}
 use Rattle.bx_audit_owners.specs.declared.holders.Holder.TheVariants.{File as OfFile, Dead as OfDead, Page as OfPage, Piece as OfPiece}
 use Rattle.bx_audit_owners.specs.Found.{IsFound, IsInode}
-use Rattle.bx_audit_owners.specs.Holding.{Adds, Holdings, IsHeldAfter, holder_by}
+use Rattle.bx_audit_owners.specs.Holding.{AddsHolder, Holdings, IsHeldAfter, holder_by}
 use Rattle.bx_audit_owners.specs.Walks.{HaveNoTree, HaveTree, IsDeadMet, IsFileAt, IsMet, IsTaken, IsTakenFile, IsUnread, IsWalked, IsWrongMet, Meets, Again, New, Root, Named}
 use Rattle.bx_audit_owners.proofs.Founds.{none_found}
 use Rattle.bx_audit_owners.proofs.Holding.{one_there}
@@ -104,12 +104,12 @@ live_has_no_dead chunks handle (Some file) claims some read owner stored is =
     none_some None file refl only.same_file
 
 -- a file that was read has its handle
-pub file_named : (chunks : Chunks) (before now : Holdings) (handle : ℕ) (file : File) (claims : List Claim) → IsReadAs chunks handle (Some file) claims → Adds before handle OfFile claims (length claims) now → file.handle ≡ handle
+pub file_named : (chunks : Chunks) (before now : Holdings) (handle : ℕ) (file : File) (claims : List Claim) → IsReadAs chunks handle (Some file) claims → AddsHolder before handle OfFile claims (length claims) now → file.handle ≡ handle
 file_named chunks before now handle file claims read adds =
     (read.is (found_owner now) (λ claim there. ap owner_in (adds.each claim there) ∙ owner_same handle claim.piece)).file.0
 
 -- the inode of a file and its claims bring no dead one
-pub none_dead : (before now : Holdings) (handle : ℕ) (claims : List Claim) (count : ℕ) → Adds before handle OfFile claims count now → (at : ℕ) → now at ≡ Some OfDead → before at ≡ Some OfDead
+pub none_dead : (before now : Holdings) (handle : ℕ) (claims : List Claim) (count : ℕ) → AddsHolder before handle OfFile claims count now → (at : ℕ) → now at ≡ Some OfDead → before at ≡ Some OfDead
 none_dead before now handle claims count adds at dead = by (adds.only at OfDead dead)
   where
     no_claim : (piece : Option ℕ) → OfDead ≡ holder_by handle piece → ⊥

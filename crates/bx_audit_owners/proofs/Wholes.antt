@@ -17,7 +17,7 @@ use Rattle.bx_audit_slots.proofs.Numbers.{slot_of}
 use Rattle.bx_audit_owners.proofs.Steps.{clash_has_none}
 use Rattle.bx_audit_owners.proofs.Walking.{live_has_no_dead, other_has_no_dead}
 use Rattle.bx_audit_owners.proofs.Owners.{owner_in, owns_itself, found_owner, found_stored, no_file, stored_here, only_here, agrees, unowned}
-use Rattle.bx_audit_trees.specs.Shown.{IsOfSlot, NamesBlock, Shows}
+use Rattle.bx_audit_pages.specs.Shown.{IsOfSlot, NamesBlock, Shows}
 use Rattle.bx_homes.specs.Slots.{AreBlocks}
 use Rattle.bx_layout.specs.declared.block.Block.{Block}
 use Rattle.bx_layout.specs.Areas.{in_use, generation_in}

@@ -57,7 +57,7 @@ IsHeldAfter before inode holder claims count at held =
     (before at ≡ Some held) ⊎ (((at ≡ inode) × (held ≡ holder)) ⊎ ((claim : Claim) × IsAmong claims count claim × (at ≡ claim.handle) × (held ≡ holder_by inode claim.piece)))
 
 -- an inode and so many of its claims are put beside what was found before
-pub record Adds (before : Holdings) (inode : ℕ) (holder : Holder) (claims : List Claim) (count : ℕ) (now : Holdings) : Type 0 where
+pub record AddsHolder (before : Holdings) (inode : ℕ) (holder : Holder) (claims : List Claim) (count : ℕ) (now : Holdings) : Type 0 where
   pub itself : now inode ≡ Some holder
   pub each : (claim : Claim) → IsAmong claims count claim → now claim.handle ≡ Some (holder_by inode claim.piece)
   pub still : (at : ℕ) (held : Holder) → before at ≡ Some held → now at ≡ Some held
@@ -70,7 +70,7 @@ pub record Clashes (before : Holdings) (inode : ℕ) (holder : Holder) (claims :
   pub there : place < length claims
   pub is : slice_index_or claims place claim ≡ claim
   pub earlier : Holdings
-  pub put : Adds before inode holder claims place earlier
+  pub put : AddsHolder before inode holder claims place earlier
   pub other : Holder
   pub held : earlier claim.handle ≡ Some other
   pub apart : other ≡ holder_by inode claim.piece → ⊥

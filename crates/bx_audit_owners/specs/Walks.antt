@@ -8,7 +8,7 @@ use Rattle.bx_audit_owners.specs.declared.holders.Holder.TheVariants.{File as Of
 use Rattle.bx_audit_owners.specs.declared.walks.Walked.{Walked}
 use Rattle.bx_audit_owners.specs.Found.{AreOrdered, HaveFiles, IsFound}
 use Rattle.bx_audit_owners.specs.Holding.{Clashes, Holdings, holdings_of}
-use Rattle.bx_audit_trees.specs.Shown.{Shows}
+use Rattle.bx_audit_pages.specs.Shown.{Shows}
 use Rattle.bx_layout.specs.declared.block.Block.{Block}
 use Rattle.bx_model.specs.declared.tree.Tree.{Tree}
 use Rattle.bx_model.specs.FileTrees.{IsFileTree}

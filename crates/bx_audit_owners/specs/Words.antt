@@ -6,7 +6,7 @@ use Rattle.bx_audit_slots.specs.declared.own_blocks.OwnBlock.{OwnBlock}
 use Rattle.bx_audit_slots.specs.declared.own_blocks.OwnBlock.TheVariants.{Slots, Wrong}
 use Rattle.bx_audit_owners.specs.Holding.{Holdings}
 use Rattle.bx_audit_owners.specs.Walks.{IsMet}
-use Rattle.bx_audit_trees.specs.Shown.{IsOfSlot}
+use Rattle.bx_audit_pages.specs.Shown.{IsOfSlot}
 use Rattle.bx_places.specs.declared.chunk_handle.ChunkHandle.{ChunkHandle}
 use Rattle.bx_places.specs.Handles.{number_of, own_handle, parts_of}
 use Rattle.bx_homes.specs.Slots.{HasHandle}

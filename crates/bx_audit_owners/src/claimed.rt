@@ -4,18 +4,18 @@ ghost use Rattle.std.specs.Prelude.{◌≡◌, ◌⊎◌, length, IfOk, None, So
 ghost use Rattle.bx_audit_bodies.specs.Outlines.{AreRight, IsFileOutline, IsUnreadFile};
 ghost use Rattle.bx_audit_bodies.specs.Reading.{AreEntriesApart, IsReadAs};
 ghost use Rattle.bx_audit_owners.specs.declared.holders.Holder.TheVariants.{File as OfFile};
-ghost use Rattle.bx_audit_owners.specs.Holding.{Adds, holdings_of};
+ghost use Rattle.bx_audit_owners.specs.Holding.{AddsHolder, holdings_of};
 ghost use Rattle.bx_audit_owners.specs.Walks.{IsTakenFile};
-ghost use Rattle.bx_audit_trees.specs.Errors.{IfTorn};
-ghost use Rattle.bx_audit_trees.specs.Reading.{ReadsChunks, StillShows};
-ghost use Rattle.bx_audit_trees.specs.Shown.{Shows};
+ghost use Rattle.bx_audit_pages.specs.Errors.{IfTorn};
+ghost use Rattle.bx_audit_pages.specs.Reading.{ReadsChunks, StillShows};
+ghost use Rattle.bx_audit_pages.specs.Shown.{Shows};
 ghost use Rattle.bx_homes.specs.Reading.{CanRead};
 ghost use Rattle.bx_tree_files.specs.Files.{IsFile};
 ghost use Rattle.bx_truth.specs.PageTrees.{Chunks};
 
 use crate::holders::{Holder, Holders, put_inode};
 use bx_audit_bodies::{FileOutline, check_file, file_of};
-use bx_audit_trees::AuditError;
+use bx_audit_pages::AuditError;
 use bx_homes::Blocks;
 use bx_tree_files::File;
 use std::alloc::Global;
@@ -35,7 +35,7 @@ pub(crate) fn claimed_file<B: Blocks>(
     requires new { holdings_of holders.old outline.handle ≡ None }
     ensures ok { (chunks : Chunks) → Shows (B.tells blocks.old) areas (B.stands blocks.old) chunks → IsFileOutline chunks outline
         → IfOk result (λ file. IsReadAs chunks outline.handle (Some file) outline.claims.items) }
-    ensures adds { IfOk result (λ file. Adds (holdings_of holders.old) outline.handle OfFile outline.claims.items (length outline.claims.items) (holdings_of holders.new)) }
+    ensures adds { IfOk result (λ file. AddsHolder (holdings_of holders.old) outline.handle OfFile outline.claims.items (length outline.claims.items) (holdings_of holders.new)) }
     ensures is { IfOk result IsFile }
     ensures apart { IfOk result (λ file. AreEntriesApart file.body) }
     ensures torn { (chunks : Chunks) → Shows (B.tells blocks.old) areas (B.stands blocks.old) chunks → IsFileOutline chunks outline

@@ -7,17 +7,17 @@ ghost use Rattle.bx_audit_owners.specs.declared.holders.Holder.TheVariants.{Dead
 ghost use Rattle.bx_audit_owners.specs.Dead.{IsNoDead, IsNoDeadOf};
 ghost use Rattle.bx_audit_owners.specs.Found.{IsFound};
 ghost use Rattle.bx_audit_owners.specs.Holding.{holdings_of};
-ghost use Rattle.bx_audit_trees.specs.Errors.{IfTorn};
-ghost use Rattle.bx_audit_trees.specs.Reading.{ReadsChunks, StillShows};
-ghost use Rattle.bx_audit_trees.specs.Shown.{Shows};
+ghost use Rattle.bx_audit_pages.specs.Errors.{IfTorn};
+ghost use Rattle.bx_audit_pages.specs.Reading.{ReadsChunks, StillShows};
+ghost use Rattle.bx_audit_pages.specs.Shown.{Shows};
 ghost use Rattle.bx_homes.specs.Reading.{CanRead};
 ghost use Rattle.bx_tree_files.specs.declared.file.File.{File};
 ghost use Rattle.bx_truth.specs.PageTrees.{Chunks};
 
 use crate::holders::{Holder, Holders, has_holder, put_inode};
 use bx_audit_bodies::{Outline, check_file, outline_of};
+use bx_audit_pages::{AuditError, torn_at};
 use bx_audit_slots::UsedSlot;
-use bx_audit_trees::{AuditError, torn_at};
 use bx_homes::Blocks;
 use std::alloc::Global;
 

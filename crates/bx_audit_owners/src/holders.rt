@@ -3,14 +3,14 @@
 ghost use Rattle.std.specs.Prelude.{◌≡◌, ◌↔◌, Contains, length, if◌then◌else◌, IfOk, IsErrOf, IsFalse, IsTrue, None, OnOk, Some};
 ghost use Rattle.bx_audit_slots.specs.declared.slots.UsedSlot.{UsedSlot as Used};
 ghost use Rattle.bx_audit_owners.specs.declared.holders.Holder.TheVariants.{Dead as OfDead};
-ghost use Rattle.bx_audit_owners.specs.Holding.{Adds, Clashes, HasOther, IsHeld, IsTornSlot, Puts, holder_by, holdings_of};
-ghost use Rattle.bx_audit_trees.specs.declared.error.AuditError.TheVariants.{Fault as DiskFailed, Torn};
-ghost use Rattle.bx_audit_trees.specs.Errors.{IfTorn};
+ghost use Rattle.bx_audit_owners.specs.Holding.{AddsHolder, Clashes, HasOther, IsHeld, IsTornSlot, Puts, holder_by, holdings_of};
+ghost use Rattle.bx_audit_pages.specs.declared.error.AuditError.TheVariants.{Fault as DiskFailed, Torn};
+ghost use Rattle.bx_audit_pages.specs.Errors.{IfTorn};
 ghost use Rattle.bx_truth.specs.Chunks.{block_at};
 
 use bx_audit_bodies::Claim;
+use bx_audit_pages::{AuditError, torn_at};
 use bx_audit_slots::UsedSlot;
-use bx_audit_trees::{AuditError, torn_at};
 use bx_places::ChunkHandle;
 use std::collections::BTreeMap;
 
@@ -38,7 +38,7 @@ pub(crate) fn put_inode(
     claims: &[Claim],
 ) -> Result<(), AuditError>
     requires { holdings_of holders.old inode ≡ None }
-    ensures ok { OnOk result (Adds (holdings_of holders.old) inode holder claims.now (length claims.now) (holdings_of holders.new)) }
+    ensures ok { OnOk result (AddsHolder (holdings_of holders.old) inode holder claims.now (length claims.now) (holdings_of holders.new)) }
     ensures torn { IfTorn result (λ at found wanted. (clash : Clashes (holdings_of holders.old) inode holder claims.now) × (wanted ≡ clash.claim.handle)) }
     ensures no_fault { IsErrOf result DiskFailed → ⊥ }
 {

@@ -4,17 +4,17 @@ ghost use Rattle.std.specs.Prelude.{◌≢◌, ◌<◌, ℕ, All, IsTrue, IsFals
 ghost use Rattle.bx_audit_owners.specs.Holding.{holdings_of};
 ghost use Rattle.bx_audit_owners.specs.Words.{AreWorded, IsFirstTornIn, IsFirstWrongAt, IsIn, IsInOwn, IsRightOwn, IsTornIn, IsTornOwn};
 ghost use Rattle.bx_audit_slots.specs.OwnBlocks.{HasArea};
-ghost use Rattle.bx_audit_trees.specs.Reading.{ReadsChunks};
+ghost use Rattle.bx_audit_pages.specs.Reading.{ReadsChunks};
 ghost use Rattle.bx_places.specs.Handles.{parts_of};
-ghost use Rattle.bx_audit_trees.specs.declared.error.AuditError.TheVariants.{Fault as DiskFailed};
-ghost use Rattle.bx_audit_trees.specs.Errors.{IfTorn};
+ghost use Rattle.bx_audit_pages.specs.declared.error.AuditError.TheVariants.{Fault as DiskFailed};
+ghost use Rattle.bx_audit_pages.specs.Errors.{IfTorn};
 ghost use Rattle.bx_homes.specs.Reading.{CanRead};
 ghost use Rattle.bx_layout.specs.Areas.{IsArea};
 
 use crate::holders::Holders;
 use crate::walks::Walked;
+use bx_audit_pages::{AuditError, torn_at};
 use bx_audit_slots::{OwnBlock, read_own_blocks};
-use bx_audit_trees::{AuditError, torn_at};
 use bx_homes::Blocks;
 use bx_layout::AreaBlock;
 use bx_places::{ChunkHandle, SLOTS};

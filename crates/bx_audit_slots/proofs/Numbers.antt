@@ -4,7 +4,7 @@ use Rattle.bx_audit_slots.specs.declared.slots.UsedSlot.{UsedSlot}
 use Rattle.bx_audit_slots.specs.Numbers.{IsBlockOf, IsToldOf}
 use Rattle.bx_audit_slots.specs.UsedSlots.{AreUsed, IsHandleOf}
 use Rattle.bx_audit_slots.proofs.InUse.{header_is}
-use Rattle.bx_audit_trees.specs.Shown.{IsOfSlot}
+use Rattle.bx_audit_pages.specs.Shown.{IsOfSlot}
 use Rattle.bx_homes.specs.Slots.{HasHandle}
 use Rattle.bx_layout.specs.declared.block.Block.{Block}
 use Rattle.bx_truth.specs.Chunks.{IsChunked, IsSlot, block_at}

@@ -1,6 +1,6 @@
 -- The numbers that are told of a chunk that is torn.
 use Rattle.std.specs.Prelude.{◌≡◌, ℕ}
-use Rattle.bx_audit_trees.specs.Shown.{IsOfSlot}
+use Rattle.bx_audit_pages.specs.Shown.{IsOfSlot}
 use Rattle.bx_homes.specs.Slots.{HasHandle}
 use Rattle.bx_layout.specs.declared.block.Block.{Block}
 use Rattle.bx_truth.specs.Chunks.{block_at}

@@ -2,14 +2,14 @@
 
 ghost use Rattle.std.specs.Prelude.{◌<◌, ◌≤◌, All, IfOk, IfSome, IfNone};
 ghost use Rattle.bx_audit_slots.specs.OwnBlocks.{AreOwn, HasArea, TellsOwn};
-ghost use Rattle.bx_audit_trees.specs.Errors.{IfTorn};
+ghost use Rattle.bx_audit_pages.specs.Errors.{IfTorn};
 ghost use Rattle.bx_homes.specs.Slots.{StaysSo};
 ghost use Rattle.bx_layout.specs.Areas.{SpellsArea};
 ghost use Rattle.bx_truth.specs.Chunks.{IsAreaBlock};
-ghost use Rattle.bx_audit_trees.specs.Reading.{ReadsChunks};
+ghost use Rattle.bx_audit_pages.specs.Reading.{ReadsChunks};
 ghost use Rattle.bx_homes.specs.Reading.{CanRead};
 
-use bx_audit_trees::AuditError;
+use bx_audit_pages::AuditError;
 use bx_base::OutOfMemory;
 use bx_homes::Blocks;
 use bx_layout::{AreaBlock, Block};

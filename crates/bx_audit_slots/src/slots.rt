@@ -3,16 +3,16 @@
 ghost use Rattle.std.specs.Prelude.{◌+◌, ◌*◌, ◌<◌, ◌≤◌, ℕ, IfOk, OnOk, IsErrOf};
 ghost use Rattle.bx_audit_slots.specs.Told.{IsTold};
 ghost use Rattle.bx_audit_slots.specs.UsedSlots.{AreUsed, AreUsedBelow, IsFreeMarked};
-ghost use Rattle.bx_audit_trees.specs.declared.error.AuditError.TheVariants.{Fault as DiskFailed};
-ghost use Rattle.bx_audit_trees.specs.Errors.{IfTorn};
+ghost use Rattle.bx_audit_pages.specs.declared.error.AuditError.TheVariants.{Fault as DiskFailed};
+ghost use Rattle.bx_audit_pages.specs.Errors.{IfTorn};
 ghost use Rattle.bx_layout.specs.Areas.{IsArea, SpellsArea};
 ghost use Rattle.bx_truth.specs.Chunks.{own_block};
 ghost use Rattle.bx_views.specs.Truths.{Truth};
-ghost use Rattle.bx_audit_trees.specs.Reading.{ReadsChunks};
+ghost use Rattle.bx_audit_pages.specs.Reading.{ReadsChunks};
 ghost use Rattle.bx_homes.specs.Reading.{CanRead};
 
 use crate::own_blocks::{OwnBlock, own_block};
-use bx_audit_trees::AuditError;
+use bx_audit_pages::AuditError;
 use bx_homes::Blocks;
 use bx_layout::AreaBlock;
 use bx_places::{ChunkHandle, SLOTS};

@@ -7,7 +7,7 @@ use Rattle.std.proofs.lemmas.List.Concat.{flat_map-append}
 use Rattle.bx_page.specs.declared.entry.Entry.{Entry}
 use Rattle.bx_page.specs.Keys.{is_below, IsBelow}
 use Rattle.bx_page.proofs.Order.{below_trans, not_below_itself}
-use Rattle.bx_truth.specs.PageTrees.{Node, Leads, IsChain, entries_of}
+use Rattle.bx_truth.specs.PageTrees.{Node, PagesLead, IsChain, entries_of}
 use Rattle.bx_blink.proofs.Keys.{le_lt, lt_le, le_le, lt_not}
 use Rattle.bx_blink.proofs.Entries.{Surrounds}
 
@@ -21,7 +21,7 @@ none_here : {X : Type 0} (P : X → Type 0) → All P []
 none_here P = λ k d lt. elim lt [ ]
 
 -- all that is behind a page is not below any key that its high key isn't below
-pub behind_not_below : (low high : List ℕ) (node : Node) (rest : List Node) → Leads node rest → AllByRecursion IsRange rest → node.page.high ≡ Some high → is_below high low ≡ false
+pub behind_not_below : (low high : List ℕ) (node : Node) (rest : List Node) → PagesLead node rest → AllByRecursion IsRange rest → node.page.high ≡ Some high → is_below high low ≡ false
     → All (λ entry. is_below entry.key low ≡ false) (entries_of rest)
 behind_not_below low high node [] leads ranges is le = none_here (λ (entry : Entry). is_below entry.key low ≡ false)
 behind_not_below low high node (next ∷ []) leads ranges is le =
@@ -43,7 +43,7 @@ pub record Before (node : Node) (x : Node) (before : List Node) : Type 0 where
   pub begins : IsBelow x.begins node.begins
   pub entries : All (λ entry. IsBelow entry.key node.begins) (x.page.entries ++ entries_of before)
 
-pub all_before : (x : Node) (before : List Node) (node : Node) (behind : List Node) → Leads x (before ++ node ∷ behind) → AllByRecursion IsRange (x ∷ (before ++ node ∷ behind)) → Before node x before
+pub all_before : (x : Node) (before : List Node) (node : Node) (behind : List Node) → PagesLead x (before ++ node ∷ behind) → AllByRecursion IsRange (x ∷ (before ++ node ∷ behind)) → Before node x before
 all_before x [] node behind leads ranges =
     record {
       begins = rw leads.0.high at ranges.0.highest;
@@ -61,11 +61,11 @@ all_before x (y ∷ ys) node behind leads ranges =
     }
 
 -- a page leads to what is behind it
-pub leads_at : (x : Node) (before : List Node) (node : Node) (behind : List Node) → Leads x (before ++ node ∷ behind) → Leads node behind
+pub leads_at : (x : Node) (before : List Node) (node : Node) (behind : List Node) → PagesLead x (before ++ node ∷ behind) → PagesLead node behind
 leads_at x [] node behind leads = leads.1
 leads_at x (y ∷ ys) node behind leads = leads_at y ys node behind leads.1
 
-pub leads_in : (before : List Node) (node : Node) (behind : List Node) → IsChain (before ++ node ∷ behind) → Leads node behind
+pub leads_in : (before : List Node) (node : Node) (behind : List Node) → IsChain (before ++ node ∷ behind) → PagesLead node behind
 leads_in [] node behind chain = chain.1
 leads_in (x ∷ before) node behind chain = leads_at x before node behind chain.1
 
@@ -88,7 +88,7 @@ surrounds key before node behind chain ranges covers = record { before = front b
     front (x ∷ xs) chain ranges =
         All-weaker (λ (e : Entry). IsBelow e.key node.begins) (λ (e : Entry). IsBelow e.key key) (λ e h. lt_le e.key node.begins key h covers.from) (entries_of (x ∷ xs)) (all_before x xs node behind chain.1 ranges).entries
 
-    back : (behind : List Node) → Leads node behind → AllByRecursion IsRange (node ∷ behind) → All (λ (e : Entry). IsBelow key e.key) (entries_of behind)
+    back : (behind : List Node) → PagesLead node behind → AllByRecursion IsRange (node ∷ behind) → All (λ (e : Entry). IsBelow key e.key) (entries_of behind)
     back [] leads ranges = none_here (λ (e : Entry). IsBelow key e.key)
     back (next ∷ more) leads ranges =
         let lt : IsBelow key next.begins = rw leads.0.high at covers.to in

@@ -7,7 +7,7 @@ use Rattle.bx_base.specs.declared.names.Mode.{Mode}
 use Rattle.bx_page.specs.Keys.{is_below, IsBelow}
 use Rattle.bx_page.specs.Contents.{last}
 use Rattle.bx_blink.specs.declared.steps.Spot.{Spot}
-use Rattle.bx_truth.specs.PageTrees.{Chunks, Node, IsIn, IsNode, Leads, NamesChild, PageTree, IsTree}
+use Rattle.bx_truth.specs.PageTrees.{Chunks, Node, IsIn, IsNode, PagesLead, NamesChild, PageTree, IsTree}
 use Rattle.bx_blink.specs.Walks.{Reads, passes, child_of, mode_at, onward}
 use Rattle.bx_blink.specs.Hints.{HintsAgree}
 use Rattle.bx_blink.proofs.Chains.{leads_in}
@@ -37,10 +37,10 @@ module _ (areas : ℕ) (reads : Reads) (chunks : Chunks) (root : ℕ) (tree : Pa
       → After hints.home root hints.most tree target key (record { level = rank; begins = node.begins }) (onward target asked key spot None node.page)
   from_page spot rank level node ranked within there handle_is enough from true goes t level_is = rw goes (by_behind there.behind there.parts (leads_in there.before node there.behind (rw there.parts at (is.levels level within).chain)))
     where
-      homed : (next : Node) (more : List Node) → tree.level level ≡ there.before ++ node ∷ (next ∷ more) → Leads node (next ∷ more) → hints.home node.page.right ≡ Some (record { level = level; begins = next.begins })
+      homed : (next : Node) (more : List Node) → tree.level level ≡ there.before ++ node ∷ (next ∷ more) → PagesLead node (next ∷ more) → hints.home node.page.right ≡ Some (record { level = level; begins = next.begins })
       homed next more parts l = ap hints.home l.0.right ∙ hints.placed level next (not_top level node next there.before more within parts) (record { before = there.before ++ node ∷ []; behind = more; parts = parts ∙ sym (append_assoc there.before (node ∷ []) (next ∷ more)) })
 
-      by_behind : (behind : List Node) → tree.level level ≡ there.before ++ node ∷ behind → Leads node behind → IsOnWay hints.home root hints.most tree target key (Some (record { level = rank; begins = node.begins })) (record { handle = node.page.right; via = None; mode = mode_at target asked node.page.level })
+      by_behind : (behind : List Node) → tree.level level ≡ there.before ++ node ∷ behind → PagesLead node behind → IsOnWay hints.home root hints.most tree target key (Some (record { level = rank; begins = node.begins })) (record { handle = node.page.right; via = None; mode = mode_at target asked node.page.level })
       by_behind [] parts last = absurd (passes_last node.page key last goes)
       by_behind (next ∷ more) parts l = record {
         level = level;

@@ -8,7 +8,7 @@ use Rattle.bx_page.specs.Keys.{is_below}
 use Rattle.bx_page.specs.Contents.{Contents, first, from}
 use Rattle.bx_page.proofs.Order.{not_below_itself}
 use Rattle.bx_page.proofs.Cuts.{filter_all}
-use Rattle.bx_truth.specs.PageTrees.{Chunks, Node, IsIn, Leads, PageTree, IsTree, entries_of, map_of}
+use Rattle.bx_truth.specs.PageTrees.{Chunks, Node, IsIn, PagesLead, PageTree, IsTree, entries_of, map_of}
 use Rattle.bx_blink.specs.Leaves.{IsLeafOf, IsNextLeaf, behind_leaf}
 use Rattle.bx_blink.specs.Places.{IsPlaceOf}
 use Rattle.bx_blink.proofs.Entries.{from_within}
@@ -40,14 +40,14 @@ module _ (chunks : Chunks) (root : ℕ) (tree : PageTree) (is : IsTree chunks ro
   behind : (key : List ℕ) (handle : ℕ) (page : Contents) (p : IsPlaceOf tree 0 key handle page) → first (from page.entries key) ≡ None → from (map_of tree) key ≡ entries_of (p.there).behind
   behind key handle page p e = from_here key handle page p ∙ ap (λ (es : List Entry). es ++ entries_of (p.there).behind) (first_none (from page.entries key) e)
 
-  chained : (key : List ℕ) (handle : ℕ) (page : Contents) (p : IsPlaceOf tree 0 key handle page) → Leads p.node (p.there).behind
+  chained : (key : List ℕ) (handle : ℕ) (page : Contents) (p : IsPlaceOf tree 0 key handle page) → PagesLead p.node (p.there).behind
   chained key handle page p = leads_in (p.there).before p.node (p.there).behind (rw (p.there).parts at (is.levels 0 p.within).chain)
 
   -- where it has no high key, there is nothing behind it
   none_behind : (key : List ℕ) (handle : ℕ) (page : Contents) (p : IsPlaceOf tree 0 key handle page) → page.high ≡ None → entries_of (p.there).behind ≡ []
   none_behind key handle page p high = by_behind (p.there).behind (chained key handle page p)
     where
-      by_behind : (nodes : List Node) → Leads p.node nodes → entries_of nodes ≡ []
+      by_behind : (nodes : List Node) → PagesLead p.node nodes → entries_of nodes ≡ []
       by_behind [] l = refl
       by_behind (next ∷ more) l = absurd (none_some next.begins (sym high ∙ ap (λ (c : Contents). c.high) (sym p.page_is) ∙ l.0.high))
 
@@ -59,7 +59,7 @@ module _ (chunks : Chunks) (root : ℕ) (tree : PageTree) (is : IsTree chunks ro
       node_high : (p.node).page.high ≡ Some high
       node_high = ap (λ (c : Contents). c.high) p.page_is ∙ is_high
 
-      by_behind : (nodes : List Node) → tree.level 0 ≡ (p.there).before ++ p.node ∷ nodes → Leads p.node nodes → (entries_of nodes ≡ from (map_of tree) high) × IsLeafOf tree high page.right
+      by_behind : (nodes : List Node) → tree.level 0 ≡ (p.there).before ++ p.node ∷ nodes → PagesLead p.node nodes → (entries_of nodes ≡ from (map_of tree) high) × IsLeafOf tree high page.right
       by_behind [] parts l = absurd (none_some high (sym l.high ∙ node_high))
       by_behind (next ∷ more) parts l =
           let there : IsIn next (tree.level 0) = record { before = (p.there).before ++ p.node ∷ []; behind = more; parts = parts ∙ sym (append_assoc (p.there).before (p.node ∷ []) (next ∷ more)) } in

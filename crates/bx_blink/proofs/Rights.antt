@@ -17,7 +17,7 @@ use Rattle.bx_blink.specs.declared.steps.Out.TheVariants.{Goes, Stops}
 use Rattle.bx_truth.specs.PageTrees.{Chunks, Node, IsIn, HasPage, PageTree, IsTree}
 use Rattle.bx_blink.specs.Walks.{Reads, IsTaken, Finds, passes, onward, strayed, decide, Follows, Ends, start}
 use Rattle.bx_truth.specs.Chunks.{block_at}
-use Rattle.bx_blink.specs.Hints.{Sees, Place, IsOld, StandsAt, HintsAgree}
+use Rattle.bx_blink.specs.Hints.{Sees, Place, IsOld, PlaceStands, HintsAgree}
 use Rattle.bx_blink.proofs.OnWay.{Onto, known, old, IsOnWay, After, IsRightEnd}
 use Rattle.bx_blink.proofs.Handles.{alone, le_same, le_le_nat, handle_is, not_below_empty}
 use Rattle.bx_blink.proofs.FromPages.{from_page}
@@ -25,7 +25,7 @@ use Rattle.bx_blink.proofs.FromHints.{from_hint}
 
 module _ (areas : ℕ) (reads : Reads) (chunks : Chunks) (root : ℕ) (tree : PageTree) (target : ℕ) (asked : Mode) (key : List ℕ) (sees : Sees areas reads chunks) (is : IsTree chunks root tree) (hints : HintsAgree areas reads.hint chunks root tree) where
   -- a page in use that a walk is at is a page of the tree
-  pub stands : (spot : Spot) (level : ℕ) (begins : List ℕ) (block : Block) → Onto hints.home tree spot level begins → chunks spot.handle ≡ Some block → StandsAt tree spot.handle (record { level = level; begins = begins })
+  pub stands : (spot : Spot) (level : ℕ) (begins : List ℕ) (block : Block) → Onto hints.home tree spot level begins → chunks spot.handle ≡ Some block → PlaceStands tree spot.handle (record { level = level; begins = begins })
   stands spot level begins block (known node there within handle_is begins_is) chunk = record { node = node; within = within; there = there; handle_is = handle_is; begins_is = begins_is }
   stands spot level begins block (old via via_is home_is) chunk = hints.stands spot.handle (record { level = level; begins = begins }) block home_is chunk
 
@@ -38,7 +38,7 @@ module _ (areas : ℕ) (reads : Reads) (chunks : Chunks) (root : ℕ) (tree : Pa
   chunk_of spot level begins block (old via via_is home_is) held header = sees.named spot.handle Shared block (hints.names spot.handle (record { level = level; begins = begins }) home_is) held header
 
   -- its block is that page
-  pub has_page : (spot : Spot) (level : ℕ) (begins : List ℕ) (block : Block) (s : StandsAt tree spot.handle (record { level = level; begins = begins })) → chunks spot.handle ≡ Some block → HasPage (s.node).page block
+  pub has_page : (spot : Spot) (level : ℕ) (begins : List ℕ) (block : Block) (s : PlaceStands tree spot.handle (record { level = level; begins = begins })) → chunks spot.handle ≡ Some block → HasPage (s.node).page block
   has_page spot level begins block s chunk =
       let nd = (is.levels level s.within).nodes_are s.node s.there in
       let both : Some nd.block ≡ Some block = sym nd.chunk ∙ ap chunks s.handle_is ∙ chunk in

@@ -50,7 +50,7 @@ pub record IsOld (home : ℕ → Option Place) (begins : List ℕ) (page : Conte
   pub right : IsLast page ⊎ LeadsRight home page begins
 
 -- a page of the tree is at a place
-pub record StandsAt (tree : PageTree) (handle : ℕ) (place : Place) : Type 0 where
+pub record PlaceStands (tree : PageTree) (handle : ℕ) (place : Place) : Type 0 where
   pub node : Node
   pub within : place.level ≤ tree.height
   pub there : IsIn node (tree.level place.level)
@@ -66,7 +66,7 @@ pub record HintsAgree (areas : ℕ) (hint : Hints) (chunks : Chunks) (root : ℕ
   pub most : ℕ
   pub highest : tree.height ≤ most
   pub placed : (level : ℕ) (node : Node) → level < tree.height → IsIn node (tree.level level) → home node.handle ≡ Some (record { level = level; begins = node.begins })
-  pub stands : (handle : ℕ) (place : Place) (block : Block) → home handle ≡ Some place → chunks handle ≡ Some block → StandsAt tree handle place
+  pub stands : (handle : ℕ) (place : Place) (block : Block) → home handle ≡ Some place → chunks handle ≡ Some block → PlaceStands tree handle place
   pub hints : (handle : ℕ) (place : Place) (block : Block) (page : Contents) → home handle ≡ Some place → hint (block_at handle) ≡ Some block → block.handle ≡ handle → HasPage page block → 0 < page.level
       → (page.level ≡ place.level) × IsOld home place.begins page
   pub root_hints : (block : Block) (page : Contents) → hint (block_at root) ≡ Some block → block.handle ≡ root → HasPage page block → 0 < page.level → (page.level ≤ most) × IsOld home [] page

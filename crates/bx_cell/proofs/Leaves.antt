@@ -7,7 +7,7 @@ use Rattle.bx_calls.specs.Calls.{KeepsSure, KeepsAll, HasSure, LeavesOnly}
 use Rattle.bx_calls.specs.Laws.{keeps_part, leaves_part, leaves_then, leaves_implies, image_has, inside_by}
 use Rattle.bx_cell.specs.Halves.{Found, is_open, cell_in}
 use Rattle.bx_cell.specs.Images.{EachImage, EachSure}
-use Rattle.bx_cell.specs.Cells.{ClosesOnly, HasBefore, HasEither, Stands, next}
+use Rattle.bx_cell.specs.Cells.{ClosesOnly, HasBefore, HasEither, CellStands, next}
 use Rattle.bx_cell.specs.Bytes.{body_text}
 use Rattle.bx_cell.proofs.Bodies.{length-body_text}
 use Rattle.bx_cell.proofs.Regions.{sure_has, image_all}
@@ -89,7 +89,7 @@ leaves_either old disk base found new before now past since leaves =
     leaves_implies before now past since (HasBefore old disk base found) (HasEither old disk base found new) leaves (λ image has. either_before old disk base found new image has)
 
 module _ (old : Disks) (disk base half : ℕ) (found : Found) (one : found.half + half ≡ 1) where
-  pub leaves_closing : (before mid now : ℕ) (past between since : ℕ → Image → Type 0) (new : Disks) → Stands old new disk base found
+  pub leaves_closing : (before mid now : ℕ) (past between since : ℕ → Image → Type 0) (new : Disks) → CellStands old new disk base found
       → LeavesOnly before mid past between (HasBefore old disk base found) → LeavesOnly mid now between since (ClosesOnly new disk (base + 10 * half))
       → LeavesOnly before now past since (HasBefore old disk base found)
   leaves_closing before mid now past between since new stands first last =
@@ -97,7 +97,7 @@ module _ (old : Disks) (disk base half : ℕ) (found : Found) (one : found.half 
       (λ image closes. closing old disk base half found one new image stands closes)
 
 module _ (old : Disks) (disk base half : ℕ) (found : Found) (one : found.half + half ≡ 1) (value : List ℕ) where
-  pub leaves_filling : (before mid now : ℕ) (past between since : ℕ → Image → Type 0) (new : Disks) (count : ℕ) → Stands old new disk base found
+  pub leaves_filling : (before mid now : ℕ) (past between since : ℕ → Image → Type 0) (new : Disks) (count : ℕ) → CellStands old new disk base found
       → is_open (new.reads disk (base + 10 * half)) ≡ false → count ≤ 9
       → LeavesOnly before mid past between (HasEither old disk base found (next found value)) → LeavesOnly mid now between since (HasSure new disk (base + 10 * half + 1) count)
       → LeavesOnly before now past since (HasEither old disk base found (next found value))
@@ -105,7 +105,7 @@ module _ (old : Disks) (disk base half : ℕ) (found : Found) (one : found.half 
       leaves_then before mid now past between since (HasEither old disk base found (next found value)) (HasSure new disk (base + 10 * half + 1) count) first last
       (λ image has. filling old disk base half found one new count image (next found value) stands closed most has)
 
-  pub leaves_opening : (before mid now : ℕ) (past between since : ℕ → Image → Type 0) (new : Disks) (count : ℕ) → length value ≤ 4096 → found.number + 1 < 2 ^ 64 → Stands old new disk base found
+  pub leaves_opening : (before mid now : ℕ) (past between since : ℕ → Image → Type 0) (new : Disks) (count : ℕ) → length value ≤ 4096 → found.number + 1 < 2 ^ 64 → CellStands old new disk base found
       → ((i : ℕ) → i < 9 → new.reads disk (base + 10 * half + 1 + i) ≡ sector_of (body_text (found.number + 1) value) i) → count ≤ 1
       → LeavesOnly before mid past between (HasEither old disk base found (next found value)) → LeavesOnly mid now between since (HasSure new disk (base + 10 * half) count)
       → LeavesOnly before now past since (HasEither old disk base found (next found value))

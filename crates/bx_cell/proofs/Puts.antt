@@ -6,7 +6,7 @@ use Rattle.bx_calls.specs.Calls.{KeepsSure, KeepsAll, HasSure}
 use Rattle.bx_calls.specs.Laws.{keeps_part, keeps_all, has_wider, has_before, inside_by}
 use Rattle.bx_cell.specs.Halves.{Found, is_open, half_at, cell_in}
 use Rattle.bx_cell.specs.Images.{EachImage, HasAllSure, EachSure}
-use Rattle.bx_cell.specs.Cells.{ClosesOnly, HasBefore, HasEither, Stands, next}
+use Rattle.bx_cell.specs.Cells.{ClosesOnly, HasBefore, HasEither, CellStands, next}
 use Rattle.bx_cell.specs.Bytes.{body_text}
 use Rattle.bx_cell.proofs.Regions.{agrees, reads_has, sure_has, all_has}
 use Rattle.bx_cell.proofs.Sectors.{half_same, half_beside, half_closed}
@@ -17,7 +17,7 @@ use Rattle.bx_cell.proofs.Chosen.{still_found, newly_found}
 
 module _ (old : Disks) (disk base half : ℕ) (found : Found) (one : found.half + half ≡ 1) where
   -- The half with the value isn't written.
-  own : (now : Disks) (sector count : ℕ) (image : Image) → Stands old now disk base found → HasSure now disk sector count image
+  own : (now : Disks) (sector count : ℕ) (image : Image) → CellStands old now disk base found → HasSure now disk sector count image
       → base + 10 * half ≤ sector → sector + count ≤ base + 10 * half + 10
       → half_at (image disk) found.half (base + 10 * found.half) ≡ half_at (now.reads disk) found.half (base + 10 * found.half)
   own now sector count image stands has low high =
@@ -27,20 +27,20 @@ module _ (old : Disks) (disk base half : ℕ) (found : Found) (one : found.half 
       side : (i : ℕ) → i < 10 → (base + 10 * found.half + i < sector) ⊎ (sector + count ≤ base + 10 * found.half + i)
       side i less = grind arith
 
-  outside : (now : Disks) (sector count : ℕ) (image : Image) → Stands old now disk base found → HasSure now disk sector count image
+  outside : (now : Disks) (sector count : ℕ) (image : Image) → CellStands old now disk base found → HasSure now disk sector count image
       → base + 10 * half ≤ sector → sector + count ≤ base + 10 * half + 10 → HasSure old disk base 20 image
   outside now sector count image stands has low high =
       has_before old now disk base 20 image stands.keeps
       (has_wider now disk sector count disk base 20 image has (inside_by disk sector count disk base 20 refl (omega arith) (omega arith)))
 
-  keeps_on : (now after : Disks) (sector count : ℕ) → Stands old now disk base found → KeepsSure now after disk sector count
+  keeps_on : (now after : Disks) (sector count : ℕ) → CellStands old now disk base found → KeepsSure now after disk sector count
       → base + 10 * half ≤ sector → sector + count ≤ base + 10 * half + 10 → KeepsSure old after disk base 20
   keeps_on now after sector count stands keeps low high =
       keeps_part old now after disk base 20 disk sector count stands.keeps keeps (inside_by disk sector count disk base 20 refl (omega arith) (omega arith))
 
   -- ---- the gate is closed
 
-  still_closing : (now : Disks) (image : Image) → Stands old now disk base found → ClosesOnly now disk (base + 10 * half) image → cell_in (image disk) base ≡ Some found
+  still_closing : (now : Disks) (image : Image) → CellStands old now disk base found → ClosesOnly now disk (base + 10 * half) image → cell_in (image disk) base ≡ Some found
   still_closing now image stands closes =
       still_found (image disk) (now.reads disk) base half found stands.cell one (own now (base + 10 * half) 1 image stands closes.outside (omega arith) (omega arith))
       (other (is_open (image disk (base + 10 * half))) (is_open (now.reads disk (base + 10 * half))) refl refl)
@@ -54,14 +54,14 @@ module _ (old : Disks) (disk base half : ℕ) (found : Found) (one : found.half 
       other true true opened is = inl (half_beside (image disk) (now.reads disk) half (base + 10 * half) (base + 10 * half) (opened ∙ sym is) same)
       other true false opened is = let closed = closes.closed is in absurd cc
 
-  pub closing : (now : Disks) (image : Image) → Stands old now disk base found → ClosesOnly now disk (base + 10 * half) image → HasBefore old disk base found image
+  pub closing : (now : Disks) (image : Image) → CellStands old now disk base found → ClosesOnly now disk (base + 10 * half) image → HasBefore old disk base found image
   closing now image stands closes = record {
     cell = still_closing now image stands closes;
     outside = outside now (base + 10 * half) 1 image stands closes.outside (omega arith) (omega arith);
   }
 
-  pub closed : (now after : Disks) → Stands old now disk base found → KeepsSure now after disk (base + 10 * half) 1 → IsSynced after disk
-      → is_open (after.reads disk (base + 10 * half)) ≡ false → Stands old after disk base found
+  pub closed : (now after : Disks) → CellStands old now disk base found → KeepsSure now after disk (base + 10 * half) 1 → IsSynced after disk
+      → is_open (after.reads disk (base + 10 * half)) ≡ false → CellStands old after disk base found
   closed now after stands keeps synced is = record {
     keeps = keeps_on now after (base + 10 * half) 1 stands keeps (omega arith) (omega arith);
     synced = synced;
@@ -70,21 +70,21 @@ module _ (old : Disks) (disk base half : ℕ) (found : Found) (one : found.half 
 
   -- ---- the header and the value are written
 
-  still_filling : (now : Disks) (count : ℕ) (image : Image) → Stands old now disk base found → is_open (now.reads disk (base + 10 * half)) ≡ false → count ≤ 9
+  still_filling : (now : Disks) (count : ℕ) (image : Image) → CellStands old now disk base found → is_open (now.reads disk (base + 10 * half)) ≡ false → count ≤ 9
       → HasSure now disk (base + 10 * half + 1) count image → cell_in (image disk) base ≡ Some found
   still_filling now count image stands is most has =
       still_found (image disk) (now.reads disk) base half found stands.cell one (own now (base + 10 * half + 1) count image stands has (omega arith) (omega arith))
       (inr (half_closed (image disk) half (base + 10 * half) (ap is_open (agrees now disk (base + 10 * half + 1) count image stands.synced has (base + 10 * half) (inl (omega arith))) ∙ is)))
 
-  pub filling : (now : Disks) (count : ℕ) (image : Image) (new : Found) → Stands old now disk base found → is_open (now.reads disk (base + 10 * half)) ≡ false → count ≤ 9
+  pub filling : (now : Disks) (count : ℕ) (image : Image) (new : Found) → CellStands old now disk base found → is_open (now.reads disk (base + 10 * half)) ≡ false → count ≤ 9
       → HasSure now disk (base + 10 * half + 1) count image → HasEither old disk base found new image
   filling now count image new stands is most has = record {
     cell = inl (still_filling now count image stands is most has);
     outside = outside now (base + 10 * half + 1) count image stands has (omega arith) (omega arith);
   }
 
-  pub filled : (now after : Disks) (count : ℕ) → Stands old now disk base found → is_open (now.reads disk (base + 10 * half)) ≡ false → count ≤ 9
-      → KeepsSure now after disk (base + 10 * half + 1) count → IsSynced after disk → Stands old after disk base found
+  pub filled : (now after : Disks) (count : ℕ) → CellStands old now disk base found → is_open (now.reads disk (base + 10 * half)) ≡ false → count ≤ 9
+      → KeepsSure now after disk (base + 10 * half + 1) count → IsSynced after disk → CellStands old after disk base found
   filled now after count stands is most keeps synced = record {
     keeps = keeps_on now after (base + 10 * half + 1) count stands keeps (omega arith) (omega arith);
     synced = synced;
@@ -93,7 +93,7 @@ module _ (old : Disks) (disk base half : ℕ) (found : Found) (one : found.half 
 
   -- ---- the gate is opened
 
-  module _ (value : List ℕ) (short : length value ≤ 4096) (fits : found.number + 1 < 2 ^ 64) (now : Disks) (stands : Stands old now disk base found)
+  module _ (value : List ℕ) (short : length value ≤ 4096) (fits : found.number + 1 < 2 ^ 64) (now : Disks) (stands : CellStands old now disk base found)
       (body : (i : ℕ) → i < 9 → now.reads disk (base + 10 * half + 1 + i) ≡ sector_of (body_text (found.number + 1) value) i) (count : ℕ) (most : count ≤ 1) where
     here : (image : Image) → HasSure now disk (base + 10 * half) count image → is_open (image disk (base + 10 * half)) ≡ true → cell_in (image disk) base ≡ Some (next found value)
     here image has opened =
@@ -127,7 +127,7 @@ module _ (old : Disks) (disk base half : ℕ) (found : Found) (one : found.half 
 
 -- what disks read as is one of the images that they may leave
 pub stands_first : (old now : Disks) (disk base : ℕ) (found : Found) → EachImage old (λ image. cell_in (image disk) base ≡ Some found) → IsImage old old.reads
-    → KeepsAll old now disk → IsSynced now disk → Stands old now disk base found
+    → KeepsAll old now disk → IsSynced now disk → CellStands old now disk base found
 stands_first old now disk base found each is keeps synced = record {
   keeps = keeps_all old now disk base 20 keeps;
   synced = synced;

@@ -39,7 +39,7 @@ pub record HasBefore (old : Disks) (disk base : ℕ) (before : Found) (image : I
   pub outside : HasSure old disk base 20 image
 
 -- Between two steps of a put: the disk is sure and has what the cell held, and what was sure outside the cell stays.
-pub record Stands (old now : Disks) (disk base : ℕ) (found : Found) : Type 0 where
+pub record CellStands (old now : Disks) (disk base : ℕ) (found : Found) : Type 0 where
   pub keeps : KeepsSure old now disk base 20
   pub synced : IsSynced now disk
   pub cell : cell_in (now.reads disk) base ≡ Some found

@@ -8,7 +8,7 @@ ghost use Rattle.bx_calls.specs.Calls.{KeepsSure, KeepsAll, HasSure, LeavesOnly}
 ghost use Rattle.bx_cell.specs.Halves.{Found, is_open, cell_in};
 ghost use Rattle.bx_cell.specs.Bytes.{body_text};
 ghost use Rattle.bx_cell.specs.Images.{EachImage, EachSure};
-ghost use Rattle.bx_cell.specs.Cells.{ClosesOnly, HasBefore, HasEither, Stands, next};
+ghost use Rattle.bx_cell.specs.Cells.{ClosesOnly, HasBefore, HasEither, CellStands, next};
 
 use crate::halves::{BODY, HALF_SECTORS, reads_open, write_body};
 use bx_calls::{read_sectors, sync_disk, write_through};
@@ -66,7 +66,7 @@ fn clear_half<R: Rack>(rack: &mut R, disk: u32, base: u64, half: u64) -> Result<
     requires half { half < 2 }
     ensures closed { R.tells rack.old → OnOk result (is_open ((R.state rack.new).reads disk (base + 10 * half)) ≡ false) }
     ensures stands { R.tells rack.old → (found : Found) → found.half + half ≡ 1 → EachImage (R.state rack.old) (λ image. cell_in (image disk) base ≡ Some found)
-        → OnOk result (Stands (R.state rack.old) (R.state rack.new) disk base found) }
+        → OnOk result (CellStands (R.state rack.old) (R.state rack.new) disk base found) }
     ensures any_moment { R.tells rack.old → (found : Found) → found.half + half ≡ 1 → EachImage (R.state rack.old) (λ image. cell_in (image disk) base ≡ Some found)
         → LeavesOnly (R.moment rack.old) (R.moment rack.new) (R.left_since rack.old) (R.left_since rack.new) (HasBefore (R.state rack.old) disk base found) }
     ensures either { R.tells rack.old → (found : Found) → found.half + half ≡ 1 → EachSure (R.state rack.old) (λ image. cell_in (image disk) base ≡ Some found)

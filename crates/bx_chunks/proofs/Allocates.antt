@@ -14,7 +14,7 @@ use Rattle.bx_truth.proofs.Named.{free_names_none}
 use Rattle.bx_truth.proofs.SlotWords.{block_back}
 use Rattle.bx_truth.proofs.Taking.{chunk_taken, chunked_taken}
 use Rattle.bx_truth.specs.bx_views.specs.Truths.{Held, IsTruth, Truth, with_draft}
-use Rattle.bx_chunks.specs.Allocating.{Adds, AllocatesAt, AllocatesIn, IsFullVolume, next_handle, slot_block, slot_taken}
+use Rattle.bx_chunks.specs.Allocating.{AddsChunk, AllocatesAt, AllocatesIn, IsFullVolume, next_handle, slot_block, slot_taken}
 use Rattle.bx_chunks.specs.Areas.{HasFree, HasSlots, IsFull, area_in_turn}
 use Rattle.bx_chunks.specs.Putting.{empty_of, slot_put}
 use Rattle.bx_chunks.specs.declared.error.ChunkError.{ChunkError}
@@ -96,7 +96,7 @@ module _ (areas : ℕ) (few : areas ≤ 64) (held : Held) (truth : Truth) (old n
       let next = next_generation word word_free in
       subst (λ (n : ℕ). generation_in word < n) (sym (same ∙ next)) (omega arith)
 
-  pub adds : Adds areas before after handle
+  pub adds : AddsChunk areas before after handle
   adds = record {
     block = block;
     slots = slots;
@@ -129,7 +129,7 @@ pub allocates_in : (areas near : ℕ) (held : Held) (truth : Truth) (old new : L
     → AllocatesAt held old new near areas r → AllocatesIn areas truth old new r
 allocates_in areas near held truth old new few same is (Ok given) at =
     let within = subst (λ (n : ℕ). n < areas) (sym at.next.area_is) (turn_within near areas at.next.turn at.next.within) in
-    subst (Adds areas (with_draft truth old) (with_draft truth new)) (sym at.takes.1)
+    subst (AddsChunk areas (with_draft truth old) (with_draft truth new)) (sym at.takes.1)
     (adds areas few held truth old new same is at.area at.slot at.slots within at.next.free at.takes.2)
 allocates_in areas near held truth old new few same is (Err (Full spare)) at =
     ((λ chunked. spare_is held near areas spare truth same chunked (turn_within near areas) at.spare_is), none_free areas near spare held truth old same is at)

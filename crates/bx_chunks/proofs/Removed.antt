@@ -13,7 +13,7 @@ use Rattle.bx_truth.proofs.Freed.{chunk_freed, chunked_freed}
 use Rattle.bx_truth.proofs.Same.{IsChunk}
 use Rattle.bx_truth.specs.bx_views.specs.Truths.{Held, IsTruth, Truth, with_draft}
 use Rattle.bx_chunks.specs.Areas.{HasSlots}
-use Rattle.bx_chunks.specs.Freeing.{FreesAt, FreesIn, IsInUse, NamesNone, no_slot, another, not_given, Removes, own_at, slot_freed}
+use Rattle.bx_chunks.specs.Freeing.{FreesAt, FreesIn, IsInUse, NamesNone, no_slot, another, not_given, RemovesChunk, own_at, slot_freed}
 use Rattle.bx_chunks.specs.Putting.{empty_of, slot_put}
 use Rattle.bx_chunks.specs.declared.error.ChunkError.{ChunkError}
 use Rattle.bx_chunks.specs.declared.error.ChunkError.TheVariants.{Need, Stale, Full, OutOfMemory, Crowded}
@@ -81,7 +81,7 @@ module _ (areas : ℕ) (few : areas ≤ 64) (held : Held) (truth : Truth) (old :
         header = ap (λ (b : Block). b.handle) here_is;
       }
 
-      pub removes : Removes areas before after handle
+      pub removes : RemovesChunk areas before after handle
       removes = record {
         slots = slots;
         slot = is_slot;

@@ -92,7 +92,7 @@ AllocatesAt held old new near areas (Err Stale) = ⊥
 
 -- The chunk map gets one handle more, whose generation is above the one that its slot had, so that it was never given out. It names an
 -- empty block, and all other chunks stay.
-pub record Adds (areas : ℕ) (before after : Truth) (handle : ℕ) : Type 0 where
+pub record AddsChunk (areas : ℕ) (before after : Truth) (handle : ℕ) : Type 0 where
   pub block : ℕ
   pub slots : AreaBlock
   pub slot : IsSlot areas block
@@ -107,7 +107,7 @@ pub record Adds (areas : ℕ) (before after : Truth) (handle : ℕ) : Type 0 whe
 
 -- What allocating answers, by the truth.
 abbrev pub AllocatesIn : ℕ → Truth → List Changed → List Changed → Result ℕ ChunkError → Type 0
-AllocatesIn areas truth old new (Ok handle) = Adds areas (with_draft truth old) (with_draft truth new) handle
+AllocatesIn areas truth old new (Ok handle) = AddsChunk areas (with_draft truth old) (with_draft truth new) handle
 AllocatesIn areas truth old new (Err (Full spare)) =
     (IsChunked areas truth → spare ≡ free_slots areas truth) × ((block : ℕ) → IsSlot areas block → is_free_at (with_draft truth old) block ≡ false)
 AllocatesIn areas truth old new (Err (Need at mode)) = Unit {0}

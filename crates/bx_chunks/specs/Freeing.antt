@@ -107,7 +107,7 @@ UsesAt held draft handle (Err (Full spare)) = ⊥
 UsesAt held draft handle (Err Crowded) = ⊥
 
 -- The chunk map loses one handle, and all other chunks stay.
-pub record Removes (areas : ℕ) (before after : Truth) (handle : ℕ) : Type 0 where
+pub record RemovesChunk (areas : ℕ) (before after : Truth) (handle : ℕ) : Type 0 where
   pub slots : AreaBlock
   pub slot : IsSlot areas (block_at handle)
   pub frees : FreesSlot before after (block_at handle) slots
@@ -118,7 +118,7 @@ pub record Removes (areas : ℕ) (before after : Truth) (handle : ℕ) : Type 0 
 
 -- What freeing answers, by the truth: it is Stale of a handle that names nothing.
 abbrev pub FreesIn : ℕ → Truth → List Changed → List Changed → ℕ → Result (Unit {0}) ChunkError → Type 0
-FreesIn areas truth old new handle (Ok done) = Removes areas (with_draft truth old) (with_draft truth new) handle
+FreesIn areas truth old new handle (Ok done) = RemovesChunk areas (with_draft truth old) (with_draft truth new) handle
 FreesIn areas truth old new handle (Err Stale) = chunks_of areas (with_draft truth old) handle ≡ None
 FreesIn areas truth old new handle (Err (Need at mode)) = Unit {0}
 FreesIn areas truth old new handle (Err Crowded) = Unit {0}

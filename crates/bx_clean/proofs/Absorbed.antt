@@ -8,7 +8,7 @@ use Rattle.bx_page.specs.Contents.{Contents}
 use Rattle.bx_page.specs.Keys.{IsBelow}
 use Rattle.bx_page.proofs.Order.{below_trans}
 use Rattle.bx_truth.specs.Chunks.{chunks_of}
-use Rattle.bx_truth.specs.PageTrees.{Node, IsIn, IsNode, Leads, IsLevel, NamesChild, IsInterior, PageTree, IsTree, entries_of, map_of}
+use Rattle.bx_truth.specs.PageTrees.{Node, IsIn, IsNode, PagesLead, IsLevel, NamesChild, IsInterior, PageTree, IsTree, entries_of, map_of}
 use Rattle.bx_truth.specs.Shown.{KeepsSlots}
 use Rattle.bx_truth.proofs.Cases.{same_or}
 use Rattle.bx_truth.proofs.Put.{some_there}
@@ -81,7 +81,7 @@ module _ (areas : ℕ) (truth now : Truth) (root : ℕ) (tree : PageTree) (under
     highest = highest;
   }
 
-  leads_now : (rest : List Node) → Leads next rest → Leads (kept_of child page) rest
+  leads_now : (rest : List Node) → PagesLead next rest → PagesLead (kept_of child page) rest
   leads_now [] l = record { right = may.right ∙ l.right; high = may.high ∙ l.high }
   leads_now (x ∷ rest) l = (record { right = may.right ∙ l.0.right; high = may.high ∙ l.0.high }, l.1)
 

@@ -18,7 +18,7 @@ use Rattle.bx_truth.proofs.Cases.{eq_true, eq_false, same_or}
 use Rattle.bx_truth.proofs.Cleaned.{dead_anew, dead_shown}
 use Rattle.bx_views.specs.Truths.{Truth, Hints}
 use Rattle.bx_blink.specs.Hints.{HintsFit}
-use Rattle.bx_chunks.specs.Freeing.{Removes}
+use Rattle.bx_chunks.specs.Freeing.{RemovesChunk}
 use Rattle.bx_inodes.specs.Fitting.{HintsFitAll, Continues, IsPageUnder}
 use Rattle.bx_inodes.proofs.Later.{fit_still}
 use Rattle.bx_inodes.specs.Inodes.{HoldsInode}
@@ -33,7 +33,7 @@ module _ (areas : ℕ) (truth mid now : Truth) (T : Tree) (handle : ℕ) (inode 
     (is : StandsFor areas truth T) (holds : HoldsInode areas truth handle inode) (dead : inode.kind ≡ 0) (at : IsTree (chunks_of areas truth) inode.tree tree)
     (alone : (node : Node) → IsPageOf tree node → node.handle ≡ inode.tree) (empty : map_of tree ≡ [])
     (anew : ChunkAnew (chunks_of areas truth) (chunks_of areas mid) handle block) (has : HasInode bare block) (bare_kind : bare.kind ≡ 0) (bare_tree : bare.tree ≡ 0)
-    (first : KeepsSlots areas truth mid) (r : Removes areas mid now inode.tree) where
+    (first : KeepsSlots areas truth mid) (r : RemovesChunk areas mid now inode.tree) where
   own_root : is.owner inode.tree ≡ PageOf handle
   own_root =
       let top : IsPageOf tree at.top = record { level = tree.height; within = omega arith; there = record { before = []; behind = []; parts = at.root_alone } } in

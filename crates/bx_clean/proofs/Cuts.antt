@@ -1,7 +1,7 @@
 -- A step at a dead file's tree, for a truth: what it is, and a leaf that loses its first entry.
 use Rattle.std.proofs.Common.{◌≡◌, ℕ, arith, false, List, [], ◌∷◌, Option, Some, None, Result, Ok, Err, refl, sym, ap, subst, ◌∙◌}
 use Rattle.std.specs.Prelude.{◌≢◌, All, IfSome, slice_get}
-use Rattle.bx_chunks.specs.Freeing.{Removes}
+use Rattle.bx_chunks.specs.Freeing.{RemovesChunk}
 use Rattle.bx_chunks.specs.declared.error.ChunkError.{ChunkError}
 use Rattle.bx_layout.specs.declared.block.Block.{Block}
 use Rattle.bx_leaves.specs.Changes.{MakesMap}
@@ -12,7 +12,7 @@ use Rattle.bx_page.specs.Keys.{is_below, IsBelow}
 use Rattle.bx_page.proofs.Order.{same_itself}
 use Rattle.bx_records.specs.Drafts.{Changed}
 use Rattle.bx_truth.specs.Chunks.{chunks_of}
-use Rattle.bx_truth.specs.PageTrees.{Node, PageTree, IsIn, IsNode, handle_in, map_of, without_entry}
+use Rattle.bx_truth.specs.PageTrees.{Node, PageTree, IsIn, IsNode, handle_in, map_of, map_without}
 use Rattle.bx_views.specs.Truths.{Truth, Held, Hints, with_draft}
 use Rattle.bx_blink.specs.Hints.{Under}
 use Rattle.bx_blink.specs.Places.{IsPlaceOf}
@@ -47,8 +47,8 @@ module _ (areas : ℕ) (held : Held) (hints : Hints) (truth : Truth) (root : ℕ
     pub value : List ℕ
     pub mid : List Changed
     pub found : value_of (map_of tree) key ≡ Some value
-    pub makes : MakesMap areas held hints truth [] mid root tree (without_entry (map_of tree) key)
-    pub removes : Removes areas (with_draft truth mid) (with_draft truth new) (handle_in value)
+    pub makes : MakesMap areas held hints truth [] mid root tree (map_without (map_of tree) key)
+    pub removes : RemovesChunk areas (with_draft truth mid) (with_draft truth new) (handle_in value)
 
   pub data TreeStep (new : List Changed) : Type 0 where
     shrinks : (after : PageTree) → ShrinksTree areas truth (with_draft truth new) root tree after → TreeStep new
@@ -98,7 +98,7 @@ module _ (areas : ℕ) (held : Held) (hints : Hints) (truth : Truth) (root : ℕ
           value = first.value;
           mid = f.mid;
           found = found;
-          makes = subst (λ (d : List Changed). MakesMap areas held hints truth [] d root tree (without_entry (map_of tree) first.key)) (sym f.puts.put)
+          makes = subst (λ (d : List Changed). MakesMap areas held hints truth [] d root tree (map_without (map_of tree) first.key)) (sym f.puts.put)
               (removed areas held hints truth [] root tree u first.key node.handle node.page place f.puts.block f.puts.header f.puts.has);
           removes = f.removes;
         }),

@@ -10,7 +10,7 @@ use Rattle.bx_page.proofs.Maps.{taken_value}
 use Rattle.bx_records.specs.Drafts.{Changed}
 use Rattle.bx_truth.specs.Chunks.{chunks_of}
 use Rattle.bx_truth.specs.Keys.{content_key, content_value}
-use Rattle.bx_truth.specs.PageTrees.{Node, PageTree, IsTree, IsPageOf, handle_in, map_of, without_entry}
+use Rattle.bx_truth.specs.PageTrees.{Node, PageTree, IsTree, IsPageOf, handle_in, map_of, map_without}
 use Rattle.bx_truth.specs.Pieces.{CutsPiece}
 use Rattle.bx_truth.specs.Shown.{KeepsSlots}
 use Rattle.bx_truth.specs.Stands.{StandsFor}
@@ -21,7 +21,7 @@ use Rattle.bx_truth.proofs.Frames.{handle_back, tree_kept}
 use Rattle.bx_truth.proofs.PieceCut.{dead_piece_cut}
 use Rattle.bx_views.specs.Truths.{Truth, Held, Hints, with_draft}
 use Rattle.bx_blink.specs.Hints.{HintsFit}
-use Rattle.bx_chunks.specs.Freeing.{Removes}
+use Rattle.bx_chunks.specs.Freeing.{RemovesChunk}
 use Rattle.bx_inodes.specs.Fitting.{HintsFitAll, Continues, IsPageUnder}
 use Rattle.bx_inodes.proofs.Later.{fit_later, fit_still}
 use Rattle.bx_inodes.proofs.Trees.{fit_other}
@@ -33,8 +33,8 @@ use Rattle.bx_clean.proofs.Slots.{removes_keeps, slots_steps}
 
 module _ (areas : ℕ) (held : Held) (hints : Hints) (truth : Truth) (mid new : List Changed) (T : Tree) (handle : ℕ) (inode : Inode) (tree : PageTree) (key value : List ℕ) (few : areas ≤ 64)
     (is : StandsFor areas truth T) (holds : HoldsInode areas truth handle inode) (dead : inode.kind ≡ 0) (at : IsTree (chunks_of areas truth) inode.tree tree)
-    (found : value_of (map_of tree) key ≡ Some value) (m : MakesMap areas held hints truth [] mid inode.tree tree (without_entry (map_of tree) key))
-    (r : Removes areas (with_draft truth mid) (with_draft truth new) (handle_in value)) where
+    (found : value_of (map_of tree) key ≡ Some value) (m : MakesMap areas held hints truth [] mid inode.tree tree (map_without (map_of tree) key))
+    (r : RemovesChunk areas (with_draft truth mid) (with_draft truth new) (handle_in value)) where
   abbrev names : ℕ
   names = handle_in value
 

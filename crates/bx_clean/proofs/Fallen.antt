@@ -1,7 +1,7 @@
 -- A step leaves less.
 use Rattle.std.proofs.Common.{◌≡◌, ℕ, Bool, Option, Some, None, refl, sym, ap, ◌∙◌, inl, inr}
 use Rattle.std.specs.Prelude.{◌≢◌, ◌⊎◌, if◌then◌else◌}
-use Rattle.bx_chunks.specs.Freeing.{Removes}
+use Rattle.bx_chunks.specs.Freeing.{RemovesChunk}
 use Rattle.bx_layout.specs.declared.block.Block.{Block}
 use Rattle.bx_truth.specs.Chunks.{chunks_of}
 use Rattle.bx_truth.specs.Edits.{ChunkAnew}
@@ -30,7 +30,7 @@ module _ (areas : ℕ) (truth now : Truth) (handle gone : ℕ) (block before lef
       by h b some (inr apart) (inr other) = some_not (chunks_of areas truth h) b (sym (c.others h apart other) ∙ some)
 
 -- the same in two steps
-pub then_gone : (areas : ℕ) (truth mid now : Truth) (handle gone : ℕ) (block : Block) → handle ≢ gone → ChunkAnew (chunks_of areas truth) (chunks_of areas mid) handle block → Removes areas mid now gone
+pub then_gone : (areas : ℕ) (truth mid now : Truth) (handle gone : ℕ) (block : Block) → handle ≢ gone → ChunkAnew (chunks_of areas truth) (chunks_of areas mid) handle block → RemovesChunk areas mid now gone
     → ChunkGone (chunks_of areas truth) (chunks_of areas now) handle gone block
 then_gone areas truth mid now handle gone block apart anew r = record {
   here = r.chunks handle ∙ ap (λ (t : Bool). if t then None else chunks_of areas mid handle) (eq_false handle gone apart) ∙ anew.here;
@@ -39,7 +39,7 @@ then_gone areas truth mid now handle gone block apart anew r = record {
 }
 
 -- a chunk goes alone
-pub alone_falls : (areas : ℕ) (truth mid now : Truth) (gone : ℕ) (left : Block) → chunks_of areas truth gone ≡ Some left → ((h : ℕ) → chunks_of areas mid h ≡ chunks_of areas truth h) → Removes areas mid now gone → Falls areas truth now
+pub alone_falls : (areas : ℕ) (truth mid now : Truth) (gone : ℕ) (left : Block) → chunks_of areas truth gone ≡ Some left → ((h : ℕ) → chunks_of areas mid h ≡ chunks_of areas truth h) → RemovesChunk areas mid now gone → Falls areas truth now
 alone_falls areas truth mid now gone left was same r = inl (record {
   gone = gone;
   was = some_not (chunks_of areas truth gone) left was;

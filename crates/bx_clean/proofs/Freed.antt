@@ -1,7 +1,7 @@
 -- A slot that is freed in a draft of one block, and a page that is put before, by the truth.
 use Rattle.std.proofs.Common.{◌≡◌, ℕ, ◌+◌, ◌<◌, ◌≤◌, arith, Bool, true, false, List, [], ◌∷◌, get_or, length, Option, Some, None, Result, Ok, Err, refl, sym, ap, subst, ◌∙◌}
 use Rattle.std.specs.Prelude.{◌≢◌, ◌==◌, if◌then◌else◌}
-use Rattle.bx_chunks.specs.Freeing.{FreesAt, FreesIn, Removes}
+use Rattle.bx_chunks.specs.Freeing.{FreesAt, FreesIn, RemovesChunk}
 use Rattle.bx_chunks.specs.Putting.{empty_of, own_of}
 use Rattle.bx_chunks.specs.declared.error.ChunkError.{ChunkError}
 use Rattle.bx_chunks.specs.declared.error.ChunkError.TheVariants.{Need, Stale, Full, OutOfMemory, Crowded}
@@ -46,7 +46,7 @@ within areas handle slot = let s = slot.area in omega (arith, s)
 module _ (areas : ℕ) (held : Held) (truth : Truth) (few : areas ≤ 64) (same : IsTruth held truth) where
   -- what freeing a slot answers
   abbrev pub FreedIn : List Changed → ℕ → Result (List Changed) ChunkError → Type 0
-  FreedIn old handle (Ok new) = Removes areas (with_draft truth old) (with_draft truth new) handle
+  FreedIn old handle (Ok new) = RemovesChunk areas (with_draft truth old) (with_draft truth new) handle
   FreedIn old handle (Err error) = IsWant error
 
   pub freed_in : (old : List Changed) (handle : ℕ) (block : Block) → length old ≤ 1 → IsChunked areas (with_draft truth old) → chunks_of areas (with_draft truth old) handle ≡ Some block
@@ -88,7 +88,7 @@ module _ (areas : ℕ) (held : Held) (truth : Truth) (few : areas ≤ 64) (same 
   pub record PutFreed (handle : ℕ) (page : Contents) (gone : ℕ) (new : List Changed) : Type 0 where
     pub mid : List Changed
     pub puts : PutsPage [] mid handle page
-    pub removes : Removes areas (with_draft truth mid) (with_draft truth new) gone
+    pub removes : RemovesChunk areas (with_draft truth mid) (with_draft truth new) gone
     pub chunks : ChunkGone (chunks_of areas truth) (chunks_of areas (with_draft truth new)) handle gone puts.block
     pub slots : KeepsSlots areas truth (with_draft truth new)
 

@@ -14,7 +14,7 @@ use Rattle.bx_truth.proofs.Frames.{tree_kept}
 use Rattle.bx_truth.proofs.Marking.{marked_then_kept}
 use Rattle.bx_truth.proofs.Same.{chunk_is}
 use Rattle.bx_views.specs.Truths.{Truth, Hints}
-use Rattle.bx_chunks.specs.Freeing.{Removes}
+use Rattle.bx_chunks.specs.Freeing.{RemovesChunk}
 use Rattle.bx_chunks.specs.Marking.{Marks}
 use Rattle.bx_inodes.specs.Fitting.{HintsFitAll, Continues}
 use Rattle.bx_inodes.proofs.Later.{fit_later}
@@ -25,7 +25,7 @@ use Rattle.bx_clean.proofs.Slots.{removes_keeps}
 
 module _ (areas : ℕ) (truth mid now : Truth) (T : Tree) (handle : ℕ) (inode : Inode) (few : areas ≤ 64)
     (is : StandsFor areas truth T) (holds : HoldsInode areas truth handle inode) (dead : inode.kind ≡ 0) (bare : inode.tree ≡ 0)
-    (m : Marks areas truth mid handle false) (r : Removes areas mid now handle) where
+    (m : Marks areas truth mid handle false) (r : RemovesChunk areas mid now handle) where
   gone : chunks_of areas now handle ≡ None
   gone = r.chunks handle ∙ ap (λ (t : Bool). if t then None else chunks_of areas mid handle) (eq_true handle handle refl)
 

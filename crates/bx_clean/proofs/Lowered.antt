@@ -9,7 +9,7 @@ use Rattle.bx_truth.specs.Shown.{KeepsSlots}
 use Rattle.bx_truth.proofs.Cases.{same_or}
 use Rattle.bx_truth.proofs.Put.{some_there}
 use Rattle.bx_views.specs.Truths.{Truth, Hints}
-use Rattle.bx_blink.specs.Hints.{HintsFit, Place, StandsAt}
+use Rattle.bx_blink.specs.Hints.{HintsFit, Place, PlaceStands}
 use Rattle.bx_leaves.proofs.Members.{in_cases, in_head, in_none}
 use Rattle.bx_leaves.proofs.Replaced.{with_level}
 use Rattle.bx_clean.specs.Shrinking.{ChunkGone, HasOneChild, ShrinksTree}
@@ -192,10 +192,10 @@ module _ (areas : ℕ) (truth now : Truth) (root : ℕ) (tree : PageTree) (under
     };
   }
     where
-      stands_now : (h : ℕ) (place : Place) → f.agree.home h ≡ Some place → h ≢ child.handle → StandsAt tree h place → StandsAt (tree_lowered tree under root child) h place
+      stands_now : (h : ℕ) (place : Place) → f.agree.home h ≡ Some place → h ≢ child.handle → PlaceStands tree h place → PlaceStands (tree_lowered tree under root child) h place
       stands_now h place home_is other s = by (same_or place.level tree.height) (same_or place.level under)
         where
-          by : (place.level ≡ tree.height) ⊎ (place.level ≢ tree.height) → (place.level ≡ under) ⊎ (place.level ≢ under) → StandsAt (tree_lowered tree under root child) h place
+          by : (place.level ≡ tree.height) ⊎ (place.level ≢ tree.height) → (place.level ≡ under) ⊎ (place.level ≢ under) → PlaceStands (tree_lowered tree under root child) h place
           by (inl e) low =
               let m_is : s.node ≡ top = is_top s.node (subst (λ (l : ℕ). IsIn s.node (tree.level l)) e s.there) in
               let h_is : h ≡ root = sym s.handle_is ∙ ap (λ (n : Node). n.handle) m_is ∙ top_handle in

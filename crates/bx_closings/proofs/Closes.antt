@@ -22,7 +22,7 @@ use Rattle.bx_paxos_cluster.specs.contracts.register.PaxosRegister.TheImpl as pa
 use Rattle.bx_paxos_found.specs.bx_paxos.specs.Reading.{ReadsState}
 use Rattle.bx_paxos_machines.specs.Keeps.{Keeps}
 use Rattle.bx_rack_audit.specs.Alone.{StandAlone}
-use Rattle.bx_steps.specs.Steps.{StandsWith, Step}
+use Rattle.bx_steps.specs.Steps.{StandsWith, StepOfTree}
 use Rattle.bx_truth.specs.Stands.{StandsFor}
 use Rattle.bx_views.specs.Truths.{no_hints}
 use Rattle.bx_world.specs.Doubts.{AreOfTaken, HavePoints}
@@ -91,7 +91,7 @@ module _ (world : Boxes) (x y : Disks) (first : Tree) (parts : List Part) (led :
 
     -- They show the tree that the run leads to, or that after some of the calls in doubt, of which the records are open, and no others.
     pub closes : AreOfTaken parts at_last.sessions course.slots course.doubts → HavePoints parts course.logs
-        → Closes (StepOf Step) (box_fs.ghosts.at_once world.machines.nodes.engine) (StandAlone y) (AreOpenAlone y) first parts
+        → Closes (StepOf StepOfTree) (box_fs.ghosts.at_once world.machines.nodes.engine) (StandAlone y) (AreOpenAlone y) first parts
     closes of_taken have = closing.closes paxos.ghosts locks.ghosts devices.ghosts box_fs.ghosts world x y first parts led of_taken have laws
         (record { each = λ s place. allowed world.machines.nodes.register x course.register s keeps place })
         (λ s is. reads_next world.machines.nodes.register x course.register y.reads s keeps crashed.left is)

@@ -21,8 +21,8 @@ use Rattle.bx_world_views.specs.Views.{Act, OfCall, OfTidy}
 
 -- ---- there is one, where a record is open
 
-module _ (trace : List TraceLine) (rows : List SessionRow) (slots : ℕ → Slot) (doubts : ℕ → Option views.Doubt) where
-  pub there_is : (slot : ℕ) (row : SessionRow) (doubt : views.Doubt) (deed : Deed) (taking : Taking) → opens (slots slot).activity ≡ true → row_at rows slot ≡ Some row → doubts row.number ≡ Some doubt → doubt.act ≡ OfCall deed
+module _ (trace : List TraceLine) (rows : List SessionRow) (slots : ℕ → Slot) (doubts : ℕ → Option views.Unacknowledged) where
+  pub there_is : (slot : ℕ) (row : SessionRow) (doubt : views.Unacknowledged) (deed : Deed) (taking : Taking) → opens (slots slot).activity ≡ true → row_at rows slot ≡ Some row → doubts row.number ≡ Some doubt → doubt.act ≡ OfCall deed
       → taking_of trace doubt.call ≡ Some taking → doubts_by trace rows slots doubts slot ≡ Some (record { call = taking; point = point_by doubt.call deed })
   there_is slot row doubt deed taking opened found has act taken =
       ap (λ (t : Bool). if t then doubt_in trace doubts (row_at rows slot) else None) opened
@@ -34,22 +34,22 @@ module _ (trace : List TraceLine) (rows : List SessionRow) (slots : ℕ → Slot
 -- ---- what one is
 
 -- It is of the session whose slot it is.
-record IsOfSlot (trace : List TraceLine) (rows : List SessionRow) (slots : ℕ → Slot) (doubts : ℕ → Option views.Doubt) (slot : ℕ) (one : Doubt) : Type 0 where
+record IsOfSlot (trace : List TraceLine) (rows : List SessionRow) (slots : ℕ → Slot) (doubts : ℕ → Option views.Unacknowledged) (slot : ℕ) (one : Doubt) : Type 0 where
   row : SessionRow
   found : row_at rows slot ≡ Some row
   opened : opens (slots slot).activity ≡ true
-  doubt : views.Doubt
+  doubt : views.Unacknowledged
   has : doubts row.number ≡ Some doubt
   deed : Deed
   act : doubt.act ≡ OfCall deed
   taken : taking_of trace doubt.call ≡ Some one.call
   point : one.point ≡ point_by doubt.call deed
 
-module _ (trace : List TraceLine) (rows : List SessionRow) (slots : ℕ → Slot) (doubts : ℕ → Option views.Doubt) (slot : ℕ) (one : Doubt) where
+module _ (trace : List TraceLine) (rows : List SessionRow) (slots : ℕ → Slot) (doubts : ℕ → Option views.Unacknowledged) (slot : ℕ) (one : Doubt) where
   of_slot : doubts_by trace rows slots doubts slot ≡ Some one → IsOfSlot trace rows slots doubts slot one
   of_slot = by (opens (slots slot).activity) refl
     where
-      of_taking : (row : SessionRow) (doubt : views.Doubt) (deed : Deed) (found : Option Taking) → row_at rows slot ≡ Some row → opens (slots slot).activity ≡ true → doubts row.number ≡ Some doubt → doubt.act ≡ OfCall deed
+      of_taking : (row : SessionRow) (doubt : views.Unacknowledged) (deed : Deed) (found : Option Taking) → row_at rows slot ≡ Some row → opens (slots slot).activity ≡ true → doubts row.number ≡ Some doubt → doubt.act ≡ OfCall deed
           → taking_of trace doubt.call ≡ found → doubt_at (point_by doubt.call deed) found ≡ Some one → IsOfSlot trace rows slots doubts slot one
       of_taking row doubt deed None at opened has act taken is = absurd cc
       of_taking row doubt deed (Some taking) at opened has act taken is =
@@ -66,12 +66,12 @@ module _ (trace : List TraceLine) (rows : List SessionRow) (slots : ℕ → Slot
             point = sym (ap (λ (d : Doubt). d.point) same);
           }
 
-      of_act : (row : SessionRow) (doubt : views.Doubt) (act : Act) → row_at rows slot ≡ Some row → opens (slots slot).activity ≡ true → doubts row.number ≡ Some doubt → doubt.act ≡ act → doubt_by trace doubt.call act ≡ Some one
+      of_act : (row : SessionRow) (doubt : views.Unacknowledged) (act : Act) → row_at rows slot ≡ Some row → opens (slots slot).activity ≡ true → doubts row.number ≡ Some doubt → doubt.act ≡ act → doubt_by trace doubt.call act ≡ Some one
           → IsOfSlot trace rows slots doubts slot one
       of_act row doubt (OfCall deed) at opened has act is = of_taking row doubt deed (taking_of trace doubt.call) at opened has act refl is
       of_act row doubt OfTidy at opened has act is = absurd cc
 
-      of_doubt : (row : SessionRow) (found : Option views.Doubt) → row_at rows slot ≡ Some row → opens (slots slot).activity ≡ true → doubts row.number ≡ found → doubt_of trace found ≡ Some one → IsOfSlot trace rows slots doubts slot one
+      of_doubt : (row : SessionRow) (found : Option views.Unacknowledged) → row_at rows slot ≡ Some row → opens (slots slot).activity ≡ true → doubts row.number ≡ found → doubt_of trace found ≡ Some one → IsOfSlot trace rows slots doubts slot one
       of_doubt row None at opened has is = absurd cc
       of_doubt row (Some doubt) at opened has is = of_act row doubt doubt.act at opened has refl is
 
@@ -85,7 +85,7 @@ module _ (trace : List TraceLine) (rows : List SessionRow) (slots : ℕ → Slot
 
 -- ---- by what is said of records that may be open
 
-module _ (parts : List Part) (rows : List SessionRow) (next : ℕ) (rising : AreRising rows next) (slots : ℕ → Slot) (doubts : ℕ → Option views.Doubt) (taken : AreOfTaken parts rows slots doubts) where
+module _ (parts : List Part) (rows : List SessionRow) (next : ℕ) (rising : AreRising rows next) (slots : ℕ → Slot) (doubts : ℕ → Option views.Unacknowledged) (taken : AreOfTaken parts rows slots doubts) where
   abbrev Of : ℕ → Doubt → Type 0
   Of slot one = IsOfSlot (trace_of parts) rows slots doubts slot one
 

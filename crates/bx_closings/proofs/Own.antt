@@ -90,8 +90,8 @@ module _ (made : Made) (x y : Disks) (crashed : IsCrashed x y) (labels : LabelsS
       none d label own (inr sure) = sure.1 label own.spells own.names
 
   module _ (register_made : GlobalState) (same : length register_made.devices ≡ made.devices) where
-    labelled_at : (n : ℕ) → IsLabelledSurely made y n → labelled.IsLabelled (length register_made.devices) x.sizes y.reads n
-    labelled_at n is = subst (λ (sizes : List ℕ). labelled.IsLabelled (length register_made.devices) sizes y.reads n) crashed.sizes (record {
+    labelled_at : (n : ℕ) → IsLabelledSurely made y n → labelled.IsReplicaLabelled (length register_made.devices) x.sizes y.reads n
+    labelled_at n is = subst (λ (sizes : List ℕ). labelled.IsReplicaLabelled (length register_made.devices) sizes y.reads n) crashed.sizes (record {
       whole = record { low = is.low; long_enough = is.long };
       first = label_on made labels_then.one;
       is_first = first_of;
@@ -100,10 +100,10 @@ module _ (made : Made) (x y : Disks) (crashed : IsCrashed x y) (labels : LabelsS
     })
 
     -- two replicas are labelled for as many devices
-    pub labelled_one : labelled.IsLabelled (length register_made.devices) x.sizes y.reads labels_then.one
+    pub labelled_one : labelled.IsReplicaLabelled (length register_made.devices) x.sizes y.reads labels_then.one
     labelled_one = labelled_at labels_then.one labels_then.is_one
 
-    pub labelled_other : labelled.IsLabelled (length register_made.devices) x.sizes y.reads labels_then.other
+    pub labelled_other : labelled.IsReplicaLabelled (length register_made.devices) x.sizes y.reads labels_then.other
     labelled_other = labelled_at labels_then.other labels_then.is_other
 
     pub apart : labels_then.one ≡ labels_then.other → ⊥

@@ -38,11 +38,11 @@ use Rattle.bx_world_views.specs.Views as views
 use Rattle.bx_world_views.specs.Views.{Act, OfCall, OfTidy, StepOf, VolumeStands}
 use Rattle.bx_world_volumes.proofs.Trees.{nobody, nothing, unhinted}
 
-some_doubt : (found : Option views.Doubt) (P : views.Doubt → Type 0) → IsSomeAnd found P → (doubt : views.Doubt) × (found ≡ Some doubt) × P doubt
+some_doubt : (found : Option views.Unacknowledged) (P : views.Unacknowledged → Type 0) → IsSomeAnd found P → (doubt : views.Unacknowledged) × (found ≡ Some doubt) × P doubt
 some_doubt None P is = absurd is
 some_doubt (Some doubt) P is = (doubt, refl, is)
 
-module _ {T : Type 0} (Stands : Truth → Hints → T → Type 0) (Step : T → Deed → T → Type 0) (parts : List Part) (s : GlobalState) (allowed : IsAllowed s) (logs : Logs) (slots : ℕ → Slot) (holding : Holds) (doubts : ℕ → Option views.Doubt)
+module _ {T : Type 0} (Stands : Truth → Hints → T → Type 0) (Step : T → Deed → T → Type 0) (parts : List Part) (s : GlobalState) (allowed : IsAllowed s) (logs : Logs) (slots : ℕ → Slot) (holding : Holds) (doubts : ℕ → Option views.Unacknowledged)
     (doubted : DoubtsStand s.sessions slots doubts) (of_taken : AreOfTaken parts s.sessions slots doubts) (have : HavePoints parts logs) (zero_lacks : lacks_point (trace_of parts) 0 ≡ false)
     (is_open : (slot : ℕ) → slot < 8 → opens (slots slot).activity ≡ true → is_taken s.sessions slot ≡ true) where
   abbrev mine : ℕ → Option Doubt
@@ -52,7 +52,7 @@ module _ {T : Type 0} (Stands : Truth → Hints → T → Type 0) (Step : T → 
   lacked points = filter (λ point. lacks_point (trace_of parts) point.call) points
 
   -- what stands of the volume, with no node
-  abbrev Alone : (ℕ → Option views.Doubt) → Truth → T → Type 0
+  abbrev Alone : (ℕ → Option views.Unacknowledged) → Truth → T → Type 0
   Alone left truth tree = VolumeStands Stands Step holding (HasRow s) (LivesIn s) nobody nothing unhinted left truth tree
 
   -- what a log has was told
@@ -66,7 +66,7 @@ module _ {T : Type 0} (Stands : Truth → Hints → T → Type 0) (Step : T → 
       opened : List Point
       tells : Tells (runs.StepOf Step) mine n first tree opened
       points : lacked (points_to shown n) ≡ opened
-      left : ℕ → Option views.Doubt
+      left : ℕ → Option views.Unacknowledged
       same : (session : ℕ) (row : SessionRow) → row_in s.sessions session ≡ Some row → n ≤ row.slot → left session ≡ doubts session
       stands : Alone left truth tree
 
@@ -91,7 +91,7 @@ module _ {T : Type 0} (Stands : Truth → Hints → T → Type 0) (Step : T → 
 
     -- a record in doubt is shown
     module _ (n : ℕ) (opened_there : opens (slots n).activity ≡ true) (row : SessionRow) (found : row_at s.sessions n ≡ Some row) (old : Truth) (far : SoFar n old)
-        (doubt : views.Doubt) (has : doubts row.number ≡ Some doubt) (of : IsRecordOf (slots n).more doubt) (run : shown n ≡ (slots n).more ∷ logs n) where
+        (doubt : views.Unacknowledged) (has : doubts row.number ≡ Some doubt) (of : IsRecordOf (slots n).more doubt) (run : shown n ≡ (slots n).more ∷ logs n) where
       its_row : (row_in s.sessions row.number ≡ Some row) × (row.slot ≡ n)
       its_row = found_is s.sessions s.next_session n row allowed.rising found
 
@@ -182,7 +182,7 @@ module _ {T : Type 0} (Stands : Truth → Hints → T → Type 0) (Step : T → 
         its : (row_in s.sessions row_here.0.number ≡ Some row_here.0) × (row_here.0.slot ≡ n)
         its = found_is s.sessions s.next_session n row_here.0 allowed.rising row_here.1
 
-        mine_here : (doubt : views.Doubt) × (doubts row_here.0.number ≡ Some doubt) × IsRecordOf (slots n).more doubt
+        mine_here : (doubt : views.Unacknowledged) × (doubts row_here.0.number ≡ Some doubt) × IsRecordOf (slots n).more doubt
         mine_here = some_doubt (doubts row_here.0.number) (IsRecordOf (slots n).more)
             (subst (λ (k : ℕ). IsSomeAnd (doubts row_here.0.number) (IsRecordOf (slots k).more)) its.1
             (doubted.each row_here.0.number row_here.0 its.0 (ap (λ (k : ℕ). begins (slots k).activity) its.1 ∙ opens_begins (slots n).activity is.0)))

@@ -226,7 +226,7 @@ module _ (tree : Tree) where
     given_same call now spare (args.Symlink at name path sattr) e = taken_same (symlink tree call at name path sattr now spare) (makes_link call at name path sattr now spare) e
 
 -- So along a history.
-pub leads_same : (first : Tree) (history : List Entry) (last : Tree) → LeadsNewest (StepOf steps.Step) first history last → Same first last
+pub leads_same : (first : Tree) (history : List Entry) (last : Tree) → LeadsNewest (StepOf steps.StepOfTree) first history last → Same first last
 leads_same first [] last leads = subst (Same first) (sym leads) (same first)
 leads_same first (entry ∷ earlier) last (middle, before, step) =
     let one = leads_same first earlier middle before in

@@ -24,12 +24,12 @@ abbrev pub doubt_by : List TraceLine → ℕ → Act → Option Doubt
 doubt_by trace call (OfCall deed) = doubt_at (point_by call deed) (taking_of trace call)
 doubt_by trace call OfTidy = None
 
-abbrev pub doubt_of : List TraceLine → Option views.Doubt → Option Doubt
+abbrev pub doubt_of : List TraceLine → Option views.Unacknowledged → Option Doubt
 doubt_of trace None = None
 doubt_of trace (Some doubt) = doubt_by trace doubt.call doubt.act
 
 -- of the session with this row
-abbrev pub doubt_in : List TraceLine → (ℕ → Option views.Doubt) → Option SessionRow → Option Doubt
+abbrev pub doubt_in : List TraceLine → (ℕ → Option views.Unacknowledged) → Option SessionRow → Option Doubt
 doubt_in trace doubts None = None
 doubt_in trace doubts (Some row) = doubt_of trace (doubts row.number)
 
@@ -37,5 +37,5 @@ doubt_in trace doubts (Some row) = doubt_of trace (doubts row.number)
 abbrev pub row_at : List SessionRow → ℕ → Option SessionRow
 row_at rows slot = find (λ row. row.slot == slot) rows
 
-abbrev pub doubts_by : List TraceLine → List SessionRow → (ℕ → Slot) → (ℕ → Option views.Doubt) → ℕ → Option Doubt
+abbrev pub doubts_by : List TraceLine → List SessionRow → (ℕ → Slot) → (ℕ → Option views.Unacknowledged) → ℕ → Option Doubt
 doubts_by trace rows slots doubts slot = if opens (slots slot).activity then doubt_in trace doubts (row_at rows slot) else None

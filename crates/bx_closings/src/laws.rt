@@ -9,7 +9,7 @@ ghost use Rattle.bx_history.specs.Parts.{Part};
 ghost use Rattle.bx_model.specs.declared.tree.Tree.{Tree};
 ghost use Rattle.bx_opens.specs.Opening.{AreOpenAlone};
 ghost use Rattle.bx_rack_audit.specs.Alone.{StandAlone};
-ghost use Rattle.bx_steps.specs.Steps.{Step};
+ghost use Rattle.bx_steps.specs.Steps.{StepOfTree};
 
 use bx_devices::Devices;
 use bx_engine::BoxFs;
@@ -21,7 +21,7 @@ use bx_world::World;
 /// tell the state in which they do. Of the calls that lack a point those have open records which the tree is after, in the order of their slots, and no others.
 pub fn what_disks_show(world: &World<Paxos, Locks, Devices, BoxFs>)
     ensures { (x y : Disks) (first : Tree) (parts : List Part) → LedTo world.now x first parts → IsOfVolume world.now first → IsCrashed x y
-        → Closes (StepOf Step) (answers_at_once world.now) (StandAlone y) (AreOpenAlone y) first parts }
+        → Closes (StepOf StepOfTree) (answers_at_once world.now) (StandAlone y) (AreOpenAlone y) first parts }
 {
     let _world = world;
 }

@@ -38,9 +38,9 @@ Counted (Blank at) old new = new ≡ old
 
 -- ---- what is shown after it
 
-abbrev pub greatest_with : Option ℕ → ℕ → ℕ
-greatest_with None greatest = greatest
-greatest_with (Some reading) greatest = max greatest reading
+abbrev pub greatest_reading : Option ℕ → ℕ → ℕ
+greatest_reading None greatest = greatest
+greatest_reading (Some reading) greatest = max greatest reading
 
 -- which machines are down
 abbrev pub down_with : Event → (Actor → Bool) → Actor → Bool
@@ -72,7 +72,7 @@ post_with (Blank at) post = post
 pub record Shown (event : Event) (stopped : Option Actor) (old new : Seen) : Type 0 where
   pub nodes : new.nodes ≡ old.nodes
   pub devices : new.devices ≡ old.devices
-  pub greatest : new.greatest ≡ greatest_with (reading_of event) old.greatest
+  pub greatest : new.greatest ≡ greatest_reading (reading_of event) old.greatest
   pub down : (who : Actor) → new.down who ≡ down_but stopped (down_with event old.down) who
   pub sent : List Letter
   pub post : new.post ≡ post_with event old.post ++ map fresh sent

@@ -1,7 +1,7 @@
 -- CREATE: the directory in which it looks for the name, and the search for it.
 use Rattle.std.specs.Prelude.{◌≡◌, ℕ, false, List, Option, Some, None, Result, Ok, Err}
 use Rattle.bx_entries.specs.Finding.{IsDirectoryOf}
-use Rattle.bx_files.specs.Paths.{Finds}
+use Rattle.bx_files.specs.Paths.{LandsAtValue}
 use Rattle.bx_inodes.specs.declared.stop.Stop.{Stop}
 use Rattle.bx_inodes.specs.declared.stop.Stop.TheVariants.{Need, Inner, Status, OutOfMemory}
 use Rattle.bx_layout.specs.declared.inode.Inode.{Inode}
@@ -37,4 +37,4 @@ FoundIn names name (Err OutOfMemory) = Unit {0}
 -- a search finds an entry of the name that names a handle
 pub record FindsEntry (held : Held) (hints : Hints) (root : ℕ) (name : List ℕ) (handle : ℕ) : Type 0 where
   pub number : ℕ
-  pub found : Finds held hints root (name_key name) (Some (name_value number handle))
+  pub found : LandsAtValue held hints root (name_key name) (Some (name_value number handle))

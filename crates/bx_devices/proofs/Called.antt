@@ -124,19 +124,19 @@ module _ (o new : DeviceMachines) (x : Disks) (past : StorePast) (before after :
   into : (P : Parts → StorePast → Type 0) → P (parts_sent (parts_of o) node session until runs) (past_sent (parts_of o) was node session until runs) → P (parts_of new) then_
   into P is = subst (λ (p : Parts). P p then_) (sym parts_are) (subst (λ (ls : List Letter). P (parts_sent (parts_of o) node session until runs) (with_letters ls)) (sym letters_are) is)
 
-  record Goes : Type 0 where
+  record StreamGoes : Type 0 where
     keeps : Keeps (parts_of new) x then_
     settles : (d sector : ℕ) (content : List ℕ) → Settled o x was d sector content → Settled new x then_ d sector content
     stands : (d sector : ℕ) (content : List ℕ) (index : ℕ) → Stands o x was d sector content index → Stands new x then_ d sector content index
     reads : (reader : ℕ) (read : Asking) (sector : ℕ) (content : List ℕ) → WillReadOn (parts_of o) x was reader read sector content → WillReadOn (parts_of new) x then_ reader read sector content
 
-  goes : Goes
+  goes : StreamGoes
   goes = by (next_number c.sequence == 0) refl
     where
       p : Parts
       p = parts_of o
 
-      by : (t : Bool) → (next_number c.sequence == 0) ≡ t → Goes
+      by : (t : Bool) → (next_number c.sequence == 0) ≡ t → StreamGoes
       by false left =
           let may_it : MaySend p was node session until runs = record { own = own; none = none_there; runs_are = are; may = may; left = left; fits = fits_it; few = rows_few o x was fitting node session own; epochs = rows_fit o x was fitting node session own } in
           record {

@@ -13,7 +13,7 @@ use Rattle.bx_mirror_client.specs.declared.asking.Asking.{Asking}
 use Rattle.bx_mirror_client.specs.declared.sending.Sending.{Sending}
 use Rattle.bx_records.specs.Runs.{KindAndRuns}
 use Rattle.bx_devices.proofs.Leaving.{needs_away, needs_no_more}
-use Rattle.bx_devices.specs.Events.{FaultsAt, Goes, RestartsAt, StopsAt}
+use Rattle.bx_devices.specs.Events.{FaultsAt, StreamGoes, RestartsAt, StopsAt}
 use Rattle.bx_devices.specs.Fitting.{answer_of, asked_of, out_of, own_of}
 use Rattle.bx_devices.specs.Machines.{DeviceMachines, OnlyMachine, StaysAway, due_at, due_in, needs_of, slot_of, stream_of}
 
@@ -95,7 +95,7 @@ none_done (Some s) e = absurd cc
 
 -- ---- an event
 
-pub event_out : (o new : DeviceMachines) (node : ℕ) → Goes (stream_of o node) (stream_of new node) → (out_of new node ≡ None) ⊎ (out_of new node ≡ out_of o node)
+pub event_out : (o new : DeviceMachines) (node : ℕ) → StreamGoes (stream_of o node) (stream_of new node) → (out_of new node ≡ None) ⊎ (out_of new node ≡ out_of o node)
 event_out o new node goes = goes.out
 
 pub event_others : (at : Actor) (o new : DeviceMachines) (node : ℕ) → OnlyMachine at o new → at ≢ Node node → own_of new node ≡ own_of o node

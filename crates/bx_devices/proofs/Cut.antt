@@ -25,7 +25,7 @@ use Rattle.bx_records.specs.declared.runs.Run.{Run}
 use Rattle.bx_mirror_client.specs.Sends.{member_at}
 use Rattle.bx_mirror_client.specs.Streams.{Streaming, sent_in}
 use Rattle.bx_mirror_client.specs.declared.sending.Sending.{Sending}
-use Rattle.bx_mirror_member.specs.Standing.{Standing, disk_in, learned, room_in}
+use Rattle.bx_mirror_member.specs.Standing.{MemberView, disk_in, learned, room_in}
 use Rattle.bx_mirror_server.specs.Serving.{BringsOnly}
 use Rattle.bx_mirror_server.specs.Working.{alone}
 use Rattle.bx_mirror_cluster.proofs.Clock.{stands_clock}
@@ -58,7 +58,7 @@ leaves_both before now past since P Q first second = record {
 }
 
 -- a member that is up is one of the volume
-member_within : (o : DeviceMachines) (n : ℕ) (m : Standing) → IsShape o → slot_of o n ≡ Some m → n < 2 * o.made.devices
+member_within : (o : DeviceMachines) (n : ℕ) (m : MemberView) → IsShape o → slot_of o n ≡ Some m → n < 2 * o.made.devices
 member_within o n m shape is = elim (cases_lt n (2 * o.made.devices)) [
   | inl less ↦ less
   | inr far ↦ absurd (nobody m (sym (beyond o.members n None (let long = shape.members in omega (arith, far, long))) ∙ is))
@@ -76,13 +76,13 @@ module _ (o : DeviceMachines) (x : Disks) (past : StorePast) (known : GlobalStat
 
   -- ---- a member's event, of its device
 
-  module _ (d : ℕ) (b : Bool) (within : d < o.made.devices) (less : member_at d b < 2 * o.made.devices) (m : Standing) (is : slot_of o (member_at d b) ≡ Some m) (may : MayTake was.told known (Member (member_at d b)) input) (runs : List Run)
+  module _ (d : ℕ) (b : Bool) (within : d < o.made.devices) (less : member_at d b < 2 * o.made.devices) (m : MemberView) (is : slot_of o (member_at d b) ≡ Some m) (may : MayTake was.told known (Member (member_at d b)) input) (runs : List Run)
       (brings : BringsOnly (learned known m) (input_for (Member (member_at d b)) input) runs) where
     abbrev n : ℕ
     n = member_at d b
 
     brings_it : BringsOnly (learned known (member_of o n)) (input_for (Member n) input) runs
-    brings_it = subst (λ (k : Standing). BringsOnly (learned known k) (input_for (Member n) input) runs) (sym (member_there o n m is)) brings
+    brings_it = subst (λ (k : MemberView). BringsOnly (learned known k) (input_for (Member n) input) runs) (sym (member_there o n m is)) brings
 
     cut_at : (new : DeviceMachines) (y : Disks) → OnlyMachine (Member n) o new → slot_of new n ≡ Some (learned known m) → KeepsMembers (alone runs) 0 x y → ((k s : ℕ) → k ≢ 3 + n → Stays x y k s) → SameMemberLengths x y
         → PartsGo (parts_of o) (parts_of new) x y was (then_ (Member n) None before)
@@ -93,7 +93,7 @@ module _ (o : DeviceMachines) (x : Disks) (past : StorePast) (known : GlobalStat
         (for_steady (Member n) past.told.greatest input may.steady) runs brings_it y members (λ k s apart. others k s (λ e. apart (e ∙ disk_of_member d b))) lengths)) in
         let then_is : learned known (member_of o n) ≡ member_of new n = ap (learned known) (member_there o n m is) ∙ sym (member_there new n (learned known m) faulted) in
         subst (λ (p : Parts). PartsGo (parts_of o) p x y was (then_ (Member n) None before)) (sym (parts_served o new n only))
-        (subst (λ (k : Standing). PartsGo (parts_of o) (with_serving (parts_of o) n k) x y was (then_ (Member n) None before)) then_is base)
+        (subst (λ (k : MemberView). PartsGo (parts_of o) (with_serving (parts_of o) n k) x y was (then_ (Member n) None before)) then_is base)
 
     image_at : (image : Image) → HasMembers (alone runs) 0 x image → HasSure x (3 + n) 1 (store_room o.made - 1) image → HasSettled past.writes past.told.greatest (Settled o x was) x (last past.told.chain) image
     image_at image has sure =
@@ -110,7 +110,7 @@ module _ (o : DeviceMachines) (x : Disks) (past : StorePast) (known : GlobalStat
     abbrev y : Disks
     y = rack.state after
 
-    fault_in : (new : DeviceMachines) (n : ℕ) (slot : Option Standing) → slot_of o n ≡ slot → SlotFaults known slot (slot_of new n) → DisksIn rack r after known (input_for (Member n) input) slot → OnlyMachine (Member n) o new
+    fault_in : (new : DeviceMachines) (n : ℕ) (slot : Option MemberView) → slot_of o n ≡ slot → SlotFaults known slot (slot_of new n) → DisksIn rack r after known (input_for (Member n) input) slot → OnlyMachine (Member n) o new
         → MayTake was.told known (Member n) input → PartsGo (parts_of o) (parts_of new) x y was (then_ (Member n) None before)
     fault_in new n None is faulted works only may = absurd faulted
     fault_in new n (Some m) is faulted works only may =
@@ -141,7 +141,7 @@ module _ (o : DeviceMachines) (x : Disks) (past : StorePast) (known : GlobalStat
           (leaves_now (rack.moment r) (rack.left_since r) (HasSettled past.writes past.told.greatest (Settled o x was) x (last past.told.chain))
           (λ image left. of_image image (subst (λ (z : Disks). IsImage z image) state_is (only_now image left))))
 
-      leaves_in : (n : ℕ) (slot : Option Standing) → slot_of o n ≡ slot → DisksIn rack r after known (input_for (Member n) input) slot → MayTake was.told known (Member n) input → Images
+      leaves_in : (n : ℕ) (slot : Option MemberView) → slot_of o n ≡ slot → DisksIn rack r after known (input_for (Member n) input) slot → MayTake was.told known (Member n) input → Images
       leaves_in n None is works may = leaves_same works
       leaves_in n (Some m) is works may =
           let less = member_within o n m fitting.shape is in
@@ -174,9 +174,9 @@ module _ (o : DeviceMachines) (x : Disks) (past : StorePast) (known : GlobalStat
     itself = λ n. ap (λ (c : Streaming). c.node) (streams at faulted only n) ∙ fitting.itself n;
   }
     where
-      some_then : (slot then_slot : Option Standing) → SlotFaults known slot then_slot → IsSome then_slot
+      some_then : (slot then_slot : Option MemberView) → SlotFaults known slot then_slot → IsSome then_slot
       some_then None then_slot is = absurd is
-      some_then (Some m) then_slot is = subst (λ (s : Option Standing). IsSome s) (sym is) refl
+      some_then (Some m) then_slot is = subst (λ (s : Option MemberView). IsSome s) (sym is) refl
 
       by : (who : Actor) → FaultsAt who known o new → OnlyMachine who o new → (n : ℕ) → IsSome (slot_of o n) → IsSome (slot_of new n)
       by (Node k) is others n some = absurd is
@@ -184,7 +184,7 @@ module _ (o : DeviceMachines) (x : Disks) (past : StorePast) (known : GlobalStat
       by (Server k) is others n some = absurd is
       by (Member k) is others n some = elim (cases_eq n k) [
         | inl same ↦ subst (λ (j : ℕ). IsSome (slot_of new j)) (sym same) (some_then (slot_of o k) (slot_of new k) is)
-        | inr apart ↦ subst (λ (s : Option Standing). IsSome s) (sym (others.members n (λ same. apart (let e : k ≡ n = cc in sym e)))) some
+        | inr apart ↦ subst (λ (s : Option MemberView). IsSome s) (sym (others.members n (λ same. apart (let e : k ≡ n = cc in sym e)))) some
       ]
 
       streams : (who : Actor) → FaultsAt who known o new → OnlyMachine who o new → (n : ℕ) → stream_of new n ≡ stream_of o n

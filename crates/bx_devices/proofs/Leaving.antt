@@ -17,16 +17,16 @@ use Rattle.bx_post.specs.declared.packets.Letter.{Letter}
 use Rattle.bx_mirror_client.specs.Asks.{asked_in}
 use Rattle.bx_mirror_client.specs.Streams.{IsOwnRead, Streaming, sent_in}
 use Rattle.bx_mirror_client.proofs.Leaving as leaving
-use Rattle.bx_mirror_member.specs.Standing.{Standing}
+use Rattle.bx_mirror_member.specs.Standing.{MemberView}
 use Rattle.bx_devices.specs.Disks.{DisksAt, DisksIn, LabelsAt}
-use Rattle.bx_devices.specs.Events.{Goes, TakesAt}
+use Rattle.bx_devices.specs.Events.{StreamGoes, TakesAt}
 use Rattle.bx_devices.specs.Machines.{DeviceMachines, IsShape, OnlyMachine, StaysAway, due_at, due_in, need_in, needs_of, slot_needs, slot_of, stream_of}
 use Rattle.bx_devices.specs.Needs.{needs_behind, needs_here, needs_none, slot_in, slot_out}
 
 -- ---- streams
 
 node_goes : (Told : Type 0) (n : ℕ) (known : GlobalState) (input : Input) (o new : DeviceMachines) (change : Option Change) (before after : List Letter) (old now : Disks) → IsOwnRead (stream_of o n).session (stream_of o n).asks
-    → TakesAt Told (Node n) known input o new change before after old now → Goes (stream_of o n) (stream_of new n)
+    → TakesAt Told (Node n) known input o new change before after old now → StreamGoes (stream_of o n) (stream_of new n)
 node_goes Told n known input o new change before after old now own is =
     let leaves = leaving.leaves (stream_of o n) known input (stream_of new n) before after is.takes in
     let out = ⊎_elim (λ gone. inl (ap sent_in gone)) (λ same. inr same) leaves.out in
@@ -35,13 +35,13 @@ node_goes Told n known input o new change before after old now own is =
       | inr gone ↦ record { out = out; asks = inl gone.0; new_session = λ other. ap asked_in gone.1 }
     ]
 
-same_goes : (c new : Streaming) → new ≡ c → Goes c new
+same_goes : (c new : Streaming) → new ≡ c → StreamGoes c new
 same_goes c new e = record { out = inr (ap (λ (k : Streaming). sent_in k.out) e); asks = inr (ap (λ (k : Streaming). asked_in k.asks) e); new_session = λ other. absurd (other (ap (λ (k : Streaming). k.session) e)) }
 
 pub event_goes : (Told : Type 0) (at : Actor) (known : GlobalState) (input : Input) (o new : DeviceMachines) (change : Option Change) (before after : List Letter) (old now : Disks) (node : ℕ) → ((n : ℕ) → at ≡ Node n → IsOwnRead (stream_of o n).session (stream_of o n).asks)
-    → TakesAt Told at known input o new change before after old now → OnlyMachine at o new → Goes (stream_of o node) (stream_of new node)
+    → TakesAt Told at known input o new change before after old now → OnlyMachine at o new → StreamGoes (stream_of o node) (stream_of new node)
 event_goes Told (Node n) known input o new change before after old now node own is others = elim (cases_eq node n) [
-  | inl here ↦ subst (λ (k : ℕ). Goes (stream_of o k) (stream_of new k)) (sym here) (node_goes Told n known input o new change before after old now (own n refl) is)
+  | inl here ↦ subst (λ (k : ℕ). StreamGoes (stream_of o k) (stream_of new k)) (sym here) (node_goes Told n known input o new change before after old now (own n refl) is)
   | inr apart ↦ same_goes (stream_of o node) (stream_of new node) (others.streams node (λ same. apart cc))
 ]
 event_goes Told (Replica n) known input o new change before after old now node own is others = same_goes (stream_of o node) (stream_of new node) (others.streams node (λ same. absurd cc))
@@ -65,8 +65,8 @@ owes_only who o new only = record { others = λ other apart. by other apart }
 
 -- ---- what is needed
 
-need_less : (room then : ℕ) (slot new : Option Standing) → then ≡ room → (slot ≡ None → new ≡ None) → need_in then new ≤ need_in room slot
-need_less room then None new same away = subst (λ (one : Option Standing). need_in then one ≤ 0) (sym (away refl)) (omega arith)
+need_less : (room then : ℕ) (slot new : Option MemberView) → then ≡ room → (slot ≡ None → new ≡ None) → need_in then new ≤ need_in room slot
+need_less room then None new same away = subst (λ (one : Option MemberView). need_in then one ≤ 0) (sym (away refl)) (omega arith)
 need_less room then (Some m) None same away = omega arith
 need_less room then (Some m) (Some k) same away = omega (arith, same)
 
@@ -88,7 +88,7 @@ needs_no_more o new made stays = record {
 -- one that isn't up needs nothing
 pub needs_away : (o : DeviceMachines) (n : ℕ) → slot_of o n ≡ None → needs_of o (3 + n) ≡ 0
 needs_away o n none = needs_here o n ∙ elim (cases_lt n (2 * o.made.devices)) [
-  | inl less ↦ slot_in o n less ∙ ap (λ (slot : Option Standing). need_in (store_room o.made) slot) none
+  | inl less ↦ slot_in o n less ∙ ap (λ (slot : Option MemberView). need_in (store_room o.made) slot) none
   | inr far ↦ slot_out o n far
 ]
 
@@ -101,7 +101,7 @@ module _ {R : Type 0} (rack : racks.Ghosts R) (old new : R) (tells : rack.tells 
   same_rack : (d s : ℕ) → new ≡ old → Stays (rack.state old) (rack.state new) d s
   same_rack d s e = same_disks (rack.state old) (rack.state new) d s (ap (λ (r : R). rack.state r) e)
 
-  slot_disk : (n : ℕ) (known : GlobalState) (input : Input) (o : DeviceMachines) (slot : Option Standing) → IsShape o → slot_of o n ≡ slot → DisksIn rack old new known input slot → (d s : ℕ) → d ≢ 3 + n → Stays (rack.state old) (rack.state new) d s
+  slot_disk : (n : ℕ) (known : GlobalState) (input : Input) (o : DeviceMachines) (slot : Option MemberView) → IsShape o → slot_of o n ≡ slot → DisksIn rack old new known input slot → (d s : ℕ) → d ≢ 3 + n → Stays (rack.state old) (rack.state new) d s
   slot_disk n known input o None shape is works d s apart = same_rack d s works
   slot_disk n known input o (Some m) shape is works d s apart =
       let own = shape.each n m is in

@@ -6,13 +6,13 @@ use Rattle.bx_facts.specs.Writes.{Made}
 use Rattle.bx_global.specs.declared.state.GlobalState.{GlobalState}
 use Rattle.bx_mirror_client.specs.Streams as streams
 use Rattle.bx_mirror_client.specs.Streams.{Streaming}
-use Rattle.bx_mirror_member.specs.Standing.{Standing, new_member}
+use Rattle.bx_mirror_member.specs.Standing.{MemberView, new_member}
 use Rattle.bx_devices.specs.Machines.{AreMade, IsOwn, IsShape, machines, no_stream}
 use Rattle.bx_devices.proofs.Owning.{some_room}
 use Rattle.bx_devices.specs.Needs.{beyond}
 
 -- so many members are made, and so many streams
-pub record AreMembers (made : Made) (count : ℕ) (members : List (Option Standing)) : Type 0 where
+pub record AreMembers (made : Made) (count : ℕ) (members : List (Option MemberView)) : Type 0 where
   pub length_is : length members ≡ count
   pub each : (n : ℕ) → n < count → slice_index_or members n None ≡ Some (new_member n made)
 
@@ -20,13 +20,13 @@ pub record AreStreams (s : GlobalState) (count : ℕ) (all : List Streaming) : T
   pub length_is : length all ≡ count
   pub each : (node : ℕ) → node < count → slice_index_or all node (no_stream node) ≡ streams.made node s
 
-pub no_members : (made : Made) (members : List (Option Standing)) → members ≡ [] → AreMembers made 0 members
+pub no_members : (made : Made) (members : List (Option MemberView)) → members ≡ [] → AreMembers made 0 members
 no_members made members none = record { length_is = ap length none; each = λ n less. absurd (omega (arith, less)) }
 
 pub no_streams : (s : GlobalState) (all : List Streaming) → all ≡ [] → AreStreams s 0 all
 no_streams s all none = record { length_is = ap length none; each = λ node less. absurd (omega (arith, less)) }
 
-module _ (volume nodes devices areas : ℕ) (s : GlobalState) (members : List (Option Standing)) (all : List Streaming) where
+module _ (volume nodes devices areas : ℕ) (s : GlobalState) (members : List (Option MemberView)) (all : List Streaming) where
   abbrev Made_ : Made
   Made_ = record { volume = volume; nodes = nodes; devices = devices; areas = areas }
 
@@ -50,14 +50,14 @@ module _ (volume nodes devices areas : ℕ) (s : GlobalState) (members : List (O
     ];
   }
     where
-      nothing : (m : Standing) → None ≡ Some m → ⊥
+      nothing : (m : MemberView) → None ≡ Some m → ⊥
       nothing m e = cc
 
       long : {n : ℕ} → 2 * devices ≤ n → length members ≤ n
       long far = let is = are_members.length_is in omega (arith, far, is)
 
-      new_own : (n : ℕ) (m : Standing) → Some (new_member n Made_) ≡ Some m → IsOwn Made_ n m
-      new_own n m e = let same : new_member n Made_ ≡ m = cc in subst (λ (k : Standing). IsOwn Made_ n k) same (record { number = refl_number; made_is = refl_made; place = let some = some_room Made_ in omega (arith, some); quiet = λ due. refl_owed })
+      new_own : (n : ℕ) (m : MemberView) → Some (new_member n Made_) ≡ Some m → IsOwn Made_ n m
+      new_own n m e = let same : new_member n Made_ ≡ m = cc in subst (λ (k : MemberView). IsOwn Made_ n k) same (record { number = refl_number; made_is = refl_made; place = let some = some_room Made_ in omega (arith, some); quiet = λ due. refl_owed })
         where
           refl_number : n ≡ n
           refl_number = cc

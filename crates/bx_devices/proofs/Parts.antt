@@ -6,7 +6,7 @@ use Rattle.std.proofs.lemmas.Bool.Decides.{nat_tests}
 use Rattle.bx_base.specs.declared.names.Actor.{Actor}
 use Rattle.bx_base.specs.declared.names.Actor.TheVariants.{Node, Replica, Server, Member}
 use Rattle.bx_facts.specs.Writes.{Made}
-use Rattle.bx_mirror_member.specs.Standing.{Standing}
+use Rattle.bx_mirror_member.specs.Standing.{MemberView}
 use Rattle.bx_mirror_cluster.specs.Beside.{IsBeside, SameServing}
 use Rattle.bx_mirror_cluster.specs.MemberSteps.{with_member, with_serving}
 use Rattle.bx_mirror_cluster.specs.Writing.{with_node, with_stream}
@@ -16,7 +16,7 @@ use Rattle.bx_devices.specs.Machines.{DeviceMachines, IsShape, OnlyMachine, memb
 
 -- a slot that stays has the same member
 pub same_member : (o new : DeviceMachines) (k : ℕ) → new.made ≡ o.made → slot_of new k ≡ slot_of o k → member_of new k ≡ member_of o k
-same_member o new k made same = ap (λ (m : Made). or_new m k (slot_of new k)) made ∙ ap (λ (slot : Option Standing). or_new o.made k slot) same
+same_member o new k made same = ap (λ (m : Made). or_new m k (slot_of new k)) made ∙ ap (λ (slot : Option MemberView). or_new o.made k slot) same
 
 pub other_number : (k n : ℕ) → k ≢ n → Member n ≢ Member k
 other_number k n apart same = let e : n ≡ k = cc in apart (sym e)
@@ -57,12 +57,12 @@ parts_same who o new beside was shape only = λ i. record { made = only.made i; 
 pub same_serving : (o : DeviceMachines) → IsShape o → SameServing (parts_of o) (member_of o)
 same_serving o shape = record {
   same = λ n less. refl;
-  owed = λ n far. ap (λ (m : Standing). m.owed) (none n far);
-  lasts = λ n far. ap (λ (m : Standing). m.lasts) (none n far);
+  owed = λ n far. ap (λ (m : MemberView). m.owed) (none n far);
+  lasts = λ n far. ap (λ (m : MemberView). m.lasts) (none n far);
 }
   where
     none : (n : ℕ) → 2 * o.made.devices ≤ n → member_of o n ≡ or_new o.made n None
-    none n far = ap (λ (slot : Option Standing). or_new o.made n slot) (beyond o.members n None (let long = shape.members in omega (arith, far, long)))
+    none n far = ap (λ (slot : Option MemberView). or_new o.made n slot) (beyond o.members n None (let long = shape.members in omega (arith, far, long)))
 
 -- such machines
 pub replica_beside : (made : Made) (n : ℕ) → IsBeside made (Replica n)

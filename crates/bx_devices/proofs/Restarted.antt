@@ -24,7 +24,7 @@ use Rattle.bx_rows.specs.declared.device.DeviceRow.{DeviceRow}
 use Rattle.bx_mirror_client.specs.Sends.{member_at}
 use Rattle.bx_mirror_client.specs.Streams.{Streaming, restarted}
 use Rattle.bx_mirror_client.specs.declared.asking.Asking.{Asking}
-use Rattle.bx_mirror_member.specs.Standing.{Standing, hearing, new_member, started}
+use Rattle.bx_mirror_member.specs.Standing.{MemberView, hearing, new_member, started}
 use Rattle.bx_mirror_cluster.proofs.Beside.{one_beside}
 use Rattle.bx_mirror_cluster.proofs.Chained.{settled_is}
 use Rattle.bx_mirror_cluster.proofs.DiskChanges.{disks_stay, stays_reads, stays_settled, stays_stands}
@@ -61,7 +61,7 @@ module _ (made : Made) (x y : Disks) (d : ℕ) (b : Bool) (boot : ℕ) (keeps : 
   lengths = record { each = λ k far. ap (λ (sizes : List ℕ). slice_index sizes k) keeps.sizes }
 
   -- it has its label, and all is sure
-  booted : (m : Standing) → m.boot ≡ boot → m.row ≡ None → m.lasts ≡ [] → m.owed ≡ [] → IsSynced y (member_disk d b) → SpellsLabel (label_on made (member_disk d b)) (y.reads (member_disk d b) 0) → store_room made ≤ slice_index x.sizes (member_disk d b)
+  booted : (m : MemberView) → m.boot ≡ boot → m.row ≡ None → m.lasts ≡ [] → m.owed ≡ [] → IsSynced y (member_disk d b) → SpellsLabel (label_on made (member_disk d b)) (y.reads (member_disk d b) 0) → store_room made ≤ slice_index x.sizes (member_disk d b)
       → IsBooted made x y d b false boot m
   booted m boot_is row lasts owed synced spells long = record {
     boot_is = λ none. boot_is;
@@ -76,7 +76,7 @@ module _ (made : Made) (x y : Disks) (d : ℕ) (b : Bool) (boot : ℕ) (keeps : 
   }
 
   -- or its disk failed
-  not_booted : (m : Standing) → m.row ≡ None → m.lasts ≡ [] → m.owed ≡ [] → (SpellsLabel (label_on made (member_disk d b)) (x.reads (member_disk d b) 0) → KeepsAll x y (member_disk d b)) → IsBooted made x y d b true boot m
+  not_booted : (m : MemberView) → m.row ≡ None → m.lasts ≡ [] → m.owed ≡ [] → (SpellsLabel (label_on made (member_disk d b)) (x.reads (member_disk d b) 0) → KeepsAll x y (member_disk d b)) → IsBooted made x y d b true boot m
   not_booted m row lasts owed had = record {
     boot_is = λ none. absurd cc;
     row = row;
@@ -129,7 +129,7 @@ module _ (o new : DeviceMachines) (x : Disks) (past : StorePast) (boot reading :
       there : (n : ℕ) → n < 2 * new.made.devices → put_at who failed past.told.down (Member n) ≡ false → IsSome (slot_of new n)
       there n less up = elim (same_or n) [
         | inl e ↦ here_is n less e (sym (put_here who failed past.told.down) ∙ ap (λ (a : Actor). put_at who failed past.told.down a) e ∙ up)
-        | inr apart ↦ subst (λ (slot : Option Standing). IsSome slot) (sym (only.members n apart))
+        | inr apart ↦ subst (λ (slot : Option MemberView). IsSome slot) (sym (only.members n apart))
             (fitting.there n (subst (λ (m : Made). n < 2 * m.devices) only.made less) (sym (elsewhere who (Member n) failed past.told.down (λ e. apart (sym e))) ∙ up))
       ]
 
@@ -193,7 +193,7 @@ module _ (o new : DeviceMachines) (x : Disks) (past : StorePast) (boot reading :
     far_lengths = record { each = λ k far. ap (λ (sizes : List ℕ). slice_index sizes k) keeps.sizes }
 
     -- it started
-    started_at : (d : ℕ) (b : Bool) → member_at d b ≡ n → (m : Standing) → slot_of new n ≡ Some m → m.boot ≡ boot → m.row ≡ None → m.lasts ≡ [] → m.owed ≡ [] → IsSynced y (3 + n) → SpellsLabel (label_on o.made (3 + n)) (y.reads (3 + n) 0) → store_room o.made ≤ slice_index x.sizes (3 + n)
+    started_at : (d : ℕ) (b : Bool) → member_at d b ≡ n → (m : MemberView) → slot_of new n ≡ Some m → m.boot ≡ boot → m.row ≡ None → m.lasts ≡ [] → m.owed ≡ [] → IsSynced y (3 + n) → SpellsLabel (label_on o.made (3 + n)) (y.reads (3 + n) 0) → store_room o.made ≤ slice_index x.sizes (3 + n)
         → PartsGo (parts_of o) (parts_of new) x y past (store_restarted past (Member n) boot reading)
     started_at d b at m there boot_is row lasts owed synced spells long =
         let disk : member_disk d b ≡ 3 + n = sym (disk_of_member d b) ∙ ap (λ (k : ℕ). 3 + k) at in
@@ -201,16 +201,16 @@ module _ (o new : DeviceMachines) (x : Disks) (past : StorePast) (boot reading :
         let boots_it = booted o.made x y d b boot keeps_it m boot_is row lasts owed (subst (λ (k : ℕ). IsSynced y k) (sym disk) synced) (subst (λ (k : ℕ). SpellsLabel (label_on o.made k) (y.reads k 0)) (sym disk) spells)
         (subst (λ (k : ℕ). store_room o.made ≤ slice_index x.sizes k) (sym disk) long) in
         let goes = restarts_goes (parts_of o) x y past d b boot reading m fitting.fits (subst (λ (k : ℕ). past.told.down (Member k) ≡ true) (sym at) is_down) (subst (λ (k : ℕ). past.told.boots (Member k) < boot) (sym at) newer) boots_it in
-        subst (λ (p : Parts). PartsGo (parts_of o) p x y past (store_restarted past (Member n) boot reading)) (sym (parts_served o new n only ∙ ap (λ (k : Standing). with_serving (parts_of o) n k) (member_there new n m there)))
+        subst (λ (p : Parts). PartsGo (parts_of o) p x y past (store_restarted past (Member n) boot reading)) (sym (parts_served o new n only ∙ ap (λ (k : MemberView). with_serving (parts_of o) n k) (member_there new n m there)))
         (subst (λ (k : ℕ). PartsGo (parts_of o) (with_serving (parts_of o) k m) x y past (store_restarted past (Member k) boot reading)) at (further (parts_of o) (with_serving (parts_of o) (member_at d b) m) x y past (store_restarted past (Member (member_at d b)) boot reading) goes))
 
     -- its disk failed
     failed_at : (d : ℕ) (b : Bool) → member_at d b ≡ n → slot_of new n ≡ None → (SpellsLabel (label_on o.made (3 + n)) (x.reads (3 + n) 0) → KeepsAll x y (3 + n)) → PartsGo (parts_of o) (parts_of new) x y past (store_failed past (Member n) boot reading)
     failed_at d b at gone had =
         let disk : member_disk d b ≡ 3 + n = sym (disk_of_member d b) ∙ ap (λ (k : ℕ). 3 + k) at in
-        let m : Standing = member_of new n in
-        let none : member_of new n ≡ or_new new.made n None = ap (λ (slot : Option Standing). or_new new.made n slot) gone in
-        let boots_not = not_booted o.made x y d b boot (subst (λ (k : ℕ). KeepsSure x y k 0 1) (sym disk) keeps) m (ap (λ (k : Standing). k.row) none) (ap (λ (k : Standing). k.lasts) none) (ap (λ (k : Standing). k.owed) none)
+        let m : MemberView = member_of new n in
+        let none : member_of new n ≡ or_new new.made n None = ap (λ (slot : Option MemberView). or_new new.made n slot) gone in
+        let boots_not = not_booted o.made x y d b boot (subst (λ (k : ℕ). KeepsSure x y k 0 1) (sym disk) keeps) m (ap (λ (k : MemberView). k.row) none) (ap (λ (k : MemberView). k.lasts) none) (ap (λ (k : MemberView). k.owed) none)
         (subst (λ (k : ℕ). SpellsLabel (label_on o.made k) (x.reads k 0) → KeepsAll x y k) (sym disk) had) in
         let goes = fails_goes (parts_of o) x y past d b boot reading m fitting.fits (subst (λ (k : ℕ). past.told.down (Member k) ≡ true) (sym at) is_down) (subst (λ (k : ℕ). past.told.boots (Member k) < boot) (sym at) newer) boots_not in
         subst (λ (p : Parts). PartsGo (parts_of o) p x y past (store_failed past (Member n) boot reading)) (sym (parts_served o new n only))
@@ -233,7 +233,7 @@ module _ (o new : DeviceMachines) (x : Disks) (past : StorePast) (boot reading :
         is_there k less same up =
             let e : n ≡ k = cc in
             subst (λ (j : ℕ). j < 2 * new.made.devices → IsSome (slot_of new j)) e
-            (λ within. subst (λ (slot : Option Standing). IsSome slot) (sym (starts (subst (λ (m : Made). n < 2 * m.devices) only.made within))) refl) less
+            (λ within. subst (λ (slot : Option MemberView). IsSome slot) (sym (starts (subst (λ (m : Made). n < 2 * m.devices) only.made within))) refl) less
 
     pub member_failed : slot_of new n ≡ None → (SpellsLabel (label_on o.made (3 + n)) (x.reads (3 + n) 0) → KeepsAll x y (3 + n)) → Began o new x y past (store_failed past (Member n) boot reading) (Member n)
     member_failed gone had = of_parts y then_ (Member n) (fits_with y (Member n) true then_ refl only (same_streams n only) goes.keeps (λ k less same no. absurd cc)) goes
@@ -383,7 +383,7 @@ needs_at who o new only = record { each = λ disk. by disk }
 
     stays_so : (disk : ℕ) → 3 ≤ disk → slot_of new (disk - 3) ≡ slot_of o (disk - 3) → needs_of new disk ≡ needs_of o disk
     stays_so disk far same = needs_behind new disk far ∙ ap (λ (m : Made). if nat_lt (disk - 3) (2 * m.devices) then need_in (store_room m) (slot_of new (disk - 3)) else 0) only.made
-        ∙ ap (λ (slot : Option Standing). if nat_lt (disk - 3) (2 * o.made.devices) then need_in (store_room o.made) slot else 0) same ∙ sym (needs_behind o disk far)
+        ∙ ap (λ (slot : Option MemberView). if nat_lt (disk - 3) (2 * o.made.devices) then need_in (store_room o.made) slot else 0) same ∙ sym (needs_behind o disk far)
 
     its_own : (n disk : ℕ) → 3 ≤ disk → who ≡ Member n → disk - 3 ≡ n → needs_of new disk ≤ wanted_by (disk_of who) (store_room o.made) disk
     its_own n disk far is at =

@@ -20,7 +20,7 @@ use Rattle.bx_places.specs.Places.{member_sectors}
 use Rattle.bx_post.specs.declared.packets.Letter.{Letter}
 use Rattle.bx_rows.specs.Conditions.{IsDevice}
 use Rattle.bx_rows.specs.declared.device.DeviceRow.{DeviceRow}
-use Rattle.bx_mirror_member.specs.Standing.{Standing}
+use Rattle.bx_mirror_member.specs.Standing.{MemberView}
 use Rattle.bx_mirror_cluster.specs.Learning.{MayLearn}
 use Rattle.bx_mirror_cluster.specs.MemberSteps.{IsFor, MayServe}
 use Rattle.bx_devices.specs.Events.{input_for}
@@ -69,26 +69,26 @@ room_small o shape = elim (four o.made.devices shape.least_devices shape.most_de
 
 -- ---- machines
 
-pub member_there : (o : DeviceMachines) (n : ℕ) (m : Standing) → slot_of o n ≡ Some m → member_of o n ≡ m
-member_there o n m is = ap (λ (slot : Option Standing). or_new o.made n slot) is
+pub member_there : (o : DeviceMachines) (n : ℕ) (m : MemberView) → slot_of o n ≡ Some m → member_of o n ≡ m
+member_there o n m is = ap (λ (slot : Option MemberView). or_new o.made n slot) is
 
 module _ (o : DeviceMachines) (x : Disks) (past : StorePast) (fitting : IsFitting o x past) (known : GlobalState) (input : Input) where
-  pub may_serve : ∥ IsAllowed known ∥₁ → (n : ℕ) (m : Standing) → n < 2 * o.made.devices → slot_of o n ≡ Some m → MayTake past.told known (Member n) input → MayServe (parts_of o) past n known
+  pub may_serve : ∥ IsAllowed known ∥₁ → (n : ℕ) (m : MemberView) → n < 2 * o.made.devices → slot_of o n ≡ Some m → MayTake past.told known (Member n) input → MayServe (parts_of o) past n known
   may_serve allowed n m less is may =
       let own = fitting.shape.each n m is in
       let e = member_there o n m is in
       record {
         inside = less;
-        itself = ap (λ (k : Standing). k.number) e ∙ own.number;
-        made = ap (λ (k : Standing). k.made) e ∙ own.made_is;
+        itself = ap (λ (k : MemberView). k.number) e ∙ own.number;
+        made = ap (λ (k : MemberView). k.made) e ∙ own.made_is;
         up = may.up;
         place = may.place;
         rises = may.rises;
         modes = modes known allowed;
         few = fitting.shape.most_devices;
         room = let small = room_small o fitting.shape in omega (arith, small);
-        below = subst (λ (k : Standing). k.place < store_room o.made) (sym e) own.place;
-        quiet = subst (λ (k : Standing). k.due ≡ false → k.owed ≡ []) (sym e) own.quiet;
+        below = subst (λ (k : MemberView). k.place < store_room o.made) (sym e) own.place;
+        quiet = subst (λ (k : MemberView). k.due ≡ false → k.owed ≡ []) (sym e) own.quiet;
       }
 
   pub may_learn : (n : ℕ) → n < o.made.nodes → MayTake past.told known (Node n) input → MayLearn (parts_of o) past n known

@@ -25,7 +25,7 @@ use Rattle.bx_mirror_member.specs.declared.copies.Progress.{Progress}
 use Rattle.bx_mirror_member.specs.declared.copies.Progress.TheVariants.{Next, Whole}
 use Rattle.bx_mirror_member.specs.declared.judging.Judgement.{Judgement}
 use Rattle.bx_mirror_member.specs.declared.judging.Judgement.TheVariants.{Taken, Repeated, Refused}
-use Rattle.bx_mirror_member.specs.Standing.{Standing, copy_from, is_named, is_second, learned, piece_at}
+use Rattle.bx_mirror_member.specs.Standing.{MemberView, copy_from, is_named, is_second, learned, piece_at}
 use Rattle.bx_mirror_member.specs.Steps.{IsProgress, is_last_piece, is_silent, may_alone, only, progress_in, proposes_in, shift}
 use Rattle.bx_mirror_server.specs.Serving.{DoesWrite, OfInput, OfMessage, OfSaid, change_of}
 use Rattle.bx_devices.specs.Events.{SlotTakes, TakesAt}
@@ -34,12 +34,12 @@ use Rattle.bx_devices.specs.Steps.{Hands, HandsIn, HandsOf, IsStep, Judged, Mach
 
 -- ---- members
 
-judged : (Told : Type 0) (judgement : Judgement) (from : Actor) (w : WriteBody) (m new : Standing) (before after : List Letter) (old now : Disks) → DoesWrite Told judgement from w m new before after old now → Judged judgement from w m new
+judged : (Told : Type 0) (judgement : Judgement) (from : Actor) (w : WriteBody) (m new : MemberView) (before after : List Letter) (old now : Disks) → DoesWrite Told judgement from w m new before after old now → Judged judgement from w m new
 judged Told Taken from w m new before after old now is = is.member
 judged Told Repeated from w m new before after old now is = record { at_once = λ due. (is.repeats.at_once due).0; once = is.repeats.once; owes = is.repeats.owes }
 judged Told Refused from w m new before after old now is = is.member
 
-message_steps : (Told : Type 0) (reading : ℕ) (from : Actor) (message : DeviceMessage) (m new : Standing) (change : Option Change) (before after : List Letter) (old now : Disks) → OfMessage Told reading from message m new change before after old now → MemberHears reading from (Some message) m new
+message_steps : (Told : Type 0) (reading : ℕ) (from : Actor) (message : DeviceMessage) (m new : MemberView) (change : Option Change) (before after : List Letter) (old now : Disks) → OfMessage Told reading from message m new change before after old now → MemberHears reading from (Some message) m new
 message_steps Told reading from (Write w) m new change before after old now is = record { judgement = is.0.judgement; judges = is.0.judged; is = judged Told is.0.judgement from w m new before after old now is.0.does }
 message_steps Told reading from (Wrote w) m new change before after old now is = is.0.member
 message_steps Told reading from (Read r) m new change before after old now is = elim is.0 [ inl here ↦ here.1.member | inr not_here ↦ not_here.1.member ]
@@ -48,16 +48,16 @@ message_steps Told reading from (Copy c) m new change before after old now is = 
 message_steps Told reading from (Copied c) m new change before after old now is = record { progress = is.progress; is = is.is; member = is.member }
 message_steps Told reading from Alive m new change before after old now is = is.0.member
 
-said_steps : (Told : Type 0) (reading : ℕ) (from : Actor) (said : Option DeviceMessage) (m new : Standing) (change : Option Change) (before after : List Letter) (old now : Disks) → OfSaid Told reading from said m new change before after old now → MemberHears reading from said m new
+said_steps : (Told : Type 0) (reading : ℕ) (from : Actor) (said : Option DeviceMessage) (m new : MemberView) (change : Option Change) (before after : List Letter) (old now : Disks) → OfSaid Told reading from said m new change before after old now → MemberHears reading from said m new
 said_steps Told reading from None m new change before after old now is = is.0.member
 said_steps Told reading from (Some message) m new change before after old now is = message_steps Told reading from message m new change before after old now is
 
-member_steps : (Told : Type 0) (input : Input) (m new : Standing) (change : Option Change) (before after : List Letter) (old now : Disks) → OfInput Told input m new change before after old now → MemberTakes input m new
+member_steps : (Told : Type 0) (input : Input) (m new : MemberView) (change : Option Change) (before after : List Letter) (old now : Disks) → OfInput Told input m new change before after old now → MemberTakes input m new
 member_steps Told (Packet packet reading) m new change before after old now is = record { said = is.said; says = is.says; hears = said_steps Told reading packet.now.from is.said m new change before after old now is.does }
 member_steps Told (Tick reading) m new change before after old now is = is.member
 member_steps Told Synced m new change before after old now is = is.member
 
-slot_steps : (Told : Type 0) (n : ℕ) (slot : Option Standing) (known : GlobalState) (input : Input) (new : DeviceMachines) (change : Option Change) (before after : List Letter) (old now : Disks) → SlotTakes Told n slot known input new change before after old now → SlotSteps slot known input (slot_of new n)
+slot_steps : (Told : Type 0) (n : ℕ) (slot : Option MemberView) (known : GlobalState) (input : Input) (new : DeviceMachines) (change : Option Change) (before after : List Letter) (old now : Disks) → SlotTakes Told n slot known input new change before after old now → SlotSteps slot known input (slot_of new n)
 slot_steps Told n None known input new change before after old now is = is.is
 slot_steps Told n (Some m) known input new change before after old now is =
     record { member = is.member; is = is.is; takes = member_steps Told input (learned known m) is.member change is.does.between after old now is.does.does }
@@ -82,7 +82,7 @@ event_steps Told at known input o new change before after old now is others = re
 
 -- ---- what is handed back
 
-message_hands : (Told : Type 0) (reading : ℕ) (from : Actor) (message : DeviceMessage) (m new : Standing) (change : Option Change) (before after : List Letter) (old now : Disks) → OfMessage Told reading from message m new change before after old now → HandsOf (Some message) m change
+message_hands : (Told : Type 0) (reading : ℕ) (from : Actor) (message : DeviceMessage) (m new : MemberView) (change : Option Change) (before after : List Letter) (old now : Disks) → OfMessage Told reading from message m new change before after old now → HandsOf (Some message) m change
 message_hands Told reading from (Write w) m new change before after old now is = is.1
 message_hands Told reading from (Wrote w) m new change before after old now is = is.1
 message_hands Told reading from (Read r) m new change before after old now is = is.1
@@ -91,16 +91,16 @@ message_hands Told reading from (Copy c) m new change before after old now is = 
 message_hands Told reading from (Copied c) m new change before after old now is = (is.progress, is.is, is.hands)
 message_hands Told reading from Alive m new change before after old now is = is.1
 
-said_hands : (Told : Type 0) (reading : ℕ) (from : Actor) (said : Option DeviceMessage) (m new : Standing) (change : Option Change) (before after : List Letter) (old now : Disks) → OfSaid Told reading from said m new change before after old now → HandsOf said m change
+said_hands : (Told : Type 0) (reading : ℕ) (from : Actor) (said : Option DeviceMessage) (m new : MemberView) (change : Option Change) (before after : List Letter) (old now : Disks) → OfSaid Told reading from said m new change before after old now → HandsOf said m change
 said_hands Told reading from None m new change before after old now is = is.1
 said_hands Told reading from (Some message) m new change before after old now is = message_hands Told reading from message m new change before after old now is
 
-member_hands : (Told : Type 0) (input : Input) (m new : Standing) (change : Option Change) (before after : List Letter) (old now : Disks) → OfInput Told input m new change before after old now → HandsIn input m change
+member_hands : (Told : Type 0) (input : Input) (m new : MemberView) (change : Option Change) (before after : List Letter) (old now : Disks) → OfInput Told input m new change before after old now → HandsIn input m change
 member_hands Told (Packet packet reading) m new change before after old now is = (is.said, is.says, said_hands Told reading packet.now.from is.said m new change before after old now is.does)
 member_hands Told (Tick reading) m new change before after old now is = is.hands
 member_hands Told Synced m new change before after old now is = is.hands
 
-slot_hands : (Told : Type 0) (n : ℕ) (slot : Option Standing) (known : GlobalState) (input : Input) (new : DeviceMachines) (change : Option Change) (before after : List Letter) (old now : Disks) → SlotTakes Told n slot known input new change before after old now → SlotHands slot known input change
+slot_hands : (Told : Type 0) (n : ℕ) (slot : Option MemberView) (known : GlobalState) (input : Input) (new : DeviceMachines) (change : Option Change) (before after : List Letter) (old now : Disks) → SlotTakes Told n slot known input new change before after old now → SlotHands slot known input change
 slot_hands Told n None known input new change before after old now is = is.hands
 slot_hands Told n (Some m) known input new change before after old now is = member_hands Told input (learned known m) is.member change is.does.between after old now is.does.does
 
@@ -116,10 +116,10 @@ none_kind : (change : Option Change) → change ≡ None → IfSome change IsSto
 none_kind change none = subst (λ (c : Option Change). IfSome c IsStoresKind) (sym none) tt
 
 -- it is the member's shift of some row to some mode, where there is one
-shift_kind : (m : Standing) (row : DeviceRow) (mode : ℕ) → IfSome (Some (shift m row mode)) IsStoresKind
+shift_kind : (m : MemberView) (row : DeviceRow) (mode : ℕ) → IfSome (Some (shift m row mode)) IsStoresKind
 shift_kind m row mode = tt
 
-tick_kind : (m : Standing) (row : Option DeviceRow) (reading : ℕ) → IfSome (proposes_in m row reading) IsStoresKind
+tick_kind : (m : MemberView) (row : Option DeviceRow) (reading : ℕ) → IfSome (proposes_in m row reading) IsStoresKind
 tick_kind m None reading = tt
 tick_kind m (Some row) reading = by_tests (row.mode == only_other (is_second m)) (not (is_named m row)) (may_alone m row && is_silent m reading)
   where
@@ -129,7 +129,7 @@ tick_kind m (Some row) reading = by_tests (row.mode == only_other (is_second m))
     by_tests false false true = tt
     by_tests false false false = tt
 
-whole_kind : (m : Standing) (row : DeviceRow) → IfSome (change_of (progress_in m row)) IsStoresKind
+whole_kind : (m : MemberView) (row : DeviceRow) → IfSome (change_of (progress_in m row)) IsStoresKind
 whole_kind m row = by_test (is_last_piece m)
   where
     by_test : (last : Bool) → IfSome (change_of (if last then Whole (shift m row both) else Next (piece_at m row.epoch (m.place + 64)))) IsStoresKind
@@ -147,11 +147,11 @@ kind_stable (Some (Expire session term reading)) is = absurd (is (λ no. no))
 kind_stable (Some (Claim gone by)) is = absurd (is (λ no. no))
 kind_stable (Some (Close gone by)) is = absurd (is (λ no. no))
 
-progress_kind : (m : Standing) (c : CopiedBody) (progress : Progress) → IsProgress m c progress → IfSome (change_of progress) IsStoresKind
+progress_kind : (m : MemberView) (c : CopiedBody) (progress : Progress) → IsProgress m c progress → IfSome (change_of progress) IsStoresKind
 progress_kind m c progress is = kind_stable (change_of progress) (λ other. other (subst (λ (p : Progress). IfSome (change_of p) IsStoresKind)
     (sym (is.ignored (λ row noted. other (subst (λ (p : Progress). IfSome (change_of p) IsStoresKind) (sym (is.noted row noted)) (whole_kind m row))))) tt))
 
-of_kind : (said : Option DeviceMessage) (m : Standing) (change : Option Change) → HandsOf said m change → IfSome change IsStoresKind
+of_kind : (said : Option DeviceMessage) (m : MemberView) (change : Option Change) → HandsOf said m change → IfSome change IsStoresKind
 of_kind None m change is = none_kind change is
 of_kind (Some (Write w)) m change is = none_kind change is
 of_kind (Some (Wrote w)) m change is = none_kind change is
@@ -161,12 +161,12 @@ of_kind (Some (Copy c)) m change is = none_kind change is
 of_kind (Some (Copied c)) m change is = subst (λ (k : Option Change). IfSome k IsStoresKind) (sym is.2) (progress_kind m c is.0 is.1)
 of_kind (Some Alive) m change is = none_kind change is
 
-in_kind : (input : Input) (m : Standing) (change : Option Change) → HandsIn input m change → IfSome change IsStoresKind
+in_kind : (input : Input) (m : MemberView) (change : Option Change) → HandsIn input m change → IfSome change IsStoresKind
 in_kind (Packet packet reading) m change is = of_kind is.0 m change is.2
 in_kind (Tick reading) m change is = subst (λ (k : Option Change). IfSome k IsStoresKind) (sym is) (tick_kind m m.row reading)
 in_kind Synced m change is = none_kind change is
 
-slot_kind : (slot : Option Standing) (known : GlobalState) (input : Input) (change : Option Change) → SlotHands slot known input change → IfSome change IsStoresKind
+slot_kind : (slot : Option MemberView) (known : GlobalState) (input : Input) (change : Option Change) → SlotHands slot known input change → IfSome change IsStoresKind
 slot_kind None known input change is = none_kind change is
 slot_kind (Some m) known input change is = in_kind input (learned known m) change is
 

@@ -10,7 +10,7 @@ use Rattle.bx_facts.specs.Machines.{put_at}
 use Rattle.bx_facts.specs.Writes.{Made, StorePast, store_crashed}
 use Rattle.bx_mirror_client.specs.Streams.{Streaming, stopped}
 use Rattle.bx_mirror_client.specs.declared.asking.Asking.{Asking}
-use Rattle.bx_mirror_member.specs.Standing.{Standing}
+use Rattle.bx_mirror_member.specs.Standing.{MemberView}
 use Rattle.bx_mirror_cluster.proofs.Beside as besides
 use Rattle.bx_mirror_cluster.proofs.Beside.{one_down}
 use Rattle.bx_mirror_cluster.proofs.MemberStops as member_laws
@@ -47,7 +47,7 @@ module _ (o new : DeviceMachines) (x : Disks) (past : StorePast) (fitting : IsFi
   crash_fits who only itself keeps = record {
     fits = keeps;
     shape = shape;
-    there = λ n less up. subst (λ (slot : Option Standing). IsSome slot) (sym (only.members n (crash_not who n up)))
+    there = λ n less up. subst (λ (slot : Option MemberView). IsSome slot) (sym (only.members n (crash_not who n up)))
         (fitting.there n (subst (λ (m : Made). n < 2 * m.devices) only.made less) (sym (elsewhere who (Member n) true past.told.down (λ e. crash_not who n up (sym e))) ∙ up));
     itself = itself;
   }
@@ -92,17 +92,17 @@ module _ (o new : DeviceMachines) (x : Disks) (past : StorePast) (fitting : IsFi
       then_ : StorePast
       then_ = store_crashed past (Member n)
 
-      members : ℕ → Standing
+      members : ℕ → MemberView
       members = member_of new
 
       gone : member_of new n ≡ or_new new.made n None
-      gone = ap (λ (slot : Option Standing). or_new new.made n slot) stops
+      gone = ap (λ (slot : Option MemberView). or_new new.made n slot) stops
 
       stops_it : Stops (parts_of o) members n
       stops_it = record {
-        row = ap (λ (m : Standing). m.row) gone;
-        owed = ap (λ (m : Standing). m.owed) gone;
-        lasts = ap (λ (m : Standing). m.lasts) gone;
+        row = ap (λ (m : MemberView). m.row) gone;
+        owed = ap (λ (m : MemberView). m.owed) gone;
+        lasts = ap (λ (m : MemberView). m.lasts) gone;
         others = λ k apart. same_member o new k only.made (only.members k (other_number k n apart));
       }
 

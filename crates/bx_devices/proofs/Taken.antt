@@ -19,7 +19,7 @@ use Rattle.bx_post.specs.declared.packets.Letter.{Letter}
 use Rattle.bx_mirror_client.specs.Sends.{member_at}
 use Rattle.bx_mirror_client.specs.Streams.{Streaming}
 use Rattle.bx_mirror_client.proofs.Leaving as leaving
-use Rattle.bx_mirror_member.specs.Standing.{Standing, first_piece, learned}
+use Rattle.bx_mirror_member.specs.Standing.{MemberView, first_piece, learned}
 use Rattle.bx_mirror_server.proofs.Telling.{any_told, input_told}
 use Rattle.bx_mirror_server.specs.Serving.{Does}
 use Rattle.bx_mirror_cluster.proofs.Beside.{one_knows}
@@ -39,7 +39,7 @@ use Rattle.bx_devices.specs.Laws.{as_member, disk_of_member}
 use Rattle.bx_devices.specs.Machines.{DeviceMachines, IsShape, OnlyMachine, slot_of, stream_of}
 
 -- where a rack tells what its disks hold
-pub told_does : (Told : Type 0) → Told → (known : GlobalState) (input : Input) (m new : Standing) (change : Option Change) (before after : List Letter) (x y : Disks) → Does Told known input m new change before after x y → Does (Unit {0}) known input m new change before after x y
+pub told_does : (Told : Type 0) → Told → (known : GlobalState) (input : Input) (m new : MemberView) (change : Option Change) (before after : List Letter) (x y : Disks) → Does Told known input m new change before after x y → Does (Unit {0}) known input m new change before after x y
 told_does Told tells known input m new change before after x y does = record {
   between = does.between;
   begins = any_told Told (Unit {0}) (λ always. tells) (learned known m) (first_piece known m) x before does.between does.begins;
@@ -97,7 +97,7 @@ module _ (o new : DeviceMachines) (x y : Disks) (past : StorePast) (known : Glob
   -- ---- a member
 
   module _ (lengths : SameMemberLengths x y) where
-    at_member : (d : ℕ) (b : Bool) (m member : Standing) (change : Option Change) → d < o.made.devices → member_at d b < 2 * o.made.devices → OnlyMachine (Member (member_at d b)) o new → MayTake was.told known (Member (member_at d b)) input
+    at_member : (d : ℕ) (b : Bool) (m member : MemberView) (change : Option Change) → d < o.made.devices → member_at d b < 2 * o.made.devices → OnlyMachine (Member (member_at d b)) o new → MayTake was.told known (Member (member_at d b)) input
         → OnlyDiskOf (Member (member_at d b)) x y → slot_of o (member_at d b) ≡ Some m → slot_of new (member_at d b) ≡ Some member → Does (Unit {0}) known (input_for (Member (member_at d b)) input) m member change before after x y
         → PartsGo (parts_of o) (parts_of new) x y was (then_ (Member (member_at d b)) change after)
     at_member d b m member change within less only may disks is then_is does =
@@ -106,25 +106,25 @@ module _ (o new : DeviceMachines) (x y : Disks) (past : StorePast) (known : Glob
         (further (parts_of o) (with_serving (parts_of o) n member) x y was (own_then (Member n) change after)
         (member_takes (parts_of o) x y past d b within before after fitting.fits known (may_serve o x was fitting known input allowed n m less is may) (input_for (Member n) input) (for_arrives (Member n) was.told.letters input may.comes)
         (for_it (Member n) input) (for_steady (Member n) past.told.greatest input may.steady) (λ k s apart. disks.others k s (λ e. apart (let same : 3 + n ≡ k = cc in sym same ∙ disk_of_member d b))) lengths member change
-        (subst (λ (k : Standing). Does (Unit {0}) known (input_for (Member n) input) k member change before after x y) (sym (member_there o n m is)) does))) in
+        (subst (λ (k : MemberView). Does (Unit {0}) known (input_for (Member n) input) k member change before after x y) (sym (member_there o n m is)) does))) in
         subst (λ (p : Parts). PartsGo (parts_of o) p x y was (then_ (Member n) change after)) (sym (parts_served o new n only))
-        (subst (λ (k : Standing). PartsGo (parts_of o) (with_serving (parts_of o) n k) x y was (then_ (Member n) change after)) (sym (member_there new n member then_is)) base)
+        (subst (λ (k : MemberView). PartsGo (parts_of o) (with_serving (parts_of o) n k) x y was (then_ (Member n) change after)) (sym (member_there new n member then_is)) base)
 
-    slot_goes : (n : ℕ) (slot : Option Standing) (change : Option Change) → slot_of o n ≡ slot → OnlyMachine (Member n) o new → MayTake was.told known (Member n) input → OnlyDiskOf (Member n) x y → (Told : Type 0) → Told → SlotTakes Told n slot known (input_for (Member n) input) new change before after x y
+    slot_goes : (n : ℕ) (slot : Option MemberView) (change : Option Change) → slot_of o n ≡ slot → OnlyMachine (Member n) o new → MayTake was.told known (Member n) input → OnlyDiskOf (Member n) x y → (Told : Type 0) → Told → SlotTakes Told n slot known (input_for (Member n) input) new change before after x y
         → PartsGo (parts_of o) (parts_of new) x y was (then_ (Member n) change after)
     slot_goes n slot change is only may disks Told tells takes = elim (cases_lt n (2 * o.made.devices)) [
       | inl less ↦ inside slot less is takes
       | inr far ↦ outside slot far (beyond o.members n None (let long = fitting.shape.members in omega (arith, far, long))) is takes
     ]
       where
-        inside : (s : Option Standing) → n < 2 * o.made.devices → slot_of o n ≡ s → SlotTakes Told n s known (input_for (Member n) input) new change before after x y → PartsGo (parts_of o) (parts_of new) x y was (then_ (Member n) change after)
+        inside : (s : Option MemberView) → n < 2 * o.made.devices → slot_of o n ≡ s → SlotTakes Told n s known (input_for (Member n) input) new change before after x y → PartsGo (parts_of o) (parts_of new) x y was (then_ (Member n) change after)
         inside None less here away = absurd (not_there (slot_of o n) here (fitting.there n less may.up))
         inside (Some m) less here did =
             subst (λ (k : ℕ). k < 2 * o.made.devices → OnlyMachine (Member k) o new → MayTake was.told known (Member k) input → OnlyDiskOf (Member k) x y → slot_of o k ≡ Some m → slot_of new k ≡ Some did.member
             → Does (Unit {0}) known (input_for (Member k) input) m did.member change before after x y → PartsGo (parts_of o) (parts_of new) x y was (then_ (Member k) change after)) (as_member n)
             (at_member (n / 2) (n % 2 == 1) m did.member change (half_within n o.made.devices less)) less only may disks here did.is (told_does Told tells known (input_for (Member n) input) m did.member change before after x y did.does)
 
-        outside : (s : Option Standing) → 2 * o.made.devices ≤ n → slot_of o n ≡ None → slot_of o n ≡ s → SlotTakes Told n s known (input_for (Member n) input) new change before after x y → PartsGo (parts_of o) (parts_of new) x y was (then_ (Member n) change after)
+        outside : (s : Option MemberView) → 2 * o.made.devices ≤ n → slot_of o n ≡ None → slot_of o n ≡ s → SlotTakes Told n s known (input_for (Member n) input) new change before after x y → PartsGo (parts_of o) (parts_of new) x y was (then_ (Member n) change after)
         outside None far none here away = beside_goes (Member n) change (member_beside o.made n far) only away.hands away.sends away.disks
         outside (Some m) far none here did = absurd (nobody m (sym none ∙ here))
 
@@ -137,17 +137,17 @@ module _ (o new : DeviceMachines) (x y : Disks) (past : StorePast) (known : Glob
 
   -- ---- which machines are there
 
-  slot_stays : (n : ℕ) (slot : Option Standing) (change : Option Change) (Told : Type 0) → slot_of o n ≡ slot → IsSome (slot_of o n) → SlotTakes Told n slot known (input_for (Member n) input) new change before after x y → IsSome (slot_of new n)
+  slot_stays : (n : ℕ) (slot : Option MemberView) (change : Option Change) (Told : Type 0) → slot_of o n ≡ slot → IsSome (slot_of o n) → SlotTakes Told n slot known (input_for (Member n) input) new change before after x y → IsSome (slot_of new n)
   slot_stays n None change Told is some takes = absurd (not_there (slot_of o n) is some)
-  slot_stays n (Some m) change Told is some takes = subst (λ (s : Option Standing). IsSome s) (sym takes.is) refl
+  slot_stays n (Some m) change Told is some takes = subst (λ (s : Option MemberView). IsSome s) (sym takes.is) refl
 
   still_there : (at : Actor) (change : Option Change) (Told : Type 0) → OnlyMachine at o new → TakesAt Told at known (input_for at input) o new change before after x y → (n : ℕ) → IsSome (slot_of o n) → IsSome (slot_of new n)
-  still_there (Node k) change Told only takes n some = subst (λ (s : Option Standing). IsSome s) (sym (only.members n (λ same. absurd cc))) some
-  still_there (Replica k) change Told only takes n some = subst (λ (s : Option Standing). IsSome s) (sym (only.members n (λ same. absurd cc))) some
-  still_there (Server k) change Told only takes n some = subst (λ (s : Option Standing). IsSome s) (sym (only.members n (λ same. absurd cc))) some
+  still_there (Node k) change Told only takes n some = subst (λ (s : Option MemberView). IsSome s) (sym (only.members n (λ same. absurd cc))) some
+  still_there (Replica k) change Told only takes n some = subst (λ (s : Option MemberView). IsSome s) (sym (only.members n (λ same. absurd cc))) some
+  still_there (Server k) change Told only takes n some = subst (λ (s : Option MemberView). IsSome s) (sym (only.members n (λ same. absurd cc))) some
   still_there (Member k) change Told only takes n some = elim (cases_eq n k) [
     | inl here ↦ subst (λ (j : ℕ). IsSome (slot_of new j)) (sym here) (slot_stays k (slot_of o k) change Told refl (subst (λ (j : ℕ). IsSome (slot_of o j)) here some) takes)
-    | inr apart ↦ subst (λ (s : Option Standing). IsSome s) (sym (only.members n (λ same. apart (let e : k ≡ n = cc in sym e)))) some
+    | inr apart ↦ subst (λ (s : Option MemberView). IsSome s) (sym (only.members n (λ same. apart (let e : k ≡ n = cc in sym e)))) some
   ]
 
   its_node : (at : Actor) (change : Option Change) (Told : Type 0) → OnlyMachine at o new → TakesAt Told at known (input_for at input) o new change before after x y → (n : ℕ) → (stream_of new n).node ≡ n

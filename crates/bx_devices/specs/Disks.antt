@@ -12,13 +12,13 @@ use Rattle.bx_facts.specs.declared.input.Input.{Input}
 use Rattle.bx_global.specs.declared.state.GlobalState.{GlobalState}
 use Rattle.bx_layout.specs.Labels.{SpellsLabel}
 use Rattle.bx_layout.specs.declared.label.Label.{Label}
-use Rattle.bx_mirror_member.specs.Standing.{Standing, disk_in, learned, room_in}
+use Rattle.bx_mirror_member.specs.Standing.{MemberView, disk_in, learned, room_in}
 use Rattle.bx_mirror_server.specs.Serving.{BringsOnly}
 use Rattle.bx_mirror_server.specs.Working.{Works}
 use Rattle.bx_devices.specs.Machines.{DeviceMachines, slot_of}
 
 -- A member that is up works on its own disk; nothing else touches one.
-abbrev pub DisksIn : {R : Type 0} → racks.Ghosts R → R → R → GlobalState → Input → Option Standing → Type 0
+abbrev pub DisksIn : {R : Type 0} → racks.Ghosts R → R → R → GlobalState → Input → Option MemberView → Type 0
 DisksIn rack old new known input None = new ≡ old
 DisksIn rack old new known input (Some m) = Works rack old new (disk_in m) (room_in m) (BringsOnly (learned known m) input)
 

@@ -13,7 +13,7 @@ use Rattle.bx_mirror_client.specs.Events as stream_events
 use Rattle.bx_mirror_client.specs.Asks.{asked_in}
 use Rattle.bx_mirror_client.specs.Streams as streams
 use Rattle.bx_mirror_client.specs.Streams.{Streaming, sent_in}
-use Rattle.bx_mirror_member.specs.Standing.{Standing, hearing, learned, new_member, started}
+use Rattle.bx_mirror_member.specs.Standing.{MemberView, hearing, learned, new_member, started}
 use Rattle.bx_mirror_server.specs.Serving.{Does}
 use Rattle.bx_devices.specs.Machines.{DeviceMachines, nodes_of, slot_of, stream_of}
 
@@ -37,8 +37,8 @@ pub record StreamTakes (node : ℕ) (known : GlobalState) (input : Input) (o new
   pub disks : now ≡ old
 
 -- A member that is up does.
-pub record MemberTakes (Told : Type 0) (n : ℕ) (m : Standing) (known : GlobalState) (input : Input) (new : DeviceMachines) (change : Option Change) (before after : List Letter) (old now : Disks) : Type 0 where
-  pub member : Standing
+pub record MemberTakes (Told : Type 0) (n : ℕ) (m : MemberView) (known : GlobalState) (input : Input) (new : DeviceMachines) (change : Option Change) (before after : List Letter) (old now : Disks) : Type 0 where
+  pub member : MemberView
   pub is : slot_of new n ≡ Some member
   pub does : Does Told known input m member change before after old now
 
@@ -49,7 +49,7 @@ pub record IsAway (n : ℕ) (new : DeviceMachines) (change : Option Change) (bef
   pub sends : after ≡ before
   pub disks : now ≡ old
 
-abbrev pub SlotTakes : Type 0 → ℕ → Option Standing → GlobalState → Input → DeviceMachines → Option Change → List Letter → List Letter → Disks → Disks → Type 0
+abbrev pub SlotTakes : Type 0 → ℕ → Option MemberView → GlobalState → Input → DeviceMachines → Option Change → List Letter → List Letter → Disks → Disks → Type 0
 SlotTakes Told n None known input new change before after old now = IsAway n new change before after old now
 SlotTakes Told n (Some m) known input new change before after old now = MemberTakes Told n m known input new change before after old now
 
@@ -61,13 +61,13 @@ TakesAt Told (Server n) known input o new change before after old now = Passes o
 TakesAt Told (Member n) known input o new change before after old now = SlotTakes Told n (slot_of o n) known input new change before after old now
 
 -- What a stream had out stays, or goes: its read with its session alone.
-pub record Goes (c new : Streaming) : Type 0 where
+pub record StreamGoes (c new : Streaming) : Type 0 where
   pub out : (sent_in new.out ≡ None) ⊎ (sent_in new.out ≡ sent_in c.out)
   pub asks : (new.session ≢ c.session) ⊎ (asked_in new.asks ≡ asked_in c.asks)
   pub new_session : new.session ≢ c.session → asked_in new.asks ≡ None
 
 -- A disk failed: its member knows the state, and all else is as it was.
-abbrev pub SlotFaults : GlobalState → Option Standing → Option Standing → Type 0
+abbrev pub SlotFaults : GlobalState → Option MemberView → Option MemberView → Type 0
 SlotFaults known None new = ⊥
 SlotFaults known (Some m) new = new ≡ Some (learned known m)
 

@@ -21,7 +21,7 @@ use Rattle.bx_mirror_client.specs.Streams.{Streaming, sent_in}
 use Rattle.bx_mirror_client.specs.Streams as streams
 use Rattle.bx_mirror_client.specs.declared.asking.Asking.{Asking}
 use Rattle.bx_mirror_client.specs.declared.sending.Sending.{Sending}
-use Rattle.bx_mirror_member.specs.Standing.{Standing, new_member}
+use Rattle.bx_mirror_member.specs.Standing.{MemberView, new_member}
 use Rattle.bx_mirror_cluster.specs.Fitting.{IsNewParts, IsSideAlone, Keeps, WillReadOn, out_by, outs_of, row_of, row_or, will_read_by}
 use Rattle.bx_mirror_cluster.proofs.Begun.{begins_keeps, finds_keeps}
 use Rattle.bx_mirror_cluster.proofs.Chained as chained
@@ -209,8 +209,8 @@ module _ (o : DeviceMachines) (s : GlobalState) (shape : IsShape o) (made : AreM
   -- each member is a new one
   member_new : (n : ℕ) → member_of o n ≡ new_member n o.made
   member_new n = elim (cases_lt n (2 * o.made.devices)) [
-    | inl less ↦ ap (λ (slot : Option Standing). or_new o.made n slot) (made.members n less)
-    | inr far ↦ ap (λ (slot : Option Standing). or_new o.made n slot) (beyond o.members n None (let long = shape.members in omega (arith, far, long)))
+    | inl less ↦ ap (λ (slot : Option MemberView). or_new o.made n slot) (made.members n less)
+    | inr far ↦ ap (λ (slot : Option MemberView). or_new o.made n slot) (beyond o.members n None (let long = shape.members in omega (arith, far, long)))
   ]
 
   stream_none : (n : ℕ) → nodes_of o ≤ n → stream_of o n ≡ no_stream n
@@ -224,10 +224,10 @@ module _ (o : DeviceMachines) (s : GlobalState) (shape : IsShape o) (made : AreM
 
   new_parts : IsNewParts s (parts_of o)
   new_parts = record {
-    rows = λ n. ap (λ (m : Standing). m.row) (member_new n);
-    owed = λ n. ap (λ (m : Standing). m.owed) (member_new n);
-    lasts = λ n. ap (λ (m : Standing). m.lasts) (member_new n);
-    member_boot = λ n less. ap (λ (m : Standing). m.boot) (member_new n);
+    rows = λ n. ap (λ (m : MemberView). m.row) (member_new n);
+    owed = λ n. ap (λ (m : MemberView). m.owed) (member_new n);
+    lasts = λ n. ap (λ (m : MemberView). m.lasts) (member_new n);
+    member_boot = λ n less. ap (λ (m : MemberView). m.boot) (member_new n);
     node_boot = λ n less. ap (λ (c : Streaming). c.boot) (made.streams n less);
     session = λ n less. ap (λ (c : Streaming). c.session) (made.streams n less);
     known = λ n less. ap (λ (c : Streaming). c.rows) (made.streams n less);
@@ -240,7 +240,7 @@ module _ (o : DeviceMachines) (s : GlobalState) (shape : IsShape o) (made : AreM
   new_fits x past keeps = record {
     fits = keeps;
     shape = shape;
-    there = λ n less up. subst (λ (slot : Option Standing). IsSome slot) (sym (made.members n less)) refl;
+    there = λ n less up. subst (λ (slot : Option MemberView). IsSome slot) (sym (made.members n less)) refl;
     itself = λ n. by_stream (λ c. c.node ≡ n) n refl refl;
   }
 

@@ -8,15 +8,15 @@ use Rattle.bx_facts.specs.Writes.{Made, store_room}
 use Rattle.bx_global.specs.declared.state.GlobalState.{GlobalState}
 use Rattle.bx_mirror_client.specs.Streams as streams
 use Rattle.bx_mirror_client.specs.Streams.{Streaming}
-use Rattle.bx_mirror_member.specs.Standing.{Standing, new_member}
+use Rattle.bx_mirror_member.specs.Standing.{MemberView, new_member}
 
 -- members that aren't up aren't there
 pub record DeviceMachines : Type 0 where
   pub made : Made
-  pub members : List (Option Standing)
+  pub members : List (Option MemberView)
   pub streams : List Streaming
 
-abbrev pub machines : ℕ → ℕ → ℕ → ℕ → List (Option Standing) → List Streaming → DeviceMachines
+abbrev pub machines : ℕ → ℕ → ℕ → ℕ → List (Option MemberView) → List Streaming → DeviceMachines
 machines volume nodes devices areas members streams = record { made = record { volume = volume; nodes = nodes; devices = devices; areas = areas }; members = members; streams = streams }
 
 abbrev pub made_of : DeviceMachines → Made
@@ -33,18 +33,18 @@ abbrev pub stream_of : DeviceMachines → ℕ → Streaming
 stream_of o node = slice_index_or o.streams node (no_stream node)
 
 -- a member, where it is up; one that isn't knows nothing
-abbrev pub slot_of : DeviceMachines → ℕ → Option Standing
+abbrev pub slot_of : DeviceMachines → ℕ → Option MemberView
 slot_of o n = slice_index_or o.members n None
 
-abbrev pub or_new : Made → ℕ → Option Standing → Standing
+abbrev pub or_new : Made → ℕ → Option MemberView → MemberView
 or_new made n None = new_member n made
 or_new made n (Some m) = m
 
-abbrev pub member_of : DeviceMachines → ℕ → Standing
+abbrev pub member_of : DeviceMachines → ℕ → MemberView
 member_of o n = or_new o.made n (slot_of o n)
 
 -- A member is the one of its number, of this volume. Its current piece begins within the device, and where no sync is owed nothing is.
-pub record IsOwn (made : Made) (n : ℕ) (m : Standing) : Type 0 where
+pub record IsOwn (made : Made) (n : ℕ) (m : MemberView) : Type 0 where
   pub number : m.number ≡ n
   pub made_is : m.made ≡ made
   pub place : m.place < store_room made
@@ -58,7 +58,7 @@ pub record IsShape (o : DeviceMachines) : Type 0 where
   pub most_areas : o.made.areas ≤ 64
   pub members : length o.members ≡ 2 * o.made.devices
   pub streams : length o.streams ≡ o.made.nodes
-  pub each : (n : ℕ) (m : Standing) → slot_of o n ≡ Some m → IsOwn o.made n m
+  pub each : (n : ℕ) (m : MemberView) → slot_of o n ≡ Some m → IsOwn o.made n m
 
 -- They are new ones of a volume, in a cluster that begins with a state: all members are up.
 pub record AreMade (made : Made) (s : GlobalState) (o : DeviceMachines) : Type 0 where
@@ -78,7 +78,7 @@ pub record StaysAway (old new : DeviceMachines) : Type 0 where
 
 -- ---- what is owed, and what is needed of disks
 
-abbrev pub due_in : Option Standing → Bool
+abbrev pub due_in : Option MemberView → Bool
 due_in None = false
 due_in (Some m) = m.due
 
@@ -89,7 +89,7 @@ due_at o (Server n) = false
 due_at o (Member n) = due_in (slot_of o n)
 
 -- a member of the volume that is up needs all its sectors
-abbrev pub need_in : ℕ → Option Standing → ℕ
+abbrev pub need_in : ℕ → Option MemberView → ℕ
 need_in room None = 0
 need_in room (Some m) = room
 

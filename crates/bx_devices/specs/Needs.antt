@@ -4,7 +4,7 @@ use Rattle.std.proofs.Common.{inl, inr, sym, ◌∙◌, ap, subst, arith}
 use Rattle.std.proofs.lemmas.Bool.{cases_lt}
 use Rattle.std.proofs.lemmas.Bool.Decides.{nat_tests}
 use Rattle.bx_facts.specs.Writes.{store_room}
-use Rattle.bx_mirror_member.specs.Standing.{Standing}
+use Rattle.bx_mirror_member.specs.Standing.{MemberView}
 use Rattle.bx_devices.specs.Machines.{DeviceMachines, need_in, needs_of, slot_needs, slot_of}
 
 -- nothing stands beyond the end
@@ -40,7 +40,7 @@ needs_behind o disk far =
 pub needs_here : (o : DeviceMachines) (n : ℕ) → needs_of o (3 + n) ≡ slot_needs o n
 needs_here o n = let same : 3 + n - 3 ≡ n = omega arith in needs_behind o (3 + n) (omega arith) ∙ ap (λ (k : ℕ). slot_needs o k) same
 
-need_little : (room : ℕ) (slot : Option Standing) → need_in room slot ≤ room
+need_little : (room : ℕ) (slot : Option MemberView) → need_in room slot ≤ room
 need_little room None = omega arith
 need_little room (Some m) = omega arith
 

@@ -13,7 +13,7 @@ ghost use Rattle.bx_facts.specs.declared.input.Input.TheVariants.{Synced};
 ghost use Rattle.bx_mirror_client.specs.Streams.{IsOwnRead};
 ghost use Rattle.bx_mirror_member.specs.Standing.{new_member};
 ghost use Rattle.bx_devices.specs.Disks.{DisksAt, Labels, LabelsAt};
-ghost use Rattle.bx_devices.specs.Events.{FaultsAt, Goes, RestartsAt, StopsAt, TakesAt, input_for};
+ghost use Rattle.bx_devices.specs.Events.{FaultsAt, StreamGoes, RestartsAt, StopsAt, TakesAt, input_for};
 ghost use Rattle.bx_devices.specs.Machines.{IsOwn, IsShape, OnlyMachine, StaysAway, due_at, made_of, needs_of, nodes_of, slot_of, stream_of, wanted_of};
 ghost use Rattle.bx_devices.specs.Steps.{Hands, IsStep};
 
@@ -72,7 +72,7 @@ impl Devices {
         ensures steps { OnOk result (IsStep at known.now (input_for at input.now) self.old self.new) }
         ensures hands { IfOk result (Hands at known.now (input_for at input.now) self.old) }
         ensures kind { IfOk result (λ change. IfSome change IsStoresKind) }
-        ensures goes { (node : ℕ) → OnOk result (Goes (stream_of self.old node) (stream_of self.new node)) }
+        ensures goes { (node : ℕ) → OnOk result (StreamGoes (stream_of self.old node) (stream_of self.new node)) }
         ensures session { (node : ℕ) → at ≡ Node node → OnOk result ((stream_of self.new node).session ≡ session_of known.now (stream_of self.old node).node (stream_of self.old node).boot) }
         ensures owes { OnlyAt at (due_at self.old) (due_at self.new) }
         ensures needs { NeedsNoMore (needs_of self.old) (needs_of self.new) }

@@ -2,7 +2,7 @@
 use Rattle.std.specs.Prelude.{◌≡◌, ℕ, ◌⊎◌, if◌then◌else◌, List, codes, Option, Some, None, Result, Ok, Err}
 use Rattle.bx_base.specs.declared.names.Mode.{Mode}
 use Rattle.bx_base.specs.declared.names.Mode.TheVariants.{Shared}
-use Rattle.bx_reads.specs.bx_files.specs.Paths.{Finds, IsBlockOf, OnSearch}
+use Rattle.bx_reads.specs.bx_files.specs.Paths.{LandsAtValue, IsBlockOf, OnSearch}
 use Rattle.bx_reads.specs.bx_inodes.specs.declared.stop.Stop.{Stop}
 use Rattle.bx_reads.specs.bx_inodes.specs.declared.stop.Stop.TheVariants.{Need, Inner, Status, OutOfMemory}
 use Rattle.bx_reads.specs.bx_inodes.specs.Stops.{OnInode}
@@ -39,7 +39,7 @@ telling tree found = must found 2 >>= (λ file. Ok (handle_reply tree file, tree
 -- a search in the tree under a root finds that a name is that of an entry with this handle
 pub record FindsName (held : Held) (hints : Hints) (root : ℕ) (name : List ℕ) (handle : ℕ) : Type 0 where
   pub number : ℕ
-  pub found : Finds held hints root (name_key name) (Some (name_value number handle))
+  pub found : LandsAtValue held hints root (name_key name) (Some (name_value number handle))
 
 -- what a name may mean in a directory: itself, its parent, or what is found
 abbrev pub MayMean : Held → Hints → ℕ → Inode → List ℕ → ℕ → Type 0

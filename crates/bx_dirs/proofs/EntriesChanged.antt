@@ -10,7 +10,7 @@ use Rattle.bx_records.specs.Drafts.{Changed, with_block}
 use Rattle.bx_tree_files.specs.declared.file.Name.{Name}
 use Rattle.bx_tree_files.specs.Entries.{entry_named, with_name, without_name}
 use Rattle.bx_truth.specs.Keys.{name_key, name_value, entry_key, entry_value}
-use Rattle.bx_truth.specs.PageTrees.{PageTree, map_of, without_entry}
+use Rattle.bx_truth.specs.PageTrees.{PageTree, map_of, map_without}
 use Rattle.bx_truth.specs.Stored.{AreNames, IsOfName}
 use Rattle.bx_truth.proofs.Names.{names_added, names_taken, value_with, value_without}
 use Rattle.bx_views.specs.Truths.{Truth, Held, Hints, with_draft}
@@ -185,7 +185,7 @@ module _ (areas : ℕ) (held : Held) (hints : Hints) (truth : Truth) (old new : 
     pub after : PageTree
     pub edited : Edited areas (with_draft truth old) (with_draft truth new) root tree after
     pub under : Under areas held hints truth new root after
-    pub map_is : map_of after ≡ without_entry (without_entry (map_of tree) (name_key text)) (entry_key entry.number)
+    pub map_is : map_of after ≡ map_without (map_without (map_of tree) (name_key text)) (entry_key entry.number)
 
   pub both_taken : TakesAt held hints old new root entry.number text (Ok tt) → BothTaken
   both_taken a =
@@ -196,7 +196,7 @@ module _ (areas : ℕ) (held : Held) (hints : Hints) (truth : Truth) (old new : 
         edited = edited_and areas (with_draft truth old) (with_draft truth a.mid) (with_draft truth new) root tree first.1.after second.1.after
             (edited_by areas held hints truth old a.mid root tree _ u.is first.1) (edited_by areas held hints truth a.mid new root first.1.after _ first.1.under.is second.1);
         under = second.1.under;
-        map_is = second.1.map_is ∙ ap (λ (m : List Entry). without_entry m (entry_key entry.number)) first.1.map_is;
+        map_is = second.1.map_is ∙ ap (λ (m : List Entry). map_without m (entry_key entry.number)) first.1.map_is;
       }
 
   within : Contains names entry
@@ -218,7 +218,7 @@ module _ (areas : ℕ) (held : Held) (hints : Hints) (truth : Truth) (old new : 
       (AllPairs-filter (λ (a b : Name). a.number < b.number) (λ (e : Name). not (bytes_eq e.name text)) names are.in_order)
       (λ key.
       ap (λ (m : List Entry). value_of m key) b.map_is
-      ∙ value_without (without_entry (map_of tree) (name_key text)) (entry_key entry.number) key
+      ∙ value_without (map_without (map_of tree) (name_key text)) (entry_key entry.number) key
       ∙ ap (λ (o : Option (List ℕ)). if bytes_eq key (entry_key entry.number) then None else o) (value_without (map_of tree) (name_key text) key)
       ∙ ap (λ (t : List ℕ). if bytes_eq key (entry_key entry.number) then None else (if bytes_eq key (name_key t) then None else value_of (map_of tree) key)) (sym name_is))
 

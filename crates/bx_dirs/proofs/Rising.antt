@@ -7,7 +7,7 @@ use Rattle.std.proofs.lemmas.List.Kept.{AllPairs-cons}
 use Rattle.bx_page.specs.declared.entry.Entry.{Entry}
 use Rattle.bx_page.specs.Keys.{is_below, IsBelow}
 use Rattle.bx_page.specs.Contents.{Rises}
-use Rattle.bx_truth.specs.PageTrees.{Chunks, Node, IsIn, IsNode, Leads, IsLevel, PageTree, IsTree, entries_of, map_of}
+use Rattle.bx_truth.specs.PageTrees.{Chunks, Node, IsIn, IsNode, PagesLead, IsLevel, PageTree, IsTree, entries_of, map_of}
 use Rattle.bx_leaves.specs.bx_blink.proofs.Keys.{lt_le, lt_not}
 
 here : (node : Node) (others : List Node) → IsIn node (node ∷ others)
@@ -26,7 +26,7 @@ join (x ∷ xs) ys rises more apart =
 
 module _ (chunks : Chunks) (level : ℕ) where
   -- the entries from a page on, and where its range begins
-  rise_on : (x : Node) (others : List Node) → ((node : Node) → IsIn node (x ∷ others) → IsNode chunks level node) → Leads x others
+  rise_on : (x : Node) (others : List Node) → ((node : Node) → IsIn node (x ∷ others) → IsNode chunks level node) → PagesLead x others
       → Rises (entries_of (x ∷ others)) × All (λ (e : Entry). is_below e.key x.begins ≡ false) (entries_of (x ∷ others))
   rise_on x [] all last =
       let is = all x (here x []) in

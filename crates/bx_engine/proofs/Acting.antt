@@ -1,7 +1,7 @@
 -- What comes to a procedure's outcome is one step of the tree.
 use Rattle.std.proofs.Common.{◌≡◌, ℕ, ◌≤◌, List, [], Some, refl, sym, ap, ◌∙◌, subst, inl, arith, lit≤}
-use Rattle.bx_engine.specs.Outcomes.{Comes, ComesTo}
-use Rattle.bx_steps.specs.Steps.{StandsWith, Step}
+use Rattle.bx_engine.specs.Outcomes.{IsOutcomeOf, ComesTo}
+use Rattle.bx_steps.specs.Steps.{StandsWith, StepOfTree}
 use Rattle.bx_inodes.specs.Stands.{Stands}
 use Rattle.bx_model.specs.declared.call.Args.{Args}
 use Rattle.bx_model.specs.declared.call.Args.TheVariants.{Refused, Nothing, Handle, List as Listing, Name, Read, Path}
@@ -68,8 +68,8 @@ module _ (tree : Tree) (call : Call) (moment : ℕ) where
 
 module _ (volume areas client : ℕ) (bytes : List ℕ) (moment free : ℕ) (truth : Truth) (tree : Tree) (xid : ℕ) (call : Call) (outcome : Outcome)
     (reads : ReadsAs bytes xid call) (fits : moment ≤ 4294967295999) (acts : act tree call moment 8 0 ≡ Some (done tree outcome)) where
-  steps : (next : Tree) (acted : Done) → ComesTo tree outcome xid acted next → Step tree (deed_of client bytes moment acted) next
-  steps next acted comes = subst (λ (d : Done). Step tree (deed_of client bytes moment d) next) (sym comes.told) (record {
+  steps : (next : Tree) (acted : Done) → ComesTo tree outcome xid acted next → StepOfTree tree (deed_of client bytes moment acted) next
+  steps next acted comes = subst (λ (d : Done). StepOfTree tree (deed_of client bytes moment d) next) (sym comes.told) (record {
     xid = xid;
     call = call;
     reply = comes.reply;
@@ -82,7 +82,7 @@ module _ (volume areas client : ℕ) (bytes : List ℕ) (moment free : ℕ) (tru
     enough = λ _. refl;
   })
 
-  answers : Stands volume areas truth tree → (acted : Done) → ComesTo tree outcome xid acted tree → Acts (StandsWith volume areas) Step free (deed_of client bytes moment acted) acted truth [] tree
+  answers : Stands volume areas truth tree → (acted : Done) → ComesTo tree outcome xid acted tree → Acts (StandsWith volume areas) StepOfTree free (deed_of client bytes moment acted) acted truth [] tree
   answers stands acted comes = record {
     next = tree;
     step = steps tree acted comes;
@@ -90,12 +90,12 @@ module _ (volume areas client : ℕ) (bytes : List ℕ) (moment free : ℕ) (tru
     spare = inl (ap (λ (d : Done). d.spare) comes.told);
   }
 
-  comes_gives : Stands volume areas truth tree → (attempt : Attempt) → Comes tree xid outcome attempt → Gives (StandsWith volume areas) Step free client bytes moment truth tree attempt
+  comes_gives : Stands volume areas truth tree → (attempt : Attempt) → IsOutcomeOf tree xid outcome attempt → Gives (StandsWith volume areas) StepOfTree free client bytes moment truth tree attempt
   comes_gives stands (Need wants) comes = tt
   comes_gives stands (Change draft acted) comes = absurd comes
   comes_gives stands (Inner draft) comes = absurd comes
   comes_gives stands (Answer acted) comes = answers stands acted comes
 
-  pub gives_by : {E : Type 0} → Stands volume areas truth tree → (result : Result Attempt E) → IfOk result (Comes tree xid outcome)
-      → IfOk result (Gives (StandsWith volume areas) Step free client bytes moment truth tree)
+  pub gives_by : {E : Type 0} → Stands volume areas truth tree → (result : Result Attempt E) → IfOk result (IsOutcomeOf tree xid outcome)
+      → IfOk result (Gives (StandsWith volume areas) StepOfTree free client bytes moment truth tree)
   gives_by stands result comes = IfOk-weaker result _ _ (comes_gives stands) comes

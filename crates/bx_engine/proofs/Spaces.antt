@@ -5,7 +5,7 @@ use Rattle.bx_base.specs.declared.names.Mode.{Mode}
 use Rattle.bx_engine.specs.Outcomes.{ComesSpace, ComesToSpace, told_free}
 use Rattle.bx_engine.specs.Paths.{ReadPathOf}
 use Rattle.bx_attempts.specs.Replies.{IsStopped, done_with}
-use Rattle.bx_steps.specs.Steps.{StandsWith, Step}
+use Rattle.bx_steps.specs.Steps.{StandsWith, StepOfTree}
 use Rattle.bx_engine.proofs.Acting.{statfs_acts}
 use Rattle.bx_inodes.specs.declared.stop.Stop.{Stop}
 use Rattle.bx_inodes.specs.declared.stop.Stop.TheVariants as stops
@@ -81,10 +81,10 @@ module _ (volume areas client : ℕ) (bytes : List ℕ) (moment free : ℕ) (tru
   abbrev spare : ℕ
   spare = told_free free (statfs tree at free)
 
-  space_step : (acted : Done) → ComesToSpace tree free at xid acted → Step tree (deed_of client bytes moment acted) tree
+  space_step : (acted : Done) → ComesToSpace tree free at xid acted → StepOfTree tree (deed_of client bytes moment acted) tree
   space_step acted comes =
       let few : spare ≤ 61440 = subst (λ (d : Done). d.spare ≤ 61440) comes.told comes.most in
-      subst (λ (d : Done). Step tree (deed_of client bytes moment d) tree) (sym comes.told) (record {
+      subst (λ (d : Done). StepOfTree tree (deed_of client bytes moment d) tree) (sym comes.told) (record {
         xid = xid;
         call = call;
         reply = comes.reply;
@@ -97,7 +97,7 @@ module _ (volume areas client : ℕ) (bytes : List ℕ) (moment free : ℕ) (tru
         enough = told_enough tree free (named_file tree at) comes.reply comes.comes_to;
       })
 
-  pub space_gives : (attempt : Attempt) → ComesSpace tree free at xid attempt → Gives (StandsWith volume areas) Step free client bytes moment truth tree attempt
+  pub space_gives : (attempt : Attempt) → ComesSpace tree free at xid attempt → Gives (StandsWith volume areas) StepOfTree free client bytes moment truth tree attempt
   space_gives (Need wants) comes = tt
   space_gives (Change draft acted) comes = absurd comes
   space_gives (Inner draft) comes = absurd comes

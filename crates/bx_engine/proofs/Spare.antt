@@ -21,7 +21,7 @@ use Rattle.bx_nfs.proofs.Reading.{reads_once}
 use Rattle.bx_nfs.specs.Asked.{AsksFile, HasOwnArgs}
 use Rattle.bx_nfs.specs.Wire.{ReadsAs, reply_text}
 use Rattle.bx_records.specs.Drafts.{Changed}
-use Rattle.bx_steps.specs.Steps.{StandsWith, Step}
+use Rattle.bx_steps.specs.Steps.{StandsWith, StepOfTree}
 use Rattle.bx_tree_files.specs.declared.file.File.{File}
 use Rattle.bx_tree_files.specs.Times.{time_of}
 use Rattle.bx_views.specs.declared.attempt.Attempt.{Attempt}
@@ -54,9 +54,9 @@ some_pair made given answer is = by (made == 0) is
     by false same = absurd cc
 
 module _ (volume areas free client : ℕ) (bytes : List ℕ) (moment : ℕ) (truth : Truth) (tree : Tree) where
-  module _ (done : Done) (draft : List Changed) (acts : Acts (StandsWith volume areas) Step free (deed_of client bytes moment done) done truth draft tree)
+  module _ (done : Done) (draft : List Changed) (acts : Acts (StandsWith volume areas) StepOfTree free (deed_of client bytes moment done) done truth draft tree)
       (space : (at : List ℕ) → IsSpaceCall bytes at → done.spare ≡ told_free free (statfs tree at free)) where
-    abbrev s : Step tree (deed_of client bytes moment done) acts.next
+    abbrev s : StepOfTree tree (deed_of client bytes moment done) acts.next
     s = acts.step
 
     tells : IsTold done.spare s.reply ⊎ IsSpaceOf s.call s.reply
@@ -109,7 +109,7 @@ module _ (volume areas free client : ℕ) (bytes : List ℕ) (moment : ℕ) (tru
     pub acted_tells : TellsFree (TellsSpace bytes) free done
     acted_tells = record { told = told; enough = enough }
 
-  pub attempt_tells : (attempt : Attempt) → Gives (StandsWith volume areas) Step free client bytes moment truth tree attempt → ((at : List ℕ) → IsSpaceCall bytes at → IfActed (λ done. done.spare ≡ told_free free (statfs tree at free)) attempt)
+  pub attempt_tells : (attempt : Attempt) → Gives (StandsWith volume areas) StepOfTree free client bytes moment truth tree attempt → ((at : List ℕ) → IsSpaceCall bytes at → IfActed (λ done. done.spare ≡ told_free free (statfs tree at free)) attempt)
       → IfActed (TellsFree (TellsSpace bytes) free) attempt
   attempt_tells (Need wants) gives space = tt
   attempt_tells (Change draft done) gives space = acted_tells done draft gives space

@@ -5,7 +5,7 @@ use Rattle.std.proofs.lemmas.Result.{IfOk-weaker}
 use Rattle.bx_attempts.proofs.Fairness as fairness
 use Rattle.bx_attempts.specs.Replies.{IsReplied, IsStopped, done_of}
 use Rattle.bx_base.specs.declared.names.Mode.{Mode}
-use Rattle.bx_engine.specs.Outcomes.{Comes, TellsEnough}
+use Rattle.bx_engine.specs.Outcomes.{IsOutcomeOf, TellsEnough}
 use Rattle.bx_inodes.specs.declared.stop.Stop.{Stop}
 use Rattle.bx_inodes.specs.declared.stop.Stop.TheVariants as stops
 use Rattle.bx_inodes.specs.Stops.{NeedsOn, NeverInner}
@@ -35,16 +35,16 @@ module _ (xid : ℕ) (attempt : Attempt) where
   stop_enough stops.OutOfMemory is = absurd is
 
   module _ (tree : Tree) (outcome : Outcome) where
-    pub stops_come : (stop : Stop) → IsOutcome tree outcome (Err stop) → IsStopped xid stop attempt → Comes tree xid outcome attempt
-    stops_come (stops.Need at mode) comes is = subst (Comes tree xid outcome) (sym is) tt
+    pub stops_come : (stop : Stop) → IsOutcome tree outcome (Err stop) → IsStopped xid stop attempt → IsOutcomeOf tree xid outcome attempt
+    stops_come (stops.Need at mode) comes is = subst (IsOutcomeOf tree xid outcome) (sym is) tt
     stops_come (stops.Inner blocks) comes is = absurd comes
-    stops_come (stops.Status status) comes is = subst (Comes tree xid outcome) (sym is) (record { reply = replies.Status status; comes_to = ap (done tree) comes; told = refl })
+    stops_come (stops.Status status) comes is = subst (IsOutcomeOf tree xid outcome) (sym is) (record { reply = replies.Status status; comes_to = ap (done tree) comes; told = refl })
     stops_come stops.OutOfMemory comes is = absurd is
 
-    pub answer_comes : (reply : Reply) → outcome ≡ Ok (reply, tree) → attempt ≡ Answer (done_of xid reply) → Comes tree xid outcome attempt
-    answer_comes reply comes is = subst (Comes tree xid outcome) (sym is) (record { reply = reply; comes_to = ap (done tree) comes; told = refl })
+    pub answer_comes : (reply : Reply) → outcome ≡ Ok (reply, tree) → attempt ≡ Answer (done_of xid reply) → IsOutcomeOf tree xid outcome attempt
+    answer_comes reply comes is = subst (IsOutcomeOf tree xid outcome) (sym is) (record { reply = reply; comes_to = ap (done tree) comes; told = refl })
 
-    pub replied_comes : (r : Result Reply Stop) → IsOutcome tree outcome r → IsReplied xid r attempt → Comes tree xid outcome attempt
+    pub replied_comes : (r : Result Reply Stop) → IsOutcome tree outcome r → IsReplied xid r attempt → IsOutcomeOf tree xid outcome attempt
     replied_comes (Ok reply) comes is = answer_comes reply comes is
     replied_comes (Err stop) comes is = stops_come stop comes is
 
@@ -67,7 +67,7 @@ module _ (xid : ℕ) (attempt : Attempt) where
   replied_enough (Err stop) is = stop_enough stop is
 
 -- an answer, where there is memory for it
-pub answered_comes : {E : Type 0} (tree : Tree) (xid : ℕ) (reply : Reply) (result : Result Attempt E) → IfOk result (λ attempt. attempt ≡ Answer (done_of xid reply)) → IfOk result (Comes tree xid (Ok (reply, tree)))
+pub answered_comes : {E : Type 0} (tree : Tree) (xid : ℕ) (reply : Reply) (result : Result Attempt E) → IfOk result (λ attempt. attempt ≡ Answer (done_of xid reply)) → IfOk result (IsOutcomeOf tree xid (Ok (reply, tree)))
 answered_comes tree xid reply result is = IfOk-weaker result _ _ (λ attempt same. answer_comes xid attempt tree (Ok (reply, tree)) reply refl same) is
 
 -- 8 free blocks are told where there is memory for the answer

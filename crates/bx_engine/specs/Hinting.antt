@@ -22,7 +22,7 @@ use Rattle.bx_steps.specs.Steps.{StandsWith}
 use Rattle.bx_tree_laws.proofs.Opening.{opening_is}
 use Rattle.bx_truth.specs.Chunks.{IsChunked, IsName, block_at, chunks_of, word_at}
 use Rattle.bx_truth.specs.Opening.{empty_page, opening_truth, page_block, page_handle, root_block}
-use Rattle.bx_truth.specs.PageTrees.{Chunks, HasPage, IsIn, IsLast, IsNode, IsTree, Leads, NamesChild, Node, PageTree}
+use Rattle.bx_truth.specs.PageTrees.{Chunks, HasPage, IsIn, IsLast, IsNode, IsTree, PagesLead, NamesChild, Node, PageTree}
 use Rattle.bx_truth.specs.Stands.{WasGiven}
 use Rattle.bx_truth.proofs.Cases.{eq_false, eq_true, same_or}
 use Rattle.bx_blink.proofs.Sees.{chunk_from, chunk_is}
@@ -100,7 +100,7 @@ module _ (areas : ℕ) (hints : Hints) (chunks : Chunks) (root : ℕ) (tree : Pa
     right : IsLast node.page ⊎ LeadsRight agree.home node.page node.begins
     right = by there.behind there.parts (leads_in there.before node there.behind (rw there.parts at (is.levels level within).chain))
       where
-        by : (behind : List Node) → tree.level level ≡ there.before ++ node ∷ behind → Leads node behind → IsLast node.page ⊎ LeadsRight agree.home node.page node.begins
+        by : (behind : List Node) → tree.level level ≡ there.before ++ node ∷ behind → PagesLead node behind → IsLast node.page ⊎ LeadsRight agree.home node.page node.begins
         by [] parts last = inl last
         by (next ∷ more) parts leads = inr (record {
           high = next.begins;

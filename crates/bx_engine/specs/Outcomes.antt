@@ -17,11 +17,11 @@ pub record ComesTo (tree : Tree) (outcome : Outcome) (xid : ℕ) (acted : Done) 
   pub told : acted ≡ done_of xid reply
 
 -- What acts does what the procedure does, which changes nothing.
-abbrev pub Comes : Tree → ℕ → Outcome → Attempt → Type 0
-Comes tree xid outcome (Need wants) = Unit {0}
-Comes tree xid outcome (Change draft acted) = ⊥
-Comes tree xid outcome (Inner draft) = ⊥
-Comes tree xid outcome (Answer acted) = ComesTo tree outcome xid acted tree
+abbrev pub IsOutcomeOf : Tree → ℕ → Outcome → Attempt → Type 0
+IsOutcomeOf tree xid outcome (Need wants) = Unit {0}
+IsOutcomeOf tree xid outcome (Change draft acted) = ⊥
+IsOutcomeOf tree xid outcome (Inner draft) = ⊥
+IsOutcomeOf tree xid outcome (Answer acted) = ComesTo tree outcome xid acted tree
 
 -- What acts tells 8 free blocks, as all do to whose reply they are nothing.
 abbrev pub TellsEnough : Attempt → Type 0

@@ -16,7 +16,7 @@ ghost use Rattle.bx_engine.specs.Calls.{AsksSpace, IsAboutFile, IsAtOnce, IsRead
 ghost use Rattle.bx_engine.specs.Full.{LacksRoom};
 ghost use Rattle.bx_engine.specs.Outcomes.{ComesSpace, TellsEnough, told_free};
 ghost use Rattle.bx_engine.specs.Paths.{PathOf, ReadPathOf};
-ghost use Rattle.bx_steps.specs.Steps.{StandsWith, Step};
+ghost use Rattle.bx_steps.specs.Steps.{StandsWith, StepOfTree};
 
 use crate::engine::BoxFs;
 use crate::mounting::mounted;
@@ -43,7 +43,7 @@ impl BoxFs {
         requires asked { IsAsked call.now }
         requires moment { moment ≤ 4294967295999 }
         ensures gives { (client : ℕ) (bytes : List ℕ) (truth : Truth) (tree : Tree) → ReadsAs bytes xid call.now → IsTruth (V.held view.now) truth
-            → StandsWith self.now.volume self.now.areas truth (V.hints view.now) tree → IfOk result (Gives (StandsWith self.now.volume self.now.areas) Step (free_slots self.now.areas truth) client bytes moment truth tree) }
+            → StandsWith self.now.volume self.now.areas truth (V.hints view.now) tree → IfOk result (Gives (StandsWith self.now.volume self.now.areas) StepOfTree (free_slots self.now.areas truth) client bytes moment truth tree) }
         ensures fair { IfOk result (IsFair self.now.areas (V.held view.now) (PathOf (V.held view.now) (V.hints view.now) self.now.volume self.now.areas call.now.procedure call.now.args)) }
         ensures lacks { (truth : Truth) (tree : Tree) → IsTruth (V.held view.now) truth → StandsWith self.now.volume self.now.areas truth (V.hints view.now) tree
             → IfOk result (IfInner (PreparesFirst self.now.volume self.now.areas (V.held view.now) (V.hints view.now) truth tree call.now moment)) }
@@ -72,7 +72,7 @@ impl BoxFs {
     ) -> Result<Attempt, OutOfMemory>
         requires reading { IsReading call.now }
         ensures gives { (client moment : ℕ) (bytes : List ℕ) (truth : Truth) (tree : Tree) → moment ≤ 4294967295999 → ReadsAs bytes xid call.now → IsTruth (V.held view.now) truth
-            → StandsWith self.now.volume self.now.areas truth (V.hints view.now) tree → IfOk result (Gives (StandsWith self.now.volume self.now.areas) Step (free_slots self.now.areas truth) client bytes moment truth tree) }
+            → StandsWith self.now.volume self.now.areas truth (V.hints view.now) tree → IfOk result (Gives (StandsWith self.now.volume self.now.areas) StepOfTree (free_slots self.now.areas truth) client bytes moment truth tree) }
         ensures fair { IfOk result (IsFair self.now.areas (V.held view.now) (ReadPathOf (V.held view.now) (V.hints view.now) self.now.volume self.now.areas call.now.procedure call.now.args)) }
         ensures at_once { IsAtOnce call.now → IfOk result IsAnswer }
         ensures keeps { IfOk result ChangesNothing }
@@ -146,7 +146,7 @@ impl BoxFs {
         requires handle { call.now.args ≡ HandleArgs at.now }
         requires procedure { IsAboutFile call.now.procedure }
         ensures gives { (client moment : ℕ) (bytes : List ℕ) (truth : Truth) (tree : Tree) → moment ≤ 4294967295999 → ReadsAs bytes xid call.now → IsTruth (V.held view.now) truth
-            → Stands self.now.volume self.now.areas truth tree → IfOk result (Gives (StandsWith self.now.volume self.now.areas) Step (free_slots self.now.areas truth) client bytes moment truth tree) }
+            → Stands self.now.volume self.now.areas truth tree → IfOk result (Gives (StandsWith self.now.volume self.now.areas) StepOfTree (free_slots self.now.areas truth) client bytes moment truth tree) }
         ensures fair { IfOk result (IsFair self.now.areas (V.held view.now) (ReadPathOf (V.held view.now) (V.hints view.now) self.now.volume self.now.areas call.now.procedure (HandleArgs at.now))) }
         ensures keeps { IfOk result ChangesNothing }
         ensures free { (truth : Truth) (tree : Tree) → call.now.procedure ≡ 17 → IsTruth (V.held view.now) truth → Stands self.now.volume self.now.areas truth tree

@@ -31,7 +31,7 @@ impl Engine for BoxFs {
     ghost use Rattle.bx_engine.specs.Paths.{IsOnPath};
     ghost use Rattle.bx_engine.specs.Sharing.{shared_on};
     ghost use Rattle.bx_model.specs.Opening.{opening as opening_of};
-    ghost use Rattle.bx_steps.specs.Steps.{StandsWith, Step};
+    ghost use Rattle.bx_steps.specs.Steps.{StandsWith, StepOfTree};
     ghost use Rattle.bx_truth.specs.Opening.{opening_truth};
 
     type Tree = Tree;
@@ -44,7 +44,7 @@ impl Engine for BoxFs {
 
     ghost stands = { λ engine. StandsWith engine.volume engine.areas };
 
-    ghost step = { λ engine. Step };
+    ghost step = { λ engine. StepOfTree };
 
     ghost path = { λ engine client bytes held hints. IsOnPath held hints engine.volume engine.areas bytes };
 

@@ -25,8 +25,8 @@ use Rattle.bx_tree_laws.proofs.Entries.{entry_found}
 use Rattle.bx_tree_laws.proofs.Links.{names_count}
 use Rattle.bx_truth.specs.Stands.{StandsFor}
 use Rattle.bx_views.specs.Truths.{Held, Hints, Truth, with_draft}
-use Rattle.bx_entries.specs.Removing.{IsRemoval, Removes, RemovesIn, removed}
-use Rattle.bx_entries.specs.Taking.{IsEntryOf, LeavesTree, TakesEntry, without_entry_of}
+use Rattle.bx_entries.specs.Removing.{IsRemoval, RemovesEntry, RemovesIn, removed}
+use Rattle.bx_entries.specs.Taking.{IsEntryOf, LeavesOthers, TakesEntry, without_entry_of}
 use Rattle.bx_entries.specs.Unlinking.{IsFileOf, Unlinks, UnlinksIn}
 
 module _ (volume areas : ℕ) (held : Held) (hints : Hints) (truth : Truth) (tree : Tree) (directory : ℕ) (inode : Inode) (number : ℕ) (name : List ℕ) (handle : ℕ) (of : Inode) (now : Time)
@@ -71,7 +71,7 @@ module _ (volume areas : ℕ) (held : Held) (hints : Hints) (truth : Truth) (tre
   stopped_taking counts (Status status) t = t
   stopped_taking counts (Inner blocks) t = t
 
-  module _ (counts : Bool) (counts_is : counts ≡ is_directory r.file.file) (mid : List Changed) (left : LeavesTree areas truth [] mid (without_entry_of tree r.at.file name counts now) directory) where
+  module _ (counts : Bool) (counts_is : counts ≡ is_directory r.file.file) (mid : List Changed) (left : LeavesOthers areas truth [] mid (without_entry_of tree r.at.file name counts now) directory) where
     not_page : (block : Block) → block.kind ≡ 1 → block.kind ≢ 2
     not_page block one two = absurd (omega (arith, one, two))
 
@@ -112,7 +112,7 @@ module _ (volume areas : ℕ) (held : Held) (hints : Hints) (truth : Truth) (tre
         ∙ ap (λ (h : ℕ). left_by (is_directory r.file.file) (with_changed tree.files r.at.file.handle (taken_out now name counts)) h) (sym r.file.handle_is)
         ∙ ap (λ (c : Bool). left_by (is_directory r.file.file) (with_changed tree.files r.at.file.handle (taken_out now name c)) r.file.file.handle) counts_is
 
-    pub removes : (new : List Changed) → Unlinks areas truth mid new (without_entry_of tree r.at.file name counts now) handle r.file.file now → Removes areas truth new (removed tree r.at.file name r.file.file now)
+    pub removes : (new : List Changed) → Unlinks areas truth mid new (without_entry_of tree r.at.file name counts now) handle r.file.file now → RemovesEntry areas truth new (removed tree r.at.file name r.file.file now)
     removes new u = record {
       stands = subst (λ (t : Tree). StandsFor areas (with_draft truth new) t) removed_is u.stands;
       leads = λ other fit. u.leads other (left.leads other fit);

@@ -19,7 +19,7 @@ use Rattle.bx_truth.specs.Chunks.{chunks_of}
 use Rattle.bx_truth.specs.Edits.{ChunkAnew}
 use Rattle.bx_truth.specs.PageTrees.{Chunks, HasPage, IsIn, IsNode, IsTree, Node, PageTree}
 use Rattle.bx_views.specs.Truths.{Held, Hints, Truth}
-use Rattle.bx_ready.specs.Rooms.{HasRoom}
+use Rattle.bx_ready.specs.Rooms.{LeafHasRoom}
 use Rattle.bx_entries.specs.Rooms.{HasSpace}
 use Rattle.bx_ready.proofs.Places.{one_place, place_in}
 
@@ -29,7 +29,7 @@ some_same : (a b : Block) → a ≡ b → (p q : Contents) → HasPage p a → H
 some_same a b e p q hp hq = one_page p q b.payload (subst (λ (x : Block). HasPage p x) e hp).spells hq.spells
 
 -- a leaf with room in a tree that a view agrees with isn't nearly full in the view
-pub space_of : (areas : ℕ) (held : Held) (hints : Hints) (truth : Truth) (root : ℕ) (tree : PageTree) (key : List ℕ) → Under areas held hints truth [] root tree → HasRoom tree key → HasSpace held tree key 544
+pub space_of : (areas : ℕ) (held : Held) (hints : Hints) (truth : Truth) (root : ℕ) (tree : PageTree) (key : List ℕ) → Under areas held hints truth [] root tree → LeafHasRoom tree key → HasSpace held tree key 544
 space_of areas held hints truth root tree key u r = record { handle = r.handle; page = r.page; place = r.place; room = r.room; roomy = full }
   where
     node : IsNode (chunks_of areas truth) 0 r.place.node

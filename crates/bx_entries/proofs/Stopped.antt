@@ -13,7 +13,7 @@ use Rattle.bx_inodes.specs.declared.stop.Stop.TheVariants.{Need, Inner, Status, 
 use Rattle.bx_layout.specs.declared.inode.Inode.{Inode}
 use Rattle.bx_leaves.specs.Changes.{NeedsUnheld}
 use Rattle.bx_ready.proofs.Lengths.{one_more, put_more}
-use Rattle.bx_ready.specs.Spare.{IfFull as IfTreeFull}
+use Rattle.bx_ready.specs.Spare.{IfNoSlot as IfTreeFull}
 use Rattle.bx_records.specs.Drafts.{Changed}
 use Rattle.bx_tree_files.specs.declared.file.Name.{Name}
 use Rattle.bx_truth.specs.Chunks.{block_at}

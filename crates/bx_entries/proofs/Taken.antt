@@ -28,7 +28,7 @@ use Rattle.bx_truth.specs.Stands.{StandsFor}
 use Rattle.bx_truth.specs.Stored.{HasFields}
 use Rattle.bx_views.specs.Truths.{Held, Hints, Truth, with_draft}
 use Rattle.bx_entries.specs.Stopping.{StopsBy}
-use Rattle.bx_entries.specs.Taking.{IsEntryOf, LeavesTree, TakesEntry, inode_without, links_left, without_entry_of}
+use Rattle.bx_entries.specs.Taking.{IsEntryOf, LeavesOthers, TakesEntry, inode_without, links_left, without_entry_of}
 use Rattle.bx_entries.proofs.InodePut.{elsewhere, fits}
 use Rattle.bx_entries.proofs.Leaves.{take_block}
 use Rattle.bx_entries.proofs.Twice.{twice}
@@ -88,7 +88,7 @@ module _ (areas : ℕ) (held : Held) (hints : Hints) (truth : Truth) (old : List
     pub left : PutsInode mid new handle (inode_without counts now inode) → ((areas : ℕ) (truth : Truth) (tree : Tree) (file file_now : File) (old : Inode) → StandsFor areas (with_draft truth mid) tree
         → file_at tree.files handle ≡ Some file → HoldsInode areas (with_draft truth mid) handle old → KeepsBody old (inode_without counts now inode)
         → HasFields (inode_without counts now inode) file_now → file_now.handle ≡ handle → file_now.body ≡ file.body
-        → StandsFor areas (with_draft truth new) (record tree { files = with_file tree.files file_now })) → LeavesTree areas truth old new (without_entry_of tree file name counts now) handle
+        → StandsFor areas (with_draft truth new) (record tree { files = with_file tree.files file_now })) → LeavesOthers areas truth old new (without_entry_of tree file name counts now) handle
     left puts put = record {
       stands = subst (λ (files : List File). StandsFor areas (with_draft truth new) (record tree { files = files })) (twice tree.files (with_names file e.parent e.next names_now) (taken_out now name counts file) refl)
           (put areas truth between (with_names file e.parent e.next names_now) (taken_out now name counts file) inode d.directory.is d.directory.there holds_mid keeps fields e.handle_is body);
@@ -101,7 +101,7 @@ module _ (areas : ℕ) (held : Held) (hints : Hints) (truth : Truth) (old : List
         → ((areas : ℕ) (truth : Truth) (tree : Tree) (file file_now : File) (old : Inode) → StandsFor areas (with_draft truth mid) tree
         → file_at tree.files handle ≡ Some file → HoldsInode areas (with_draft truth mid) handle old → KeepsBody old written
         → HasFields written file_now → file_now.handle ≡ handle → file_now.body ≡ file.body
-        → StandsFor areas (with_draft truth new) (record tree { files = with_file tree.files file_now })) → LeavesTree areas truth old new (without_entry_of tree file name counts now) handle
+        → StandsFor areas (with_draft truth new) (record tree { files = with_file tree.files file_now })) → LeavesOthers areas truth old new (without_entry_of tree file name counts now) handle
     left_as written same puts put = left (subst (λ (i : Inode). PutsInode mid new handle i) same puts)
         (subst (λ (i : Inode). (areas : ℕ) (truth : Truth) (tree : Tree) (file file_now : File) (old : Inode) → StandsFor areas (with_draft truth mid) tree
         → file_at tree.files handle ≡ Some file → HoldsInode areas (with_draft truth mid) handle old → KeepsBody old i

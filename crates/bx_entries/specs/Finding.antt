@@ -3,7 +3,7 @@ use Rattle.std.specs.Prelude.{◌≡◌, ℕ, ◌≤◌, ◌⊎◌, not, if◌th
 use Rattle.bx_base.specs.declared.names.Mode.{Mode}
 use Rattle.bx_base.specs.declared.names.Mode.TheVariants.{Exclusive}
 use Rattle.bx_blink.specs.Walks.{reads_with}
-use Rattle.bx_changes.specs.bx_files.specs.Paths.{Finds, OnSearch}
+use Rattle.bx_changes.specs.bx_files.specs.Paths.{LandsAtValue, OnSearch}
 use Rattle.bx_places.specs.Handles.{named}
 use Rattle.bx_inodes.specs.Fitting.{HintsFitAll}
 use Rattle.bx_inodes.specs.Inodes.{IsInodeOf, LiveAt}
@@ -32,7 +32,7 @@ use Rattle.bx_views.specs.Truths.{Truth, Held, Hints, IsTruth}
 use Rattle.bx_directory_reads.specs.Listings.{OnBehind}
 use Rattle.bx_entries.specs.declared.finding.Removable.{Removable}
 use Rattle.bx_entries.specs.declared.finding.Removable.TheVariants as of
-use Rattle.bx_entries.specs.Removing.{OnRemoving, Removes, name_error, removed}
+use Rattle.bx_entries.specs.Removing.{OnRemoving, RemovesEntry, name_error, removed}
 
 -- the directory in which a caller may use a name, with a right, if a file is found
 abbrev pub usable : Want → Call → List ℕ → Option File → Result File ℕ
@@ -120,7 +120,7 @@ pub record IsDirectoryOf (volume areas : ℕ) (held : Held) (hints : Hints) (tru
 pub record RemovesSo (areas : ℕ) (truth : Truth) (outcome : Outcome) (new : List Changed) : Type 0 where
   pub next : Tree
   pub comes_to : outcome ≡ Ok (reply.Status 0, next)
-  pub removes : Removes areas truth new next
+  pub removes : RemovesEntry areas truth new next
 
 abbrev pub RemovesFrom : ℕ → Truth → Outcome → Result (List Changed) Stop → Type 0
 RemovesFrom areas truth outcome (Ok new) = RemovesSo areas truth outcome new
@@ -160,7 +160,7 @@ pub record OnRemoved (held : Held) (hints : Hints) (areas root number : ℕ) (na
 pub record OnFound (sort : Removable) (held : Held) (hints : Hints) (areas root : ℕ) (name : List ℕ) (at : ℕ) (mode : Mode) : Type 0 where
   pub number : ℕ
   pub handle : ℕ
-  pub found : Finds held hints root (name_key name) (Some (name_value number handle))
+  pub found : LandsAtValue held hints root (name_key name) (Some (name_value number handle))
   pub on : OnFile sort held hints areas handle at mode ⊎ OnRemoved held hints areas root number name handle at mode
 
 -- from a directory's root on: the search for the name, and that from the entry on

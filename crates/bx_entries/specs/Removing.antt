@@ -54,13 +54,13 @@ abbrev pub removed : Tree → File → List ℕ → File → Time → Tree
 removed tree directory name file now = without_replaced now tree directory name (Some file)
 
 -- the truth with the draft stands for it, and all hints that fitted still fit
-pub record Removes (areas : ℕ) (truth : Truth) (new : List Changed) (next : Tree) : Type 0 where
+pub record RemovesEntry (areas : ℕ) (truth : Truth) (new : List Changed) (next : Tree) : Type 0 where
   pub stands : StandsFor areas (with_draft truth new) next
   pub leads : (hints : Hints) → HintsFitAll areas hints truth → HintsFitAll areas hints (with_draft truth new)
 
 -- What removing answers. It is stopped for want of a block or of memory alone.
 abbrev pub RemovesIn : ℕ → Truth → Tree → Result (List Changed) Stop → Type 0
-RemovesIn areas truth next (Ok new) = Removes areas truth new next
+RemovesIn areas truth next (Ok new) = RemovesEntry areas truth new next
 RemovesIn areas truth next (Err (Need at mode)) = Unit {0}
 RemovesIn areas truth next (Err OutOfMemory) = Unit {0}
 RemovesIn areas truth next (Err (Status status)) = ⊥

@@ -44,7 +44,7 @@ pub record IsEntryOf (areas : ℕ) (held : Held) (hints : Hints) (truth : Truth)
 
 -- The truth with the new draft stands for another tree. Of all chunks but the inode of one file only pages changed, and all hints that fitted
 -- still fit.
-pub record LeavesTree (areas : ℕ) (truth : Truth) (old new : List Changed) (next : Tree) (handle : ℕ) : Type 0 where
+pub record LeavesOthers (areas : ℕ) (truth : Truth) (old new : List Changed) (next : Tree) (handle : ℕ) : Type 0 where
   pub stands : StandsFor areas (with_draft truth new) next
   pub kept : (other : ℕ) (block : Block) → other ≢ handle → chunks_of areas (with_draft truth old) other ≡ Some block → block.kind ≢ 2 → chunks_of areas (with_draft truth new) other ≡ Some block
   pub leads : (hints : Hints) → HintsFitAll areas hints (with_draft truth old) → HintsFitAll areas hints (with_draft truth new)
@@ -69,7 +69,7 @@ without_entry_of tree directory name counts now = record tree { files = with_fil
 
 -- What taking the entry out answers, by the tree. It is stopped for want of a block or of memory alone.
 abbrev pub TakesEntry : ℕ → Truth → List Changed → Tree → ℕ → File → List ℕ → Bool → Time → Result (List Changed) Stop → Type 0
-TakesEntry areas truth old tree handle directory name counts now (Ok new) = LeavesTree areas truth old new (without_entry_of tree directory name counts now) handle
+TakesEntry areas truth old tree handle directory name counts now (Ok new) = LeavesOthers areas truth old new (without_entry_of tree directory name counts now) handle
 TakesEntry areas truth old tree handle directory name counts now (Err (Need at mode)) = Unit {0}
 TakesEntry areas truth old tree handle directory name counts now (Err OutOfMemory) = Unit {0}
 TakesEntry areas truth old tree handle directory name counts now (Err (Status status)) = ⊥

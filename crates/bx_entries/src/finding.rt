@@ -3,7 +3,7 @@
 ghost use Rattle.std.specs.Prelude.{◌≡◌, ◌≤◌, ℕ, List, [], IfOk, Some};
 ghost use Rattle.bx_changes.specs.Procedures.{Exclusive, File, HintsFitAll, IsTruth, LiveAt, Name, NeedsOn, NeverInner, Stands, StandsFor, Tree, Truth, reads_with};
 ghost use Rattle.bx_directory_reads.specs.bx_dirs.specs.Entries.{HasEntries};
-ghost use Rattle.bx_changes.specs.bx_files.specs.Paths.{Finds, OnSearch};
+ghost use Rattle.bx_changes.specs.bx_files.specs.Paths.{LandsAtValue, OnSearch};
 ghost use Rattle.bx_changes.specs.bx_files.specs.Reads.{Tells};
 ghost use Rattle.bx_inodes.specs.Heads.{head_of as head_by};
 ghost use Rattle.bx_tree_files.specs.Times.{Time};
@@ -89,7 +89,7 @@ pub fn entry_for<V: View>(
     name: &[u8],
 ) -> Result<(u32, u64), Stop>
     ensures list { (truth : Truth) (names : List Name) → HasEntries areas (V.held view.now) (V.hints view.now) truth [] root names → EntryFor names name.now result }
-    ensures finds { IfOk result (λ found. Finds (V.held view.now) (V.hints view.now) root (name_key name.now) (Some (name_value found.0 found.1))) }
+    ensures finds { IfOk result (λ found. LandsAtValue (V.held view.now) (V.hints view.now) root (name_key name.now) (Some (name_value found.0 found.1))) }
     ensures need { NeedsOn areas (V.held view.now) (OnSearch (V.held view.now) (V.hints view.now) root (name_key name.now)) result }
     ensures inner { NeverInner result }
 {

@@ -27,7 +27,7 @@ abbrev pub label_on : Label → ℕ → Label
 label_on label disk = record { volume = label.volume; disk = disk; devices = label.devices; areas = label.areas }
 
 -- The disk of a replica is whole and has the label that it has on the volume that the first label is of, and this volume has so many devices.
-pub record IsLabelled (devices : ℕ) (sizes : List ℕ) (image : Image) (replica : ℕ) : Type 0 where
+pub record IsReplicaLabelled (devices : ℕ) (sizes : List ℕ) (image : Image) (replica : ℕ) : Type 0 where
   pub whole : IsWhole sizes replica
   pub first : Label
   pub is_first : IsFirstLabel sizes image first

@@ -19,7 +19,7 @@ ghost use Rattle.bx_facts.specs.declared.input.ProposeError.TheVariants.{NotLega
 ghost use Rattle.bx_facts.specs.Chains.{last, AreLegal, IsAboveBoots, IsNext, IsPlace, most_boot};
 ghost use Rattle.bx_facts.specs.Disks.{Crashes, HasRoom, NeedsAt, NeedsNoMore, OnlyDiskOf, ReadsOnly, SameDisks, SameLabels, SameLengths, SameMembers, SameReplicas, TellNoState, wanted_by};
 ghost use Rattle.bx_facts.specs.Inputs.{AreAmong, IsRegisters, SendsOnly};
-ghost use Rattle.bx_facts.specs.Labelled.{IsLabelled};
+ghost use Rattle.bx_facts.specs.Labelled.{IsReplicaLabelled};
 ghost use Rattle.bx_facts.specs.Machines.{IsMachine, OnlyAt, OnlyFactsAt, SameFacts, disk_of};
 ghost use Rattle.bx_facts.specs.Pasts.{Decides, MayHear, RegisterPast, found_register, opening_register, proposing, register_crashed, register_failed, register_restarted, register_with};
 
@@ -191,7 +191,7 @@ pub trait Register: Drop {
     ghost one_boot: { (made : GlobalState) (sizes : List ℕ) (image : Image) (boot other : ℕ) → boot_in made sizes image boot → boot_in made sizes image other → other ≡ boot };
 
     /// An image in which two replicas are labelled, for a volume of as many devices, is read as some state.
-    ghost reads_some: { (g : Self) (x : Disks) (past : RegisterPast) (image : Image) (n m : ℕ) → keeps g x past → IsImage x image → n ≢ m → IsLabelled (length (made g).devices) x.sizes image n → IsLabelled (length (made g).devices) x.sizes image m → (s : GlobalState) × reads_as (made g) x.sizes image s };
+    ghost reads_some: { (g : Self) (x : Disks) (past : RegisterPast) (image : Image) (n m : ℕ) → keeps g x past → IsImage x image → n ≢ m → IsReplicaLabelled (length (made g).devices) x.sizes image n → IsReplicaLabelled (length (made g).devices) x.sizes image m → (s : GlobalState) × reads_as (made g) x.sizes image s };
 
     /// Other disks don't matter, of whatever length.
     ghost elsewhere: { (g : Self) (x y : Disks) (past : RegisterPast) → keeps g x past → SameLengths x y → SameReplicas x y → SameLabels x y → keeps g y past };

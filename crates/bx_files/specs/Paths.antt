@@ -19,8 +19,8 @@ abbrev pub SearchEnds : Held → Hints → ℕ → List ℕ → End → Type 0
 SearchEnds held hints root key end = Ends (reads_with held hints []) 0 Shared key most (start root Shared) end
 
 -- it lands at a page that has this for the key
-abbrev pub Finds : Held → Hints → ℕ → List ℕ → Option (List ℕ) → Type 0
-Finds held hints root key found = LandsWith (SearchEnds held hints root key) key found
+abbrev pub LandsAtValue : Held → Hints → ℕ → List ℕ → Option (List ℕ) → Type 0
+LandsAtValue held hints root key found = LandsWith (SearchEnds held hints root key) key found
 
 -- the blocks on its path, shared
 pub record OnSearch (held : Held) (hints : Hints) (root : ℕ) (key : List ℕ) (at : ℕ) (mode : Mode) : Type 0 where
@@ -36,7 +36,7 @@ pub record IsBlockOf (handle at : ℕ) (mode : Mode) : Type 0 where
 -- a search for the piece with an index finds this block's handle
 pub record IsPieceBlock (held : Held) (hints : Hints) (root index at : ℕ) (mode : Mode) : Type 0 where
   pub value : List ℕ
-  pub found : Finds held hints root (content_key index) (Some value)
+  pub found : LandsAtValue held hints root (content_key index) (Some value)
   pub is : IsBlockOf (handle_in value) at mode
 
 -- the path to the piece with an index: that of the search, and the piece's block

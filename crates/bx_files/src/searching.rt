@@ -6,7 +6,7 @@ ghost use Rattle.bx_chunks.specs.bx_truth.specs.PageTrees.{PageTree, map_of};
 ghost use Rattle.bx_views.specs.Truths.{Truth};
 ghost use Rattle.bx_inodes.specs.bx_blink.specs.Hints.{Under};
 ghost use Rattle.bx_inodes.specs.Stops.{NeedsOn, NeverInner};
-ghost use Rattle.bx_files.specs.Paths.{Finds, IsNeed, OnSearch};
+ghost use Rattle.bx_files.specs.Paths.{LandsAtValue, IsNeed, OnSearch};
 ghost use Rattle.bx_files.specs.Reads.{Tells};
 
 use bx_base::{Mode, Raw};
@@ -29,7 +29,7 @@ pub fn value_at<V: View>(
     key: &[u8],
 ) -> Result<Option<Raw>, Stop>
     ensures map { (truth : Truth) (tree : PageTree) → Under areas (V.held view.now) (V.hints view.now) truth [] root tree → Tells (value_of (map_of tree) key.now) result }
-    ensures finds { IfOk result (Finds (V.held view.now) (V.hints view.now) root key.now) }
+    ensures finds { IfOk result (LandsAtValue (V.held view.now) (V.hints view.now) root key.now) }
     ensures need { NeedsOn areas (V.held view.now) (OnSearch (V.held view.now) (V.hints view.now) root key.now) result }
     ensures inner { NeverInner result }
 {

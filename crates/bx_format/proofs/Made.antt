@@ -11,7 +11,7 @@ use Rattle.bx_truth.proofs.OpeningBlocks.{opening_has}
 use Rattle.bx_views.specs.Truths.{Truth}
 use Rattle.bx_volume.specs.Images.{devices_of}
 use Rattle.bx_volume.specs.Overlay.{IsHome}
-use Rattle.bx_format.specs.Formats.{areas_truth, HoldsBlocks, with_block}
+use Rattle.bx_format.specs.Formats.{areas_truth, HoldsBlocks, with_chunk}
 
 pub root_parts : HasParts root_block
 root_parts = opening_has 1 0 (omega arith) (record { area = omega arith; slot = omega arith })
@@ -42,7 +42,7 @@ same_blocks image devices areas truth other holds same = record {
 }
 
 -- one more area has its own block
-pub one_area : (area at : ℕ) → with_block (areas_truth area) (1024 * area + 960) (area_block area) at ≡ areas_truth (area + 1) at
+pub one_area : (area at : ℕ) → with_chunk (areas_truth area) (1024 * area + 960) (area_block area) at ≡ areas_truth (area + 1) at
 one_area area at = by (same_or at (1024 * area + 960)) (same_or (block_slot at) 960)
   where
     more : block_area at ≢ area → nat_lt (block_area at) area ≡ nat_lt (block_area at) (area + 1)
@@ -58,20 +58,20 @@ one_area area at = by (same_or at (1024 * area + 960)) (same_or (block_slot at) 
     back other slot same = other (omega (arith, slot, same))
 
     by : (at ≡ 1024 * area + 960) ⊎ (at ≢ 1024 * area + 960) → (block_slot at ≡ 960) ⊎ (block_slot at ≢ 960)
-        → with_block (areas_truth area) (1024 * area + 960) (area_block area) at ≡ areas_truth (area + 1) at
+        → with_chunk (areas_truth area) (1024 * area + 960) (area_block area) at ≡ areas_truth (area + 1) at
     by (inl same) slot = rw (same, eq_true (1024 * area + 960) (1024 * area + 960) refl, eq_true (block_slot (1024 * area + 960)) 960 own, own_area area, there) refl
     by (inr other) (inl slot) = rw (eq_false at (1024 * area + 960) other, eq_true (block_slot at) 960 slot, more (back other slot)) refl
     by (inr other) (inr slot) = rw (eq_false at (1024 * area + 960) other, eq_false (block_slot at) 960 slot) refl
 
 -- all areas have theirs, and the root is there
-pub root_is_made : (areas at : ℕ) → IsBlock areas at → with_block (with_block (areas_truth areas) 0 root_block) 1 page_block at ≡ opening_truth at
+pub root_is_made : (areas at : ℕ) → IsBlock areas at → with_chunk (with_chunk (areas_truth areas) 0 root_block) 1 page_block at ≡ opening_truth at
 root_is_made areas at is = by (same_or at 1) (same_or at 0) (same_or (block_slot at) 960)
   where
     there : nat_lt (block_area at) areas ≡ true
     there = grind (arith, nat_tests, is.area)
 
     by : (at ≡ 1) ⊎ (at ≢ 1) → (at ≡ 0) ⊎ (at ≢ 0) → (block_slot at ≡ 960) ⊎ (block_slot at ≢ 960)
-        → with_block (with_block (areas_truth areas) 0 root_block) 1 page_block at ≡ opening_truth at
+        → with_chunk (with_chunk (areas_truth areas) 0 root_block) 1 page_block at ≡ opening_truth at
     by (inl page) root own = rw page refl
     by (inr not_page) (inl root) own = rw root refl
     by (inr not_page) (inr not_root) (inl own) = rw (eq_false at 1 not_page, eq_false at 0 not_root, eq_true (block_slot at) 960 own, there) refl

@@ -15,7 +15,7 @@ use Rattle.bx_volume.specs.Overlay.{IsHome, WritesOnly}
 use Rattle.bx_volume.proofs.Apart.{outside, two_homes}
 use Rattle.bx_volume.proofs.Kept.{home_kept}
 use Rattle.bx_volume.proofs.Sizes.{length-block_text}
-use Rattle.bx_format.specs.Formats.{HasSizes, HoldsBlocks, with_block}
+use Rattle.bx_format.specs.Formats.{HasSizes, HoldsBlocks, with_chunk}
 
 -- what one member of each device has
 abbrev pub on_member : Image → Bool → Image
@@ -57,10 +57,10 @@ reads_place mid new device sector bytes false first keeps second = record {
 pub holds_more : (old new : Disks) (devices areas at : ℕ) (block : Block) (truth : Truth) → IsVolume devices areas → IsBlock areas at → HasParts block
     → ((member : Bool) → WritesOnly (on_member old.reads member) (on_member new.reads member) (block_place at devices).0 (block_place at devices).1 9)
     → ((member : Bool) → ReadsAs (on_member new.reads member) (block_place at devices).0 (block_place at devices).1 (block_text block))
-    → HoldsBlocks old.reads devices areas truth → HoldsBlocks new.reads devices areas (with_block truth at block)
+    → HoldsBlocks old.reads devices areas truth → HoldsBlocks new.reads devices areas (with_chunk truth at block)
 holds_more old new devices areas at block truth volume is parts only reads holds = record { home = λ member other there. by member other there (same_or other at) }
   where
-    by : (member : Bool) (other : ℕ) → IsBlock areas other → (other ≡ at) ⊎ (other ≢ at) → IsHome (on_member new.reads member) devices other (with_block truth at block other)
+    by : (member : Bool) (other : ℕ) → IsBlock areas other → (other ≡ at) ⊎ (other ≢ at) → IsHome (on_member new.reads member) devices other (with_chunk truth at block other)
     by member other there (inl same) = rw (eq_true other at same, same) (record { is = parts; reads = reads member })
     by member other there (inr apart) =
         rw (eq_false other at apart)

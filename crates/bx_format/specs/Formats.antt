@@ -16,8 +16,8 @@ pub record HoldsBlocks (image : Image) (devices areas : ℕ) (truth : Truth) : T
   pub home : (member : Bool) (at : ℕ) → IsBlock areas at → IsHome (devices_of image (λ device sector. member)) devices at (truth at)
 
 -- a truth with another block in a place
-abbrev pub with_block : Truth → ℕ → Block → Truth
-with_block truth at block other = if other == at then block else truth other
+abbrev pub with_chunk : Truth → ℕ → Block → Truth
+with_chunk truth at block other = if other == at then block else truth other
 
 -- a volume of which so many areas have their own blocks, and nothing else is in use
 abbrev pub areas_truth : ℕ → Truth

@@ -7,7 +7,7 @@ ghost use Rattle.bx_places.specs.Places.{IsVolume, IsBlock};
 ghost use Rattle.bx_truth.specs.Opening.{page_block, root_block};
 ghost use Rattle.bx_views.specs.Truths.{Truth};
 ghost use Rattle.bx_format.specs.Moments.{IsLabelSector, Spares};
-ghost use Rattle.bx_format.specs.Formats.{areas_truth, FitsVolume, HasSizes, HoldsBlocks, KeepsFront, with_block};
+ghost use Rattle.bx_format.specs.Formats.{areas_truth, FitsVolume, HasSizes, HoldsBlocks, KeepsFront, with_chunk};
 
 use crate::blocks::{inode_block, own_block, tree_block};
 use bx_calls::write_some;
@@ -28,7 +28,7 @@ fn put_home<R: Rack>(
     requires sizes { HasSizes (R.state rack.old).sizes devices areas }
     requires there { IsBlock areas at }
     requires parts { HasParts block.now }
-    ensures puts { (truth : Truth) → R.tells rack.old → HoldsBlocks (R.state rack.old).reads devices areas truth → OnOk result (HoldsBlocks (R.state rack.new).reads devices areas (with_block truth at block.now)) }
+    ensures puts { (truth : Truth) → R.tells rack.old → HoldsBlocks (R.state rack.old).reads devices areas truth → OnOk result (HoldsBlocks (R.state rack.new).reads devices areas (with_chunk truth at block.now)) }
     ensures spares { R.tells rack.old → Spares IsLabelSector (R.state rack.old) (R.state rack.new) (R.moment rack.old) (R.moment rack.new) (R.left_since rack.old) (R.left_since rack.new) }
     ensures front { R.tells rack.old → KeepsFront (R.state rack.old) (R.state rack.new) }
     ensures rack { Fails R.Rack rack.old rack.new result }
@@ -69,7 +69,7 @@ pub(crate) fn write_root<R: Rack>(
     areas: u16,
 ) -> Result<(), RackError>
     requires { FitsVolume (R.state rack.old).sizes devices areas }
-    ensures puts { (truth : Truth) → R.tells rack.old → HoldsBlocks (R.state rack.old).reads devices areas truth → OnOk result (HoldsBlocks (R.state rack.new).reads devices areas (with_block (with_block truth 0 root_block) 1 page_block)) }
+    ensures puts { (truth : Truth) → R.tells rack.old → HoldsBlocks (R.state rack.old).reads devices areas truth → OnOk result (HoldsBlocks (R.state rack.new).reads devices areas (with_chunk (with_chunk truth 0 root_block) 1 page_block)) }
     ensures spares { R.tells rack.old → Spares IsLabelSector (R.state rack.old) (R.state rack.new) (R.moment rack.old) (R.moment rack.new) (R.left_since rack.old) (R.left_since rack.new) }
     ensures front { R.tells rack.old → KeepsFront (R.state rack.old) (R.state rack.new) }
     ensures rack { Fails R.Rack rack.old rack.new result }

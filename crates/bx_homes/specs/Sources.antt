@@ -16,12 +16,12 @@ pub record Fits (sizes : List ℕ) (disk : ℕ) (label : Label) : Type 0 where
   pub long_enough : disk_sectors label.devices label.areas disk ≤ slice_index sizes disk
 
 -- a disk is as long as the disk of this number on the volume that the label is of
-abbrev pub HasRoom : List ℕ → Label → ℕ → Type 0
-HasRoom sizes first disk = disk_sectors first.devices first.areas disk ≤ slice_index sizes disk
+abbrev pub IsLongEnough : List ℕ → Label → ℕ → Type 0
+IsLongEnough sizes first disk = disk_sectors first.devices first.areas disk ≤ slice_index sizes disk
 
 -- the disk of each source member of a device is
 abbrev pub HaveRoom : List ℕ → Label → ℕ → DeviceRow → Type 0
-HaveRoom sizes first device row = (member : Bool) → IsSource row.mode member → HasRoom sizes first (member_disk device member)
+HaveRoom sizes first device row = (member : Bool) → IsSource row.mode member → IsLongEnough sizes first (member_disk device member)
 
 -- each source member of a device has a label of the volume
 abbrev pub AreLabelled : List ℕ → Image → Label → ℕ → DeviceRow → Type 0

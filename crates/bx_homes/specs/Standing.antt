@@ -6,6 +6,6 @@ use Rattle.bx_layout.specs.declared.block.Block.{Block}
 use Rattle.bx_layout.specs.Blocks.{HasParts, block_text}
 
 -- the block stands on the disk, from this sector on
-pub record StandsAt (image : Image) (disk sector : ℕ) (block : Block) : Type 0 where
+pub record BlockStandsAt (image : Image) (disk sector : ℕ) (block : Block) : Type 0 where
   pub is : HasParts block
   pub reads : ReadsAs image disk sector (block_text block)

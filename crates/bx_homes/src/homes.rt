@@ -5,7 +5,7 @@ ghost use Rattle.bx_layout.specs.declared.block.Block.{Block};
 ghost use Rattle.bx_places.specs.Places.{IsVolume, IsBlock, block_place, member_sectors};
 ghost use Rattle.bx_volume.specs.Images.{devices_of, member_disk};
 ghost use Rattle.bx_volume.specs.Overlay.{IsHome};
-ghost use Rattle.bx_homes.specs.Standing.{StandsAt};
+ghost use Rattle.bx_homes.specs.Standing.{BlockStandsAt};
 ghost use Rattle.bx_disk.specs.Kept.{FailsOn};
 
 use bx_calls::read_sectors;
@@ -45,8 +45,8 @@ pub fn read_block<R: Rack>(
 ) -> Result<Option<Block>, RackError>
     requires disk { disk < length (R.state rack.old).sizes }
     requires room { sector + 9 ≤ slice_index (R.state rack.old).sizes disk }
-    ensures some { R.tells rack.old → IfOk result (λ found. IfSome found (StandsAt (R.state rack.old).reads disk sector)) }
-    ensures none { R.tells rack.old → IfOk result (λ found. IfNone found ((block : Block) → StandsAt (R.state rack.old).reads disk sector block → ⊥)) }
+    ensures some { R.tells rack.old → IfOk result (λ found. IfSome found (BlockStandsAt (R.state rack.old).reads disk sector)) }
+    ensures none { R.tells rack.old → IfOk result (λ found. IfNone found ((block : Block) → BlockStandsAt (R.state rack.old).reads disk sector block → ⊥)) }
     ensures stays { R.state rack.new ≡ R.state rack.old }
     ensures rack { FailsOn R.Rack rack.old rack.new disk result }
 {

@@ -4,7 +4,7 @@ ghost use Rattle.std.specs.Prelude.{◌≡◌, ◌≤◌, ◌<◌, ◌↔◌, �
 ghost use Rattle.bx_layout.specs.declared.label.Label.{Label};
 ghost use Rattle.bx_layout.specs.Labels.{IsLabel};
 ghost use Rattle.bx_places.specs.Places.{disk_count, disk_sectors};
-ghost use Rattle.bx_homes.specs.Sources.{Fits, HasRoom};
+ghost use Rattle.bx_homes.specs.Sources.{Fits, IsLongEnough};
 ghost use Rattle.bx_volume.specs.Images.{IsOwnLabel, IsFirstLabel, IsLabelled};
 ghost use Rattle.bx_disk.specs.Kept.{Faults, FaultsOn};
 
@@ -32,7 +32,7 @@ pub fn first_label<R: Rack>(rack: &mut R) -> Result<Option<Label>, DiskFault>
 /// Whether a disk has a label of the volume that the first label is of.
 pub fn is_labelled<R: Rack>(rack: &mut R, first: &Label, disk: u32) -> Result<bool, DiskFault>
     ensures answer { R.tells rack.old → IfOk result (λ is. IsTrue is ↔ IsLabelled (R.state rack.old).sizes (R.state rack.old).reads first.now disk) }
-    ensures room { IfOk result (λ is. IsTrue is → HasRoom (R.state rack.old).sizes first.now disk) }
+    ensures room { IfOk result (λ is. IsTrue is → IsLongEnough (R.state rack.old).sizes first.now disk) }
     ensures stays { R.state rack.new ≡ R.state rack.old }
     ensures rack { FaultsOn R.Rack rack.old rack.new disk result }
 {

@@ -4,7 +4,7 @@ ghost use Rattle.std.specs.Prelude.{◌≡◌, ◌≤◌, ◌<◌, ℕ, length, 
 ghost use Rattle.bx_rows.specs.declared.device.DeviceRow.{DeviceRow};
 ghost use Rattle.bx_rows.specs.Modes.{IsSource};
 ghost use Rattle.bx_volume.specs.Images.{IsLabelled, member_disk};
-ghost use Rattle.bx_homes.specs.Sources.{AreLabelled, IsFirstUnlabelled, HasRoom, HaveRoom, HasSource, IsFirstAbsent};
+ghost use Rattle.bx_homes.specs.Sources.{AreLabelled, IsFirstUnlabelled, IsLongEnough, HaveRoom, HasSource, IsFirstAbsent};
 ghost use Rattle.bx_disk.specs.Kept.{Faults};
 
 use crate::homes::member_disk;
@@ -49,7 +49,7 @@ fn lacks_label<R: Rack>(
 ) -> Result<bool, DiskFault>
     requires { device < 4 }
     ensures yes { R.tells rack.old → IfOk result (λ lacks. IsTrue lacks → IsSource row.now.mode second × (IsLabelled (R.state rack.old).sizes (R.state rack.old).reads first.now (member_disk device second) → ⊥)) }
-    ensures room { IfOk result (λ lacks. IsFalse lacks → IsSource row.now.mode second → HasRoom (R.state rack.old).sizes first.now (member_disk device second)) }
+    ensures room { IfOk result (λ lacks. IsFalse lacks → IsSource row.now.mode second → IsLongEnough (R.state rack.old).sizes first.now (member_disk device second)) }
     ensures no { R.tells rack.old → IfOk result (λ lacks. IsFalse lacks → IsSource row.now.mode second → IsLabelled (R.state rack.old).sizes (R.state rack.old).reads first.now (member_disk device second)) }
     ensures stays { R.state rack.new ≡ R.state rack.old }
     ensures rack { Faults R.Rack rack.old rack.new result }

@@ -16,7 +16,7 @@ use Rattle.bx_world_events.specs.Refusals.{Seen, refusal}
 use Rattle.bx_world_events.specs.declared.event.Event.{Event}
 use Rattle.bx_host.specs.Lost.{is_lost}
 use Rattle.bx_host.specs.Standing.{AreAny, Does, Ends, Goes, IsNoted, KeepsRack, standing}
-use Rattle.bx_host.specs.Steps.{IsAt, Place, Step, again_of, brought_in, datagrams, is_silent, owed, replies_of, stopped_in}
+use Rattle.bx_host.specs.Steps.{IsAt, Place, EventStep, again_of, brought_in, datagrams, is_silent, owed, replies_of, stopped_in}
 use Rattle.bx_host.specs.Turns.{IsOne}
 use Rattle.bx_host.specs.declared.error.HostError.{HostError}
 use Rattle.bx_host.specs.declared.error.HostError.TheVariants.{Disk, OutOfMemory}
@@ -85,8 +85,8 @@ module _ {C R : Type 0} (seen_of : C → Seen) (room_of : C → List ℕ → Typ
           subst (λ e. Ends {A = Unit {0}} (Err e) (IsOne event) (brought_in event) old.reading (standing seen_of room_of led_of ra old before) (standing seen_of room_of led_of ra new after)) (sym is) tt
 
   -- a part of a turn behind another that ended well
-  pub goes_both : {A : Type 0} (First Second Both : Place → List Step → Place → Type 0) (brings more : List Arrival) (old mid new : Host C) (before between after : R) (result : Result A HostError) (x : Unit {0})
-      → ((earlier later : List Step) (middle : Place) (from to : Place) → First from earlier middle → Second middle later to → Both from (later ++ earlier) to)
+  pub goes_both : {A : Type 0} (First Second Both : Place → List EventStep → Place → Type 0) (brings more : List Arrival) (old mid new : Host C) (before between after : R) (result : Result A HostError) (x : Unit {0})
+      → ((earlier later : List EventStep) (middle : Place) (from to : Place) → First from earlier middle → Second middle later to → Both from (later ++ earlier) to)
       → Goes seen_of room_of led_of ra {A = Unit {0}} (Ok x) First brings old before mid between → Goes seen_of room_of led_of ra result Second more mid between new after → Goes seen_of room_of led_of ra result Both (brings ++ more) old before new after
   goes_both First Second Both brings more old mid new before between after result x both one two =
       let a = standing seen_of room_of led_of ra old before in
@@ -103,8 +103,8 @@ module _ {C R : Type 0} (seen_of : C → Seen) (room_of : C → List ℕ → Typ
       }
 
   -- the same, with what is known of the places
-  pub goes_both_at : {A : Type 0} (First Second Both : Place → List Step → Place → Type 0) (brings more : List Arrival) (old mid new : Host C) (before between after : R) (result : Result A HostError) (x : Unit {0})
-      → ((earlier later : List Step) → First (standing seen_of room_of led_of ra old before).place earlier (standing seen_of room_of led_of ra mid between).place → Second (standing seen_of room_of led_of ra mid between).place later (standing seen_of room_of led_of ra new after).place
+  pub goes_both_at : {A : Type 0} (First Second Both : Place → List EventStep → Place → Type 0) (brings more : List Arrival) (old mid new : Host C) (before between after : R) (result : Result A HostError) (x : Unit {0})
+      → ((earlier later : List EventStep) → First (standing seen_of room_of led_of ra old before).place earlier (standing seen_of room_of led_of ra mid between).place → Second (standing seen_of room_of led_of ra mid between).place later (standing seen_of room_of led_of ra new after).place
       → Both (standing seen_of room_of led_of ra old before).place (later ++ earlier) (standing seen_of room_of led_of ra new after).place)
       → Goes seen_of room_of led_of ra {A = Unit {0}} (Ok x) First brings old before mid between → Goes seen_of room_of led_of ra result Second more mid between new after → Goes seen_of room_of led_of ra result Both (brings ++ more) old before new after
   goes_both_at First Second Both brings more old mid new before between after result x both one two =
@@ -122,7 +122,7 @@ module _ {C R : Type 0} (seen_of : C → Seen) (room_of : C → List ℕ → Typ
       }
 
   -- an error says nothing of what would have been done
-  pub goes_err : (A B : Type 0) (These Those : Place → List Step → Place → Type 0) (brings : List Arrival) (old new : Host C) (before after : R) (error : HostError)
+  pub goes_err : (A B : Type 0) (These Those : Place → List EventStep → Place → Type 0) (brings : List Arrival) (old new : Host C) (before after : R) (error : HostError)
       → Goes seen_of room_of led_of ra {A = A} (Err error) These brings old before new after → Goes seen_of room_of led_of ra {A = B} (Err error) Those brings old before new after
   goes_err A B These Those brings old new before after error goes = record {
     ends = ends_err A B These Those brings old.reading (standing seen_of room_of led_of ra old before) (standing seen_of room_of led_of ra new after) error goes.ends;
@@ -135,13 +135,13 @@ module _ {C R : Type 0} (seen_of : C → Seen) (room_of : C → List ℕ → Typ
   }
 
   -- nothing was done
-  pub goes_none : (Is : Place → List Step → Place → Type 0) (host : Host C) (rack : R) → Is (standing seen_of room_of led_of ra host rack).place [] (standing seen_of room_of led_of ra host rack).place
+  pub goes_none : (Is : Place → List EventStep → Place → Type 0) (host : Host C) (rack : R) → Is (standing seen_of room_of led_of ra host rack).place [] (standing seen_of room_of led_of ra host rack).place
       → Goes seen_of room_of led_of ra {A = Unit {0}} (Ok tt) Is [] host rack host rack
   goes_none Is host rack is = record { ends = does_none Is host.reading (standing seen_of room_of led_of ra host rack) is; only = tt; keeps = keeps_none ra rack; reading = refl; first = refl; ready = refl; sent = refl }
 
   -- it is more than that
-  pub goes_as : (These Those : Place → List Step → Place → Type 0) (brings : List Arrival) (old new : Host C) (before after : R) (x : Unit {0})
-      → ((from : Place) (steps : List Step) → These from steps (standing seen_of room_of led_of ra new after).place → Those from steps (standing seen_of room_of led_of ra new after).place)
+  pub goes_as : (These Those : Place → List EventStep → Place → Type 0) (brings : List Arrival) (old new : Host C) (before after : R) (x : Unit {0})
+      → ((from : Place) (steps : List EventStep) → These from steps (standing seen_of room_of led_of ra new after).place → Those from steps (standing seen_of room_of led_of ra new after).place)
       → Goes seen_of room_of led_of ra {A = Unit {0}} (Ok x) These brings old before new after → Goes seen_of room_of led_of ra {A = Unit {0}} (Ok x) Those brings old before new after
   goes_as These Those brings old new before after x more goes = record {
     ends = does_as These Those brings old.reading (standing seen_of room_of led_of ra old before) (standing seen_of room_of led_of ra new after) (more (standing seen_of room_of led_of ra old before).place) goes.ends;

@@ -5,7 +5,7 @@ use Rattle.std.specs.Prelude.{Bool, IfSome, Option, nat_lt}
 use Rattle.std.specs.Bool.{then_some}
 use Rattle.std.specs.FinSet as set
 use Rattle.bx_base.specs.declared.names.Actor.{Actor}
-use Rattle.bx_cluster.specs.Steps.{Counted, Shown, greatest_with}
+use Rattle.bx_cluster.specs.Steps.{Counted, Shown, greatest_reading}
 use Rattle.bx_driver.specs.Lanes.{lane_cmp}
 use Rattle.bx_driver.specs.Runs.{IsDue}
 use Rattle.bx_driver.specs.Runs.IsDue.{Arrives, Syncs, Rests}
@@ -45,7 +45,7 @@ is_late reading greatest (Some one) under is = grind (arith, nat_tests)
 pub in_time : (reading : ℕ) (seen : Seen) (event : Event) → seen.greatest ≤ reading → IsAt reading seen event → clock_back seen event ≡ None
 in_time reading seen event under at = none_told _ _ (reading_of event) (is_late reading seen.greatest (reading_of event) under at)
 
-greatest_under : (reading greatest : ℕ) (its : Option ℕ) → greatest ≤ reading → IfSome its (λ one. one ≡ reading) → greatest_with its greatest ≤ reading
+greatest_under : (reading greatest : ℕ) (its : Option ℕ) → greatest ≤ reading → IfSome its (λ one. one ≡ reading) → greatest_reading its greatest ≤ reading
 greatest_under reading greatest None under is = under
 greatest_under reading greatest (Some one) under is = grind (arith, nat_tests)
 

@@ -8,15 +8,15 @@ use Rattle.bx_history.specs.Parts.{Arrival, Part}
 use Rattle.bx_model.specs.declared.tree.Tree.{Tree}
 use Rattle.bx_world_events.specs.Refusals.{refusal}
 use Rattle.bx_world_events.specs.declared.event.Event.{Event}
-use Rattle.bx_host.specs.Standing.{AreAny, Does, Ends, KeepsRack, Standing}
-use Rattle.bx_host.specs.Steps.{IsAt, IsStep, Place, Step, brought_in, datagrams, stopped_in}
+use Rattle.bx_host.specs.Standing.{AreAny, Does, Ends, KeepsRack, HostView}
+use Rattle.bx_host.specs.Steps.{IsAt, IsStep, Place, EventStep, brought_in, datagrams, stopped_in}
 use Rattle.bx_host.specs.Turns.{IsOne}
 use Rattle.bx_host.specs.declared.error.HostError.{HostError}
 use Rattle.bx_host.specs.declared.error.HostError.TheVariants.{Disk, Link, Write, NoLabel, OutOfMemory, NoMajority, Spent}
 use Rattle.bx_host.proofs.Moving.{does_as, does_both}
 
 -- one event
-pub one_done : (reading : ℕ) (event : Event) (outcome : Outcome) (a b : Standing)
+pub one_done : (reading : ℕ) (event : Event) (outcome : Outcome) (a b : HostView)
     → refusal a.place.seen event ≡ None → Shown event outcome.stopped a.place.seen b.place.seen → a.place.left ≡ b.place.left + 1 → IsAt reading a.place.seen event
     → ((tree : Tree) (parts : List Part) → a.led tree parts → b.led tree (part_at event outcome ∷ parts))
     → b.owed ≡ a.owed ++ datagrams outcome → b.stopped ≡ a.stopped ++ stopped_in outcome.stopped
@@ -34,8 +34,8 @@ one_done reading event outcome a b allowed shown left at leads owes stops =
     }
 
 -- an end behind what was done
-pub ends_both : {A : Type 0} (First Second Both : Place → List Step → Place → Type 0) (brings more : List Arrival) (reading : ℕ) (a b c : Standing) (result : Result A HostError)
-    → ((earlier later : List Step) → First a.place earlier b.place → Second b.place later c.place → Both a.place (later ++ earlier) c.place)
+pub ends_both : {A : Type 0} (First Second Both : Place → List EventStep → Place → Type 0) (brings more : List Arrival) (reading : ℕ) (a b c : HostView) (result : Result A HostError)
+    → ((earlier later : List EventStep) → First a.place earlier b.place → Second b.place later c.place → Both a.place (later ++ earlier) c.place)
     → Does First brings reading a b → Ends result Second more reading b c → Ends result Both (brings ++ more) reading a c
 ends_both First Second Both brings more reading a b c (Ok _) both one two = does_both First Second Both brings more reading a b c both one two
 ends_both First Second Both brings more reading a b c (Err Disk) both one (two, lost) = (does_both First AreAny AreAny brings more reading a b c (λ earlier later is then. tt) one two, lost)
@@ -47,7 +47,7 @@ ends_both First Second Both brings more reading a b c (Err NoMajority) both one 
 ends_both First Second Both brings more reading a b c (Err (Spent boot)) both one two = two
 
 -- an error says nothing of what would have been done
-pub ends_err : (A B : Type 0) (These Those : Place → List Step → Place → Type 0) (brings : List Arrival) (reading : ℕ) (a b : Standing) (error : HostError) → Ends {A = A} (Err error) These brings reading a b → Ends {A = B} (Err error) Those brings reading a b
+pub ends_err : (A B : Type 0) (These Those : Place → List EventStep → Place → Type 0) (brings : List Arrival) (reading : ℕ) (a b : HostView) (error : HostError) → Ends {A = A} (Err error) These brings reading a b → Ends {A = B} (Err error) Those brings reading a b
 ends_err A B These Those brings reading a b Disk ends = ends
 ends_err A B These Those brings reading a b Link ends = ends
 ends_err A B These Those brings reading a b Write ends = ends
@@ -56,8 +56,8 @@ ends_err A B These Those brings reading a b (NoLabel disk) ends = ends
 ends_err A B These Those brings reading a b NoMajority ends = ends
 ends_err A B These Those brings reading a b (Spent boot) ends = ends
 
-pub ends_as : {A : Type 0} (These Those : Place → List Step → Place → Type 0) (brings : List Arrival) (reading : ℕ) (a b : Standing) (result : Result A HostError)
-    → ((steps : List Step) → These a.place steps b.place → Those a.place steps b.place) → Ends result These brings reading a b → Ends result Those brings reading a b
+pub ends_as : {A : Type 0} (These Those : Place → List EventStep → Place → Type 0) (brings : List Arrival) (reading : ℕ) (a b : HostView) (result : Result A HostError)
+    → ((steps : List EventStep) → These a.place steps b.place → Those a.place steps b.place) → Ends result These brings reading a b → Ends result Those brings reading a b
 ends_as These Those brings reading a b (Ok _) more ends = does_as These Those brings reading a b more ends
 ends_as {A = A} These Those brings reading a b (Err error) more ends = ends_err A A These Those brings reading a b error ends
 

@@ -8,8 +8,8 @@ use Rattle.bx_outside.specs.declared.link.LinkError.TheVariants as link_errors
 use Rattle.bx_world_events.specs.Events.{reading_of}
 use Rattle.bx_world_events.specs.declared.event.Event.{Event}
 use Rattle.bx_host.specs.Errors.{error_of}
-use Rattle.bx_host.specs.Standing.{AreAny, Ends, Standing}
-use Rattle.bx_host.specs.Steps.{Place, Step, arrived_in, brought_in}
+use Rattle.bx_host.specs.Standing.{AreAny, Ends, HostView}
+use Rattle.bx_host.specs.Steps.{Place, EventStep, arrived_in, brought_in}
 use Rattle.bx_host.specs.Turns.{Brings, IsServed, IsSettled, came, is_open}
 use Rattle.bx_host.specs.Turns.IsServed.{Heard}
 use Rattle.bx_host.specs.declared.error.HostError.{HostError}
@@ -19,7 +19,7 @@ use Rattle.bx_host.proofs.Going.{settled_as}
 use Rattle.bx_host.proofs.Moving.{does_none}
 
 -- an error of the link ends the turn where it stands
-pub ends_link : (error : LinkError) (Is : Place → List Step → Place → Type 0) (reading : ℕ) (a : Standing) → Ends {A = Unit {0}} (Err (error_of error)) Is [] reading a a
+pub ends_link : (error : LinkError) (Is : Place → List EventStep → Place → Type 0) (reading : ℕ) (a : HostView) → Ends {A = Unit {0}} (Err (error_of error)) Is [] reading a a
 ends_link link_errors.Fault Is reading a = does_none AreAny reading a tt
 ends_link link_errors.OutOfMemory Is reading a = tt
 
@@ -33,7 +33,7 @@ two_not_write (Err error) (inl is) = λ wrong. let e : Disk ≡ Write = sym is �
 two_not_write (Err error) (inr is) = λ wrong. let e : OutOfMemory ≡ Write = sym is ∙ wrong in cc
 
 -- a datagram that came was handed to the node
-pub ends_heard : (first reading : ℕ) (datagram : Datagram) (event : Event) (a b : Standing) (result : Result (Unit {0}) HostError)
+pub ends_heard : (first reading : ℕ) (datagram : Datagram) (event : Event) (a b : HostView) (result : Result (Unit {0}) HostError)
     → is_open first a.place ≡ true → reading_of event ≡ Some reading → arrives_in event ≡ Some (record { node = 0; client = datagram.client; bytes = datagram.bytes })
     → Ends result (IsSettled (λ its. its ≡ event) reading) (brought_in event) reading a b → Ends result (λ from steps to. IsServed first reading from (Some datagram ∷ []) steps to) (came (Some datagram ∷ [])) reading a b
 ends_heard first reading datagram event a b result may at arrives ends =

@@ -18,7 +18,7 @@ use Rattle.bx_host.specs.Sending.{counted}
 use Rattle.bx_host.specs.Serves.{AreTurns, Breaks, BreaksTurn, DoesTurn, IsOwn, KeepsSink, all_asked, all_readings, all_steps, is_ready, ready_text}
 use Rattle.bx_host.specs.Standing.{CanGo}
 use Rattle.bx_host.specs.Steps.{brought_by, parts_with, sent_by, stopped_by}
-use Rattle.bx_host.specs.Turns.{IsTurn, Turn, came, is_live, steps_in}
+use Rattle.bx_host.specs.Turns.{IsHostTurn, Turn, came, is_live, steps_in}
 use Rattle.bx_host.specs.declared.error.HostError.{HostError}
 use Rattle.bx_host.specs.declared.error.HostError.TheVariants.{Disk, Write, OutOfMemory}
 use Rattle.bx_host.specs.declared.host.Host.{Host}
@@ -80,7 +80,7 @@ module _ {C R L K S : Type 0} (seen_of : C → Seen) (room_of : C → List ℕ �
         done = does.turn ∷ so.done;
         many = omega (arith, so.many);
         first = does.first ∙ so.first;
-        are = (seen_of host.cluster, host.reading, so.are, subst (λ f. IsTurn f (seen_of host.cluster) host.reading does.turn (seen_of new.cluster) new.reading) so.first does.is);
+        are = (seen_of host.cluster, host.reading, so.are, subst (λ f. IsHostTurn f (seen_of host.cluster) host.reading does.turn (seen_of new.cluster) new.reading) so.first does.is);
         leads = λ tree parts tells led. subst (led_of new.cluster (ra.state after) tree) (sym (parts_both (all_steps so.done) steps parts)) (does.leads tree (parts_with (all_steps so.done) parts) (rack_tells tells) (so.leads tree parts tells led));
         stops = does.stops ∙ ap (λ (l : List Actor). l ++ stopped_by steps) so.stops ∙ sym (stopped_both (all_steps so.done) steps);
         brought = brought_both (all_steps so.done) steps ∙ ap (λ (l : List Arrival). l ++ brought_by steps) so.brought ∙ ap (λ (l : List Arrival). came (all_asked so.done) ++ l) does.brought ∙ sym (came_both (all_asked so.done) does.turn.asked);

@@ -15,8 +15,8 @@ use Rattle.bx_host.specs.Lost.{is_lost}
 use Rattle.bx_host.specs.Sending.{SendsFront, counted}
 use Rattle.bx_host.specs.Serves.{BreaksTurn, DoesTurn, IsOwn, ready_text}
 use Rattle.bx_host.specs.Standing.{AreAny, Does, Goes, standing}
-use Rattle.bx_host.specs.Steps.{IsAt, Along, Place, Step, brought_by, owed, parts_with, sent_by, stopped_by}
-use Rattle.bx_host.specs.Turns.{AllTicked, IsServed, IsTurn, Turn, came, is_live, reading_for, steps_in, tidied}
+use Rattle.bx_host.specs.Steps.{IsAt, Along, Place, EventStep, brought_by, owed, parts_with, sent_by, stopped_by}
+use Rattle.bx_host.specs.Turns.{AllTicked, IsServed, IsHostTurn, Turn, came, is_live, reading_for, steps_in, tidied}
 use Rattle.bx_host.specs.declared.error.HostError.{HostError}
 use Rattle.bx_host.specs.declared.error.HostError.TheVariants.{Disk, Link, Write, NoLabel, OutOfMemory, NoMajority, Spent}
 use Rattle.bx_host.specs.declared.host.Host.{Host}
@@ -94,7 +94,7 @@ module _ {C R L S : Type 0} (seen_of : C → Seen) (room_of : C → List ℕ →
       breaks old ticked before after link link now error [] (subst IsOwn (sym is) tt) does goes.reading (λ disk. absurd (let wrong : Write ≡ Disk = sym is ∙ disk in cc)) (λ tells. sym (append-nil (li.given link))) (λ tells. ([], owed ticked.answers, refl, sym (append-nil (li.sent link))))
 
   -- both parts of a turn
-  pub turn_both : (First Second : Place → List Step → Place → Type 0) (brings : List Arrival) (old ticked heard : Host C) (before between after : R) (now : ℕ) (reading : ℕ) → reading ≡ reading_for old.reading now
+  pub turn_both : (First Second : Place → List EventStep → Place → Type 0) (brings : List Arrival) (old ticked heard : Host C) (before between after : R) (now : ℕ) (reading : ℕ) → reading ≡ reading_for old.reading now
       → Does First [] (reading_for old.reading now) (standing seen_of room_of led_of ra (begun old now) before) (standing seen_of room_of led_of ra ticked between)
       → Does Second brings reading (standing seen_of room_of led_of ra ticked between) (standing seen_of room_of led_of ra heard after)
       → Does AreAny brings (reading_for old.reading now) (standing seen_of room_of led_of ra (begun old now) before) (standing seen_of room_of led_of ra heard after)
@@ -150,7 +150,7 @@ module _ {C R L S : Type 0} (seen_of : C → Seen) (room_of : C → List ℕ →
       let b = standing seen_of room_of led_of ra ticked between in
       let d = standing seen_of room_of led_of ra heard after in
       let reading = reading_for old.reading now in
-      let Served : Place → List Step → Place → Type 0 = λ from steps to. IsServed ticked.first ticked.reading from hears.asked steps to in
+      let Served : Place → List EventStep → Place → Type 0 = λ from steps to. IsServed ticked.first ticked.reading from hears.asked steps to in
       let serves : Does Served (came hears.asked) reading b d = subst (λ r. Does Served (came hears.asked) r b d) goes.reading hears.ends in
       let turn : Turn = record { now = now; ticked = goes.ends.steps; shown = seen_of ticked.cluster; asked = hears.asked; called = serves.steps } in
       let reading_is : new.reading ≡ reading = ap (λ (h : Host C). h.reading) new_is ∙ ap (λ (h : Host C). h.reading) answered_is ∙ hears.reading ∙ goes.reading in
@@ -159,7 +159,7 @@ module _ {C R L S : Type 0} (seen_of : C → Seen) (room_of : C → List ℕ →
       let owes : owed heard.answers ≡ sent_by (steps_in turn) = serves.owes ∙ ap (λ (l : List Datagram). l ++ sent_by serves.steps) ticks.owes ∙ sym (sent_both ticks.steps serves.steps) in
       let stops : heard.stopped ≡ old.stopped ++ stopped_by (steps_in turn) =
       serves.stops ∙ ap (λ (l : List Actor). l ++ stopped_by serves.steps) ticks.stops ∙ append_assoc old.stopped (stopped_by ticks.steps) (stopped_by serves.steps) ∙ ap (λ (l : List Actor). old.stopped ++ l) (sym (stopped_both ticks.steps serves.steps)) in
-      let is : IsTurn old.first (seen_of old.cluster) old.reading turn (seen_of new.cluster) new.reading = record {
+      let is : IsHostTurn old.first (seen_of old.cluster) old.reading turn (seen_of new.cluster) new.reading = record {
         reads = reading_is;
         ticked = b.place;
         served = d.place;

@@ -14,8 +14,8 @@ use Rattle.bx_outside.specs.declared.sink.Sink as sinks
 use Rattle.bx_world_events.specs.Refusals.{Seen}
 use Rattle.bx_host.specs.Lost.{is_lost}
 use Rattle.bx_host.specs.Sending.{SendsFront, counted}
-use Rattle.bx_host.specs.Steps.{Along, IsAt, Place, Step, brought_by, parts_with, sent_by, stopped_by}
-use Rattle.bx_host.specs.Turns.{IsTurn, Turn, came, is_live, steps_in}
+use Rattle.bx_host.specs.Steps.{Along, IsAt, Place, EventStep, brought_by, parts_with, sent_by, stopped_by}
+use Rattle.bx_host.specs.Turns.{IsHostTurn, Turn, came, is_live, steps_in}
 use Rattle.bx_host.specs.declared.error.HostError.{HostError}
 use Rattle.bx_host.specs.declared.error.HostError.TheVariants.{Disk, Link, Write, NoLabel, OutOfMemory, NoMajority, Spent}
 use Rattle.bx_host.specs.declared.host.Host.{Host}
@@ -35,9 +35,9 @@ done_text count = ended (codes "done " ++ decimal count)
 -- They lead from what was shown, and the greatest reading then, to what is shown, and the greatest reading now.
 abbrev pub AreTurns : ℕ → Seen → ℕ → List Turn → Seen → ℕ → Type 0
 AreTurns first from least [] to greatest = (to ≡ from) × (greatest ≡ least)
-AreTurns first from least (turn ∷ earlier) to greatest = (middle : Seen) × (before : ℕ) × AreTurns first from least earlier middle before × IsTurn first middle before turn to greatest
+AreTurns first from least (turn ∷ earlier) to greatest = (middle : Seen) × (before : ℕ) × AreTurns first from least earlier middle before × IsHostTurn first middle before turn to greatest
 
-abbrev pub all_steps : List Turn → List Step
+abbrev pub all_steps : List Turn → List EventStep
 all_steps [] = []
 all_steps (turn ∷ earlier) = steps_in turn ++ all_steps earlier
 
@@ -72,7 +72,7 @@ module _ {C R L S : Type 0} (seen_of : C → Seen) (room_of : C → List ℕ →
   pub record DoesTurn (now : ℕ) (old : Host C) (before : R) (new : Host C) (after : R) (link later : L) (out wrote : S) : Type 0 where
     pub turn : Turn
     pub now_is : turn.now ≡ now
-    pub is : IsTurn old.first (seen_of old.cluster) old.reading turn (seen_of new.cluster) new.reading
+    pub is : IsHostTurn old.first (seen_of old.cluster) old.reading turn (seen_of new.cluster) new.reading
     pub leads : (tree : Tree) (parts : List Part) → ra.tells before → led_of old.cluster (ra.state before) tree parts → led_of new.cluster (ra.state after) tree (parts_with (steps_in turn) parts)
     pub stops : new.stopped ≡ old.stopped ++ stopped_by (steps_in turn)
     pub brought : brought_by (steps_in turn) ≡ came turn.asked
@@ -86,7 +86,7 @@ module _ {C R L S : Type 0} (seen_of : C → Seen) (room_of : C → List ℕ →
   -- A turn was broken off: so much of it was done, and of what that answers the front was sent.
   pub record BreaksTurn (error : HostError) (old : Host C) (before : R) (new : Host C) (after : R) (link later : L) : Type 0 where
     pub own : IsOwn error
-    pub steps : List Step
+    pub steps : List EventStep
     pub to : Place
     pub asked : List (Option Datagram)
     pub brought : (brought_by steps ≡ came asked) ⊎ (brought_by steps ≡ [])
@@ -133,7 +133,7 @@ module _ {C R L K S : Type 0} (seen_of : C → Seen) (shown_of : C → List ℕ 
     pub few : length done ≤ turns
     pub are : AreTurns (seen_of cluster).most.term (seen_of cluster) (seen_of cluster).greatest done to greatest
     pub reading : ℕ
-    pub steps : List Step
+    pub steps : List EventStep
     pub place : Place
     pub along : Along (IsAt reading) (record { seen = to; left = 1000000 }) steps place
     pub last : C

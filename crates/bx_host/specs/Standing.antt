@@ -12,21 +12,21 @@ use Rattle.bx_history.specs.Parts.{Arrival, Part}
 use Rattle.bx_model.specs.declared.tree.Tree.{Tree}
 use Rattle.bx_outside.specs.declared.datagram.Datagram.{Datagram}
 use Rattle.bx_host.specs.Lost.{is_lost}
-use Rattle.bx_host.specs.Steps.{Along, IsAt, Place, Step, brought_by, datagrams, owed, parts_with, sent_by, stopped_by, stopped_in}
+use Rattle.bx_host.specs.Steps.{Along, IsAt, Place, EventStep, brought_by, datagrams, owed, parts_with, sent_by, stopped_by, stopped_in}
 use Rattle.bx_host.specs.declared.error.HostError.{HostError}
 use Rattle.bx_host.specs.declared.error.HostError.TheVariants.{Disk, Link, Write, NoLabel, OutOfMemory, NoMajority, Spent}
 use Rattle.bx_host.specs.declared.host.Host.{Host}
 
 -- what is shown, and how many events are left; what led to it from which tree; what is to be sent; which machines faults stopped
-pub record Standing : Type 1 where
+pub record HostView : Type 1 where
   pub place : Place
   pub led : Tree → List Part → Type 0
   pub owed : List Datagram
   pub stopped : List Actor
 
 -- Steps that are so were done, in which these datagrams arrived: they lead on in the run, what they answer is to be sent behind what was, and the machines that they stopped are noted.
-pub record Does (Is : Place → List Step → Place → Type 0) (brings : List Arrival) (reading : ℕ) (old new : Standing) : Type 0 where
-  pub steps : List Step
+pub record Does (Is : Place → List EventStep → Place → Type 0) (brings : List Arrival) (reading : ℕ) (old new : HostView) : Type 0 where
+  pub steps : List EventStep
   pub is : Is old.place steps new.place
   pub brought : brought_by steps ≡ brings
   pub along : Along (IsAt reading) old.place steps new.place
@@ -34,12 +34,12 @@ pub record Does (Is : Place → List Step → Place → Type 0) (brings : List A
   pub owes : new.owed ≡ old.owed ++ sent_by steps
   pub stops : new.stopped ≡ old.stopped ++ stopped_by steps
 
-abbrev pub AreAny : Place → List Step → Place → Type 0
+abbrev pub AreAny : Place → List EventStep → Place → Type 0
 AreAny from steps to = Unit {0}
 
 -- So it goes on. Where it ends in its midst, so much of it was done; both members of a device, or two replicas, have stopped where a disk is the cause; and for
 -- want of memory nothing is known.
-abbrev pub Ends : {A : Type 0} → Result A HostError → (Place → List Step → Place → Type 0) → List Arrival → ℕ → Standing → Standing → Type 0
+abbrev pub Ends : {A : Type 0} → Result A HostError → (Place → List EventStep → Place → Type 0) → List Arrival → ℕ → HostView → HostView → Type 0
 Ends (Ok _) Is brings reading old new = Does Is brings reading old new
 Ends (Err Disk) Is brings reading old new = Does AreAny brings reading old new × (is_lost new.stopped ≡ true)
 Ends (Err OutOfMemory) Is brings reading old new = Unit {0}
@@ -80,7 +80,7 @@ module _ {C R : Type 0} (seen_of : C → Seen) (room_of : C → List ℕ → Typ
     pub room : room_of host.cluster (ra.state rack).sizes
     pub whole : is_lost host.stopped ≡ false
 
-  abbrev pub standing : Host C → R → Standing
+  abbrev pub standing : Host C → R → HostView
   standing host rack = record {
     place = record { seen = seen_of host.cluster; left = host.left };
     led = λ tree parts. ra.tells rack × led_of host.cluster (ra.state rack) tree parts;
@@ -89,7 +89,7 @@ module _ {C R : Type 0} (seen_of : C → Seen) (room_of : C → List ℕ → Typ
   }
 
   -- A part of a turn: what it did, and how it ends; a fault of a disk ends it only where one rose in it; its reading stays, and so does the rack but for what it holds.
-  pub record Goes {A : Type 0} (result : Result A HostError) (Is : Place → List Step → Place → Type 0) (brings : List Arrival) (old : Host C) (before : R) (new : Host C) (after : R) : Type 0 where
+  pub record Goes {A : Type 0} (result : Result A HostError) (Is : Place → List EventStep → Place → Type 0) (brings : List Arrival) (old : Host C) (before : R) (new : Host C) (after : R) : Type 0 where
     pub ends : Ends result Is brings old.reading (standing old before) (standing new after)
     pub only : IfErr result (λ error. (error ≡ Disk) ⊎ (error ≡ OutOfMemory))
     pub keeps : KeepsRack ra before after

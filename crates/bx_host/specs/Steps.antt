@@ -4,16 +4,12 @@ use Rattle.bx_base.specs.declared.names.Actor.{Actor}
 use Rattle.bx_cluster.specs.Steps.{Shown, arrives_in, part_at}
 use Rattle.bx_cluster.specs.declared.outcome.Outcome.{Outcome}
 use Rattle.bx_cluster.specs.declared.outcome.ReplyOut.{ReplyOut}
+pub use Rattle.bx_driver.specs.Steps.{EventStep, parts_with}
 use Rattle.bx_history.specs.Parts.{Arrival, Part}
 use Rattle.bx_outside.specs.declared.datagram.Datagram.{Datagram}
 use Rattle.bx_world_events.specs.Events.{reading_of}
 use Rattle.bx_world_events.specs.Refusals.{Seen, refusal}
 use Rattle.bx_world_events.specs.declared.event.Event.{Event}
-
--- an event that was done, and what it came to
-pub record Step : Type 0 where
-  pub event : Event
-  pub outcome : Outcome
 
 -- what a cluster shows, and how many events its turn may still do
 pub record Place : Type 0 where
@@ -21,13 +17,13 @@ pub record Place : Type 0 where
   pub left : ℕ
 
 -- The event was allowed, the cluster shows what it came to, and one less is left.
-pub record IsStep (from : Place) (step : Step) (to : Place) : Type 0 where
+pub record IsStep (from : Place) (step : EventStep) (to : Place) : Type 0 where
   pub allowed : refusal from.seen step.event ≡ None
   pub shown : Shown step.event step.outcome.stopped from.seen to.seen
   pub left : from.left ≡ to.left + 1
 
 -- Steps, the newest first, lead from one place to another, and of each event a fact stands where it is done.
-abbrev pub Along : (Seen → Event → Type 0) → Place → List Step → Place → Type 0
+abbrev pub Along : (Seen → Event → Type 0) → Place → List EventStep → Place → Type 0
 Along Does from [] to = to ≡ from
 Along Does from (step ∷ earlier) to = (middle : Place) × Along Does from earlier middle × Does middle.seen step.event × IsStep middle step to
 
@@ -46,13 +42,9 @@ abbrev pub brought_in : Event → List Arrival
 brought_in event = arrived_in (arrives_in event)
 
 -- the datagrams that arrived, the oldest first
-abbrev pub brought_by : List Step → List Arrival
+abbrev pub brought_by : List EventStep → List Arrival
 brought_by [] = []
 brought_by (step ∷ earlier) = brought_by earlier ++ brought_in step.event
-
--- the parts of a run that they are, behind the earlier ones
-abbrev pub parts_with : List Step → List Part → List Part
-parts_with steps parts = map (λ step. part_at step.event step.outcome) steps ++ parts
 
 abbrev pub datagram_of : ReplyOut → Datagram
 datagram_of reply = record { client = reply.client; bytes = reply.bytes }
@@ -73,7 +65,7 @@ abbrev pub is_silent : Outcome → Bool
 is_silent outcome = (length outcome.replies == 0) && is_none outcome.again
 
 -- the same of all that was done, the oldest first
-abbrev pub sent_by : List Step → List Datagram
+abbrev pub sent_by : List EventStep → List Datagram
 sent_by [] = []
 sent_by (step ∷ earlier) = sent_by earlier ++ datagrams step.outcome
 
@@ -87,6 +79,6 @@ stopped_in None = []
 stopped_in (Some who) = who ∷ []
 
 -- the machines that faults stopped, the oldest first
-abbrev pub stopped_by : List Step → List Actor
+abbrev pub stopped_by : List EventStep → List Actor
 stopped_by [] = []
 stopped_by (step ∷ earlier) = stopped_by earlier ++ stopped_in step.outcome.stopped

@@ -14,7 +14,7 @@ use Rattle.bx_world_events.specs.Events.{reading_of}
 use Rattle.bx_world_events.specs.Refusals.{Seen}
 use Rattle.bx_world_events.specs.declared.event.Event.{Event}
 use Rattle.bx_world_events.specs.declared.event.Event.TheVariants.{Tick}
-use Rattle.bx_host.specs.Steps.{Along, IsStep, Place, Step}
+use Rattle.bx_host.specs.Steps.{Along, IsStep, Place, EventStep}
 
 -- ---- the clock
 
@@ -32,13 +32,13 @@ abbrev pub IsOver : ℕ → Place → Type 0
 IsOver reading place = (place.left ≡ 0) ⊎ IsDue place.seen set.empty reading None
 
 -- what is due was done until nothing is, or no event is left
-abbrev pub IsRun : ℕ → Place → List Step → Place → Type 0
+abbrev pub IsRun : ℕ → Place → List EventStep → Place → Type 0
 IsRun reading from steps to = Along (IsDueNow reading) from steps to × IsOver reading to
 
 -- One event was done, and all that was due behind it.
-pub record IsSettled (Is : Event → Type 0) (reading : ℕ) (from : Place) (steps : List Step) (to : Place) : Type 0 where
-  pub first : Step
-  pub rest : List Step
+pub record IsSettled (Is : Event → Type 0) (reading : ℕ) (from : Place) (steps : List EventStep) (to : Place) : Type 0 where
+  pub first : EventStep
+  pub rest : List EventStep
   pub middle : Place
   pub whole : steps ≡ rest ++ first ∷ []
   pub is : Is first.event
@@ -46,44 +46,44 @@ pub record IsSettled (Is : Event → Type 0) (reading : ℕ) (from : Place) (ste
   pub run : IsRun reading middle rest to
 
 -- An event alone was done.
-pub record IsOne (event : Event) (from : Place) (steps : List Step) (to : Place) : Type 0 where
-  pub step : Step
+pub record IsOne (event : Event) (from : Place) (steps : List EventStep) (to : Place) : Type 0 where
+  pub step : EventStep
   pub alone : steps ≡ step ∷ []
   pub is : step.event ≡ event
   pub goes : IsStep from step to
 
 -- nothing was done
-pub record IsIdle (from : Place) (steps : List Step) (to : Place) : Type 0 where
+pub record IsIdle (from : Place) (steps : List EventStep) (to : Place) : Type 0 where
   pub none : steps ≡ []
   pub same : to ≡ from
 
 -- ---- the ticks
 
 -- A machine has its tick, unless it is down or the turn has no event left.
-pub data IsTicked (reading : ℕ) (at : Actor) (from : Place) (steps : List Step) (to : Place) : Type 0 where
+pub data IsTicked (reading : ℕ) (at : Actor) (from : Place) (steps : List EventStep) (to : Place) : Type 0 where
   Passed : (from.seen.down at ≡ true) ⊎ (from.left ≡ 0) → IsIdle from steps to → IsTicked reading at from steps to
   Ticked : from.seen.down at ≡ false → IsSettled (λ event. event ≡ Tick reading at) reading from steps to → IsTicked reading at from steps to
 
 -- the first machines of a kind have theirs, in the order of their numbers
-abbrev pub AreTicked : (ℕ → Actor) → ℕ → ℕ → Place → List Step → Place → Type 0
+abbrev pub AreTicked : (ℕ → Actor) → ℕ → ℕ → Place → List EventStep → Place → Type 0
 AreTicked name reading zero from steps to = IsIdle from steps to
 AreTicked name reading (suc n) from steps to =
-    (middle : Place) × (earlier : List Step) × (later : List Step) × (steps ≡ later ++ earlier) × AreTicked name reading n from earlier middle × IsTicked reading (name n) middle later to
+    (middle : Place) × (earlier : List EventStep) × (later : List EventStep) × (steps ≡ later ++ earlier) × AreTicked name reading n from earlier middle × IsTicked reading (name n) middle later to
 
 -- those of all members, of which each device has two
-abbrev pub AreMembersTicked : ℕ → Place → List Step → Place → Type 0
+abbrev pub AreMembersTicked : ℕ → Place → List EventStep → Place → Type 0
 AreMembersTicked reading from steps to = AreTicked Member reading (2 * from.seen.devices) from steps to
 
 -- the node has its own once the term is above that to begin with
-pub data IsNodeTicked (first reading : ℕ) (from : Place) (steps : List Step) (to : Place) : Type 0 where
+pub data IsNodeTicked (first reading : ℕ) (from : Place) (steps : List EventStep) (to : Place) : Type 0 where
   Early : from.seen.most.term ≤ first → IsIdle from steps to → IsNodeTicked first reading from steps to
   Late : first < from.seen.most.term → IsTicked reading (Node 0) from steps to → IsNodeTicked first reading from steps to
 
 -- Lock servers have their ticks, then members, and then the node.
-pub record AllTicked (first reading : ℕ) (from : Place) (steps : List Step) (to : Place) : Type 0 where
-  pub servers : List Step
-  pub members : List Step
-  pub node : List Step
+pub record AllTicked (first reading : ℕ) (from : Place) (steps : List EventStep) (to : Place) : Type 0 where
+  pub servers : List EventStep
+  pub members : List EventStep
+  pub node : List EventStep
   pub after_servers : Place
   pub after_members : Place
   pub whole : steps ≡ node ++ (members ++ servers)
@@ -112,7 +112,7 @@ abbrev pub Brings : ℕ → Datagram → Event → Type 0
 Brings reading datagram event = (reading_of event ≡ Some reading) × (arrives_in event ≡ Some (record { node = 0; client = datagram.client; bytes = datagram.bytes }))
 
 -- What was received, where something was asked for, arrives at the node, and all that is due behind it is done.
-pub data IsServed (first reading : ℕ) (from : Place) (asked : List (Option Datagram)) (steps : List Step) (to : Place) : Type 0 where
+pub data IsServed (first reading : ℕ) (from : Place) (asked : List (Option Datagram)) (steps : List EventStep) (to : Place) : Type 0 where
   Closed : is_open first from ≡ false → asked ≡ [] → IsIdle from steps to → IsServed first reading from asked steps to
   Silent : is_open first from ≡ true → asked ≡ None ∷ [] → IsIdle from steps to → IsServed first reading from asked steps to
   Heard : (datagram : Datagram) → is_open first from ≡ true → asked ≡ Some datagram ∷ [] → IsSettled (Brings reading datagram) reading from steps to → IsServed first reading from asked steps to
@@ -136,17 +136,17 @@ tidied seen = record seen { post = filter (may_come seen) seen.post }
 -- what a turn came to: what the clock gave, what the ticks did, what was shown then, what the link gave, what that did
 pub record Turn : Type 0 where
   pub now : ℕ
-  pub ticked : List Step
+  pub ticked : List EventStep
   pub shown : Seen
   pub asked : List (Option Datagram)
-  pub called : List Step
+  pub called : List EventStep
 
 -- all that a turn did, the newest first
-abbrev pub steps_in : Turn → List Step
+abbrev pub steps_in : Turn → List EventStep
 steps_in turn = turn.called ++ turn.ticked
 
 -- A turn over what was shown and the greatest reading before it, to those behind it.
-pub record IsTurn (first : ℕ) (from : Seen) (greatest : ℕ) (turn : Turn) (to : Seen) (reading : ℕ) : Type 0 where
+pub record IsHostTurn (first : ℕ) (from : Seen) (greatest : ℕ) (turn : Turn) (to : Seen) (reading : ℕ) : Type 0 where
   pub reads : reading ≡ reading_for greatest turn.now
   pub ticked : Place
   pub served : Place

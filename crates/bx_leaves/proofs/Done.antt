@@ -5,7 +5,7 @@ use Rattle.bx_base.specs.declared.names.Mode.TheVariants.{Exclusive}
 use Rattle.bx_records.specs.Drafts.{Changed}
 use Rattle.bx_page.specs.Contents.{Contents, value_of, with_entry}
 use Rattle.bx_blink.specs.bx_truth.specs.Chunks.{chunks_of}
-use Rattle.bx_blink.specs.bx_truth.specs.PageTrees.{PageTree, map_of, without_entry}
+use Rattle.bx_blink.specs.bx_truth.specs.PageTrees.{PageTree, map_of, map_without}
 use Rattle.bx_blink.specs.bx_views.specs.Truths.{Truth, Held, Hints, with_draft}
 use Rattle.bx_blink.specs.declared.error.BlinkError.{BlinkError}
 use Rattle.bx_blink.specs.declared.error.BlinkError.TheVariants.{Need, Stale, Full, NoRoom, Absent, Present, OutOfMemory, Crowded}
@@ -63,7 +63,7 @@ module _ (areas : ℕ) (held : Held) (hints : Hints) (truth : Truth) (old new : 
   removes_in (Ok done) f =
       let l = (f.has).leaf in (
         some_there f.handle f.page l (f.has).has,
-        subst (λ (d : List Changed). MakesMap areas held hints truth old d root tree (without_entry (map_of tree) key)) (sym (f.puts).put)
+        subst (λ (d : List Changed). MakesMap areas held hints truth old d root tree (map_without (map_of tree) key)) (sym (f.puts).put)
             (removed areas held hints truth old root tree u key f.handle f.page (place_of f.handle f.page l) (f.puts).block (f.puts).header (f.puts).has),
       )
   removes_in (Err Absent) f = value_is f.0 f.1 (f.2).leaf ∙ (f.2).absent

@@ -6,7 +6,7 @@ use Rattle.bx_layout.specs.declared.block.Block.{Block}
 use Rattle.bx_page.specs.declared.entry.Entry.{Entry}
 use Rattle.bx_page.specs.Contents.{Contents}
 use Rattle.bx_blink.specs.bx_truth.specs.Edits.{ChunkAnew}
-use Rattle.bx_blink.specs.bx_truth.specs.PageTrees.{Chunks, Node, IsIn, IsNode, Leads, IsChain, IsLevel, NamesChild}
+use Rattle.bx_blink.specs.bx_truth.specs.PageTrees.{Chunks, Node, IsIn, IsNode, PagesLead, IsChain, IsLevel, NamesChild}
 use Rattle.bx_blink.proofs.Chains.{IsRange, leads_in, ranges_at}
 use Rattle.bx_blink.proofs.Places.{range_of, ranges_of}
 use Rattle.bx_leaves.proofs.Apart.{same_page, later_differs}
@@ -24,11 +24,11 @@ stays chunks chunks' handle block level m w apart n =
 -- lists in which one page is replaced
 
 module _ (node : Node) (page : Contents) (right : page.right ≡ node.page.right) (high : page.high ≡ node.page.high) where
-  head_leads : (behind : List Node) → Leads node behind → Leads (with_page node page) behind
+  head_leads : (behind : List Node) → PagesLead node behind → PagesLead (with_page node page) behind
   head_leads [] l = record { right = right ∙ l.right; high = high ∙ l.high }
   head_leads (next ∷ more) l = (record { right = right ∙ l.0.right; high = high ∙ l.0.high }, l.1)
 
-  leads_with : (x : Node) (before behind : List Node) → Leads x (before ++ node ∷ behind) → Leads x (before ++ with_page node page ∷ behind)
+  leads_with : (x : Node) (before behind : List Node) → PagesLead x (before ++ node ∷ behind) → PagesLead x (before ++ with_page node page ∷ behind)
   leads_with x [] behind l = (record { right = l.0.right; high = l.0.high }, head_leads behind l.1)
   leads_with x (y ∷ ys) behind l = (l.0, leads_with y ys behind l.1)
 

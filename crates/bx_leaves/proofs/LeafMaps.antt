@@ -9,7 +9,7 @@ use Rattle.bx_page.specs.declared.entry.Entry.{Entry}
 use Rattle.bx_page.specs.Keys.{is_below}
 use Rattle.bx_page.specs.Contents.{Contents, below, above, with_entry, with_value, without_key}
 use Rattle.bx_blink.specs.bx_truth.specs.Chunks.{block_at, chunks_of}
-use Rattle.bx_blink.specs.bx_truth.specs.PageTrees.{HasPage, PageTree, entries_of, map_of, without_entry}
+use Rattle.bx_blink.specs.bx_truth.specs.PageTrees.{HasPage, PageTree, entries_of, map_of, map_without}
 use Rattle.bx_blink.specs.bx_views.specs.Truths.{Truth, Held, Hints, with_draft}
 use Rattle.bx_blink.specs.Hints.{Under}
 use Rattle.bx_blink.specs.Places.{IsPlaceOf}
@@ -32,7 +32,7 @@ with_within key value front es back s =
     ∙ ap (λ (xs : List Entry). xs ++ entry ∷ (high ++ back)) (sym (below_within key front es back s))
     ∙ ap (λ (xs : List Entry). below (front ++ (es ++ back)) key ++ entry ∷ xs) (sym (above_within key front es back s))
 
-without_within : (key : List ℕ) (front es back : List Entry) → Surrounds key front back → front ++ (without_entry es key ++ back) ≡ without_entry (front ++ (es ++ back)) key
+without_within : (key : List ℕ) (front es back : List Entry) → Surrounds key front back → front ++ (map_without es key ++ back) ≡ map_without (front ++ (es ++ back)) key
 without_within key front es back s =
     ap (λ (xs : List Entry). front ++ xs) (append_assoc (below es key) (above es key) back)
     ∙ sym (append_assoc front (below es key) (above es key ++ back))
@@ -83,8 +83,8 @@ module _ (areas : ℕ) (held : Held) (hints : Hints) (truth : Truth) (old : List
       (λ front back s. with_within key value front page.entries back s) header has
 
   pub removed : (block : Block) → block.handle ≡ handle → HasPage (without_key page key) block
-      → MakesMap areas held hints truth old (with_block old (block_at handle) block) root tree (without_entry (map_of tree) key)
+      → MakesMap areas held hints truth old (with_block old (block_at handle) block) root tree (map_without (map_of tree) key)
   removed block header has =
-      anew (without_entry page.entries key) (λ es. without_entry es key) block
+      anew (map_without page.entries key) (λ es. map_without es key) block
       (All-append P (below page.entries key) (above page.entries key) (All-filter (λ e. is_below e.key key) P page.entries lowest) (All-filter (λ e. is_below key e.key) P page.entries lowest))
       (λ front back s. without_within key front page.entries back s) header has

@@ -6,7 +6,7 @@ use Rattle.bx_page.specs.declared.entry.Entry.{Entry}
 use Rattle.bx_page.specs.Contents.{Contents, value_of, with_entry}
 use Rattle.bx_blink.specs.bx_truth.specs.Chunks.{chunks_of, own_block}
 use Rattle.bx_blink.specs.bx_truth.specs.Edits.{HasPagesOf}
-use Rattle.bx_blink.specs.bx_truth.specs.PageTrees.{Node, PageTree, IsPageOf, map_of, without_entry}
+use Rattle.bx_blink.specs.bx_truth.specs.PageTrees.{Node, PageTree, IsPageOf, map_of, map_without}
 use Rattle.bx_blink.specs.bx_views.specs.Truths.{Truth, Held, Hints, with_draft}
 use Rattle.bx_blink.specs.declared.error.BlinkError.{BlinkError}
 use Rattle.bx_blink.specs.declared.error.BlinkError.TheVariants.{Need, Stale, Full, NoRoom, Absent, Present, OutOfMemory, Crowded}
@@ -50,7 +50,7 @@ InsertsIn areas held hints truth old new root tree key value (Err Absent) = ⊥
 -- What `remove` does, by the map. In a tree it is never lost.
 abbrev pub RemovesIn : ℕ → Held → Hints → Truth → List Changed → List Changed → ℕ → PageTree → List ℕ → Result Unit BlinkError → Type 0
 RemovesIn areas held hints truth old new root tree key (Ok done) =
-    IsSome (value_of (map_of tree) key) × MakesMap areas held hints truth old new root tree (without_entry (map_of tree) key)
+    IsSome (value_of (map_of tree) key) × MakesMap areas held hints truth old new root tree (map_without (map_of tree) key)
 RemovesIn areas held hints truth old new root tree key (Err Absent) = value_of (map_of tree) key ≡ None
 RemovesIn areas held hints truth old new root tree key (Err Crowded) = IsSome (value_of (map_of tree) key) × (length old ≡ 16)
 RemovesIn areas held hints truth old new root tree key (Err (Need at mode)) = Unit {0}

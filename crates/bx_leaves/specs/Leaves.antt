@@ -30,7 +30,7 @@ pub record IsLeafAt (reads : Reads) (root : ℕ) (key : List ℕ) (handle : ℕ)
   pub held : reads.held (block_at handle) Exclusive ≡ Some block
 
 -- it lands at one that isn't
-pub record IsShort (reads : Reads) (root : ℕ) (key : List ℕ) (at : ℕ) (mode : Mode) : Type 0 where
+pub record IsLeafShort (reads : Reads) (root : ℕ) (key : List ℕ) (at : ℕ) (mode : Mode) : Type 0 where
   pub handle : ℕ
   pub page : Contents
   pub end : LeafEnds reads root key (Lands handle page)
@@ -40,7 +40,7 @@ pub record IsShort (reads : Reads) (root : ℕ) (key : List ℕ) (at : ℕ) (mod
 
 -- a block is needed on the way to the leaf, or is the leaf's
 abbrev pub NeedsLeaf : Reads → ℕ → List ℕ → ℕ → Mode → Type 0
-NeedsLeaf reads root key at mode = LeafEnds reads root key (Needs at mode) ⊎ IsShort reads root key at mode
+NeedsLeaf reads root key at mode = LeafEnds reads root key (Needs at mode) ⊎ IsLeafShort reads root key at mode
 
 -- the leaf of a key, to be changed
 abbrev pub LeafOf : Reads → ℕ → List ℕ → Result (ℕ × Contents) BlinkError → Type 0

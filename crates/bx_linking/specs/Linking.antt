@@ -123,7 +123,7 @@ abbrev pub OnPlace : ℕ → Held → Hints → ℕ → Inode → List ℕ → �
 OnPlace areas held hints directory inode name handle at mode = OnTest areas held hints directory inode name at mode ⊎ OnAddPath held hints [] inode.tree (entry_of inode.next name handle) at mode
 
 -- from the directory that is named, and held, on
-pub record OnDirectory (held : Held) (hints : Hints) (volume areas handle : ℕ) (bytes name : List ℕ) (at : ℕ) (mode : Mode) : Type 0 where
+pub record OnLinkDirectory (held : Held) (hints : Hints) (volume areas handle : ℕ) (bytes name : List ℕ) (at : ℕ) (mode : Mode) : Type 0 where
   pub directory : ℕ
   pub inode : Inode
   pub is_named : named volume bytes ≡ Some directory
@@ -132,9 +132,9 @@ pub record OnDirectory (held : Held) (hints : Hints) (volume areas handle : ℕ)
 
 -- from the file that is named on: the inode of the directory that is named, exclusively, and that from there on
 abbrev pub OnInto : Held → Hints → ℕ → ℕ → ℕ → List ℕ → List ℕ → ℕ → Mode → Type 0
-OnInto held hints volume areas handle bytes name at mode = OnInode volume bytes Exclusive at mode ⊎ OnDirectory held hints volume areas handle bytes name at mode
+OnInto held hints volume areas handle bytes name at mode = OnInode volume bytes Exclusive at mode ⊎ OnLinkDirectory held hints volume areas handle bytes name at mode
 
-pub record OnFile (held : Held) (hints : Hints) (volume areas : ℕ) (from bytes name : List ℕ) (at : ℕ) (mode : Mode) : Type 0 where
+pub record OnLinkFile (held : Held) (hints : Hints) (volume areas : ℕ) (from bytes name : List ℕ) (at : ℕ) (mode : Mode) : Type 0 where
   pub handle : ℕ
   pub inode : Inode
   pub is_named : named volume from ≡ Some handle
@@ -143,4 +143,4 @@ pub record OnFile (held : Held) (hints : Hints) (volume areas : ℕ) (from bytes
 
 -- The path of LINK: the inode of the file that is named, exclusively, and that from there on.
 abbrev pub OnLink : Held → Hints → ℕ → ℕ → List ℕ → List ℕ → List ℕ → ℕ → Mode → Type 0
-OnLink held hints volume areas from bytes name at mode = OnInode volume from Exclusive at mode ⊎ OnFile held hints volume areas from bytes name at mode
+OnLink held hints volume areas from bytes name at mode = OnInode volume from Exclusive at mode ⊎ OnLinkFile held hints volume areas from bytes name at mode

@@ -3,7 +3,7 @@
 ghost use Rattle.std.specs.Prelude.{List, [], IfOk, IfSome, Some};
 ghost use Rattle.bx_changes.specs.Procedures.{Name, NeedsOn, NeverInner, Truth};
 ghost use Rattle.bx_entries.specs.bx_dirs.specs.Entries.{HasEntries};
-ghost use Rattle.bx_changes.specs.bx_files.specs.Paths.{Finds, OnSearch};
+ghost use Rattle.bx_changes.specs.bx_files.specs.Paths.{LandsAtValue, OnSearch};
 ghost use Rattle.bx_truth.specs.Keys.{name_key, name_value};
 ghost use Rattle.bx_linking.specs.Linking.{TellsEntry};
 
@@ -26,7 +26,7 @@ pub fn find_entry<V: View>(
     name: &[u8],
 ) -> Result<Option<(u32, u64)>, Stop>
     ensures list { (truth : Truth) (names : List Name) → HasEntries areas (V.held view.now) (V.hints view.now) truth [] root names → TellsEntry names name.now result }
-    ensures finds { IfOk result (λ found. IfSome found (λ found. Finds (V.held view.now) (V.hints view.now) root (name_key name.now) (Some (name_value found.0 found.1)))) }
+    ensures finds { IfOk result (λ found. IfSome found (λ found. LandsAtValue (V.held view.now) (V.hints view.now) root (name_key name.now) (Some (name_value found.0 found.1)))) }
     ensures need { NeedsOn areas (V.held view.now) (OnSearch (V.held view.now) (V.hints view.now) root (name_key name.now)) result }
     ensures inner { NeverInner result }
 {

@@ -6,7 +6,7 @@ use Rattle.std.proofs.lemmas.Bool.Decides.{eqb_tells, leb_tells, nat_tests}
 use Rattle.bx_global.specs.declared.state.GlobalState.{GlobalState}
 use Rattle.bx_global.proofs.Kept.{all_is}
 use Rattle.bx_locking.specs.Tables.{Rises}
-use Rattle.bx_lock_tables.specs.Accounts.{account_for, account_in, end_in, end_of, expires_in, has_row, is_marked, listed, marked, noting, or_fresh, row_for, row_in, row_within, rows_at, with_account, with_row}
+use Rattle.bx_lock_tables.specs.Accounts.{account_for, account_in, end_in, end_of, expires_in, has_row, is_marked, listed, marked, noting, or_fresh, row_for, block_row, row_within, rows_at, with_account, with_row}
 use Rattle.bx_lock_tables.specs.Rows.{row_of}
 use Rattle.bx_lock_tables.specs.declared.accounts.Account.{Account}
 use Rattle.bx_lock_tables.specs.declared.rows.Row.{Row}
@@ -157,14 +157,14 @@ row_owned drawn least accounts s b row are is = by_account (account_in accounts 
 
 -- ---- the rows of a block are those of the accounts
 
-row_found : (drawn : ℕ → ℕ) (account : Account) (b : ℕ) (row : Row) → OwnsRows drawn account → row_in account.rows b ≡ Some row → row.session ≡ account.session
+row_found : (drawn : ℕ → ℕ) (account : Account) (b : ℕ) (row : Row) → OwnsRows drawn account → block_row account.rows b ≡ Some row → row.session ≡ account.session
 row_found drawn account b row owns is = (owns.each b row is).session_is
 
 pub row_is : (drawn : ℕ → ℕ) (least : ℕ) (accounts : List Account) (s b : ℕ) → AreAccounts drawn least accounts → row_of (rows_at accounts b) s ≡ row_for accounts s b
 row_is drawn least [] s b are = refl
-row_is drawn least (account ∷ rest) s b are = by_row (row_is drawn (account.session + 1) rest s b are.2) (row_in account.rows b) refl
+row_is drawn least (account ∷ rest) s b are = by_row (row_is drawn (account.session + 1) rest s b are.2) (block_row account.rows b) refl
   where
-    here : (o : Option Row) → row_in account.rows b ≡ o → account.session ≡ s → row_for (account ∷ rest) s b ≡ o
+    here : (o : Option Row) → block_row account.rows b ≡ o → account.session ≡ s → row_for (account ∷ rest) s b ≡ o
     here o is same = ap (λ (x : Option Account). row_within x b) (at_front account rest s same) ∙ is
 
     over : account.session < s → row_for (account ∷ rest) s b ≡ row_for rest s b
@@ -176,7 +176,7 @@ row_is drawn least (account ∷ rest) s b are = by_row (row_is drawn (account.se
       ap (λ (x : Option Account). row_within x b) (none_before drawn (account.session + 1) rest s are.2 (omega (arith, less))),
     )
 
-    by_row : row_of (rows_at rest b) s ≡ row_for rest s b → (o : Option Row) → row_in account.rows b ≡ o → row_of (rows_at (account ∷ rest) b) s ≡ row_for (account ∷ rest) s b
+    by_row : row_of (rows_at rest b) s ≡ row_for rest s b → (o : Option Row) → block_row account.rows b ≡ o → row_of (rows_at (account ∷ rest) b) s ≡ row_for (account ∷ rest) s b
     by_row later None is = rw is (later ∙ elim (ordered account.session s) [
       | below before ↦ sym (over before)
       | equal at ↦ ap (λ (x : Option Account). row_within x b) (none_before drawn (account.session + 1) rest s are.2 (omega (arith, at))) ∙ sym (here None is at)
@@ -193,7 +193,7 @@ row_is drawn least (account ∷ rest) s b are = by_row (row_is drawn (account.se
 -- each row of a block is that of its session
 pub rows_found : (drawn : ℕ → ℕ) (least : ℕ) (accounts : List Account) (b : ℕ) → AreAccounts drawn least accounts → AllByRecursion (λ (row : Row). row_for accounts row.session b ≡ Some row) (rows_at accounts b)
 rows_found drawn least [] b are = tt
-rows_found drawn least (account ∷ rest) b are = by_row (all_is (λ (row : Row). row_for rest row.session b ≡ Some row) (λ (row : Row). row_for (account ∷ rest) row.session b ≡ Some row) later (rows_at rest b) (rows_found drawn (account.session + 1) rest b are.2)) (row_in account.rows b) refl
+rows_found drawn least (account ∷ rest) b are = by_row (all_is (λ (row : Row). row_for rest row.session b ≡ Some row) (λ (row : Row). row_for (account ∷ rest) row.session b ≡ Some row) later (rows_at rest b) (rows_found drawn (account.session + 1) rest b are.2)) (block_row account.rows b) refl
   where
     none_some : (row : Row) → None ≡ Some row → ⊥
     none_some row wrong = cc
@@ -205,7 +205,7 @@ rows_found drawn least (account ∷ rest) b are = by_row (all_is (λ (row : Row)
       | above more ↦ absurd (none_some row (sym (ap (λ (x : Option Account). row_within x b) (none_before drawn (account.session + 1) rest row.session are.2 (omega (arith, more)))) ∙ is))
     ]
 
-    by_row : AllByRecursion (λ (row : Row). row_for (account ∷ rest) row.session b ≡ Some row) (rows_at rest b) → (o : Option Row) → row_in account.rows b ≡ o
+    by_row : AllByRecursion (λ (row : Row). row_for (account ∷ rest) row.session b ≡ Some row) (rows_at rest b) → (o : Option Row) → block_row account.rows b ≡ o
         → AllByRecursion (λ (row : Row). row_for (account ∷ rest) row.session b ≡ Some row) (rows_at (account ∷ rest) b)
     by_row all None none = rw none all
     by_row all (Some row) found =
@@ -261,10 +261,10 @@ for_session drawn least accounts s are = by_account (account_in accounts s) refl
     by_account (Some account) is = account_is drawn least accounts s account are is
 
 -- what it says is what the accounts say
-pub said_within : (accounts : List Account) (s b : ℕ) → row_in (account_for accounts s).rows b ≡ row_for accounts s b
+pub said_within : (accounts : List Account) (s b : ℕ) → block_row (account_for accounts s).rows b ≡ row_for accounts s b
 said_within accounts s b = by_account (account_in accounts s)
   where
-    by_account : (o : Option Account) → row_in (or_fresh o s).rows b ≡ row_within o b
+    by_account : (o : Option Account) → block_row (or_fresh o s).rows b ≡ row_within o b
     by_account None = refl
     by_account (Some account) = refl
 
@@ -332,7 +332,7 @@ lists drawn least accounts s b row are = record {
 pub listed_in_order : (drawn : ℕ → ℕ) (accounts : List Account) (s b : ℕ) (row : Row) → AreAccounts drawn 0 accounts → IsOwnRow drawn s row → AreAccounts drawn 0 (listed s b row accounts)
 listed_in_order drawn accounts s b row are owned = put_in_order drawn 0 accounts (with_listed accounts s b row) are (omega arith) (record {
   each = λ c r is. ⊎_elim
-      (λ same. let e : Some row ≡ Some r = sym (put_here (account_for accounts s).rows b row) ∙ ap (row_in (with_listed accounts s b row).rows) (sym same.1) ∙ is in let f : row ≡ r = cc in
+      (λ same. let e : Some row ≡ Some r = sym (put_here (account_for accounts s).rows b row) ∙ ap (block_row (with_listed accounts s b row).rows) (sym same.1) ∙ is in let f : row ≡ r = cc in
       subst (λ (x : Row). IsOwnRow drawn (account_for accounts s).session x) f (subst (λ (n : ℕ). IsOwnRow drawn n row) (sym own.session) owned))
       (λ other. own.owns.each c r (sym (put_elsewhere (account_for accounts s).rows b c row other.1) ∙ is))
       (eqb_tells c b);
@@ -346,7 +346,7 @@ pub record Notes (s : ℕ) (old new : List Account) : Type 0 where
   pub rows : (t c : ℕ) → row_for new t c ≡ row_for old t c
   pub gone : (t : ℕ) → t ≢ s → account_in old t ≡ None → account_in new t ≡ None
 
-notes_by : (drawn : ℕ → ℕ) (accounts : List Account) (s : ℕ) (new : Account) → new.session ≡ s → ((c : ℕ) → row_in new.rows c ≡ row_for accounts s c) → Notes s accounts (with_account accounts new)
+notes_by : (drawn : ℕ → ℕ) (accounts : List Account) (s : ℕ) (new : Account) → new.session ≡ s → ((c : ℕ) → block_row new.rows c ≡ row_for accounts s c) → Notes s accounts (with_account accounts new)
 notes_by drawn accounts s new session same_rows = record {
   rows = λ t c. ⊎_elim
       (λ same. ap (λ (n : ℕ). row_for (with_account accounts new) n c) same.1 ∙ ap (λ (x : Option Account). row_within x c) puts.at ∙ same_rows c ∙ ap (λ (n : ℕ). row_for accounts n c) (sym same.1))

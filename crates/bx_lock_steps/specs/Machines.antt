@@ -11,7 +11,7 @@ use Rattle.bx_locking.specs.Leases.{IsPromised}
 use Rattle.bx_locking.specs.Owned.{AreSingle}
 use Rattle.bx_locking.specs.Tables.{Entry, Request, Side, Term}
 use Rattle.bx_locking.specs.Words.{IsSaid}
-use Rattle.bx_lock_tables.specs.Accounts.{account_in, end_in, expires_in, row_for, row_in}
+use Rattle.bx_lock_tables.specs.Accounts.{account_in, end_in, expires_in, row_for, block_row}
 use Rattle.bx_lock_tables.specs.declared.accounts.Account.{Account}
 use Rattle.bx_lock_tables.specs.declared.rows.Row.{Row}
 use Rattle.bx_master.specs.Masters.{Mastering}
@@ -77,7 +77,7 @@ pub record IsOwnRow (drawn : ℕ → ℕ) (session : ℕ) (row : Row) : Type 0 w
 
 -- the rows of an account are of its session
 pub record OwnsRows (drawn : ℕ → ℕ) (account : Account) : Type 0 where
-  pub each : (b : ℕ) (row : Row) → row_in account.rows b ≡ Some row → IsOwnRow drawn account.session row
+  pub each : (b : ℕ) (row : Row) → block_row account.rows b ≡ Some row → IsOwnRow drawn account.session row
 
 -- The accounts stand in the order of their sessions, from this one on, and each owns its rows.
 abbrev pub AreAccounts : (ℕ → ℕ) → ℕ → List Account → Type 0

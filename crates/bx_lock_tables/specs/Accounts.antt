@@ -9,8 +9,8 @@ use Rattle.bx_lock_tables.specs.declared.accounts.Account.{Account}
 use Rattle.bx_lock_tables.specs.declared.rows.Row.{Row}
 
 -- the row of a block
-abbrev pub row_in : List (ℕ × Row) → ℕ → Option Row
-row_in rows block = lookup (nat_eq block) rows
+abbrev pub block_row : List (ℕ × Row) → ℕ → Option Row
+block_row rows block = lookup (nat_eq block) rows
 
 -- ---- the accounts, in the order of the sessions
 
@@ -73,7 +73,7 @@ expires_in accounts session = is_marked (account_in accounts session)
 
 abbrev pub row_within : Option Account → ℕ → Option Row
 row_within None block = None
-row_within (Some account) block = row_in account.rows block
+row_within (Some account) block = block_row account.rows block
 
 -- what a session was granted last of a block
 abbrev pub row_for : List Account → ℕ → ℕ → Option Row
@@ -81,7 +81,7 @@ row_for accounts session block = row_within (account_in accounts session) block
 
 -- the rows of a block
 abbrev pub rows_at : List Account → ℕ → List Row
-rows_at accounts block = filter_map (λ account. row_in account.rows block) accounts
+rows_at accounts block = filter_map (λ account. block_row account.rows block) accounts
 
 -- ---- what changes them
 

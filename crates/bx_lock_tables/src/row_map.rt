@@ -2,7 +2,7 @@
 
 ghost use Rattle.std.specs.Prelude.{◌≡◌, [], nat_eq, OnErr, OnOk};
 ghost use Rattle.indexmap.specs.IndexMap.{insert_entry};
-ghost use Rattle.bx_lock_tables.specs.Accounts.{row_in};
+ghost use Rattle.bx_lock_tables.specs.Accounts.{block_row};
 
 use crate::rows::Row;
 use bx_base::OutOfMemory;
@@ -37,7 +37,7 @@ impl RowMap {
 
     /// The row of a block; `None` exactly where there is none.
     pub fn get(&self, block: u64) -> Option<Row>
-        ensures { result ≡ row_in self.now block }
+        ensures { result ≡ block_row self.now block }
     {
         self.rows.get(&block).copied()
     }

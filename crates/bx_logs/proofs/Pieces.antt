@@ -15,7 +15,7 @@ use Rattle.bx_records.specs.Drafts.{Changed, same_number}
 use Rattle.bx_records.specs.Records.{SpellsHead, head_text}
 use Rattle.bx_homes.specs.bx_volume.specs.Records.{Logged, IsLogged, logged_text}
 use Rattle.bx_homes.specs.bx_volume.proofs.Sizes.{block_bytes, head_long}
-use Rattle.bx_homes.specs.Standing.{StandsAt}
+use Rattle.bx_homes.specs.Standing.{BlockStandsAt}
 use Rattle.bx_logs.specs.Bodies.{AreNumbers, IsRecordAt, StandOn}
 
 -- ---- two parts
@@ -82,18 +82,18 @@ module _ (image : Image) (disk : ℕ) where
         read_stand (sector + 9) areas behind all.1 (second_part (block_text change.1) (flat_map (λ (change : Changed). block_text change.1) behind) 9 long image disk sector reads),
       )
 
-  pub more_stand : (sector : ℕ) (changed : List Changed) (next : Changed) → StandOn image disk sector changed → StandsAt image disk (sector + 9 * length changed) next.1
+  pub more_stand : (sector : ℕ) (changed : List Changed) (next : Changed) → StandOn image disk sector changed → BlockStandsAt image disk (sector + 9 * length changed) next.1
       → StandOn image disk sector (changed ++ next ∷ [])
-  more_stand sector [] next stand more = (subst (λ (s : ℕ). StandsAt image disk s next.1) (omega arith) more, tt)
+  more_stand sector [] next stand more = (subst (λ (s : ℕ). BlockStandsAt image disk s next.1) (omega arith) more, tt)
   more_stand sector (change ∷ behind) next stand more =
-      (stand.0, more_stand (sector + 9) behind next stand.1 (subst (λ (s : ℕ). StandsAt image disk s next.1) (omega arith) more))
+      (stand.0, more_stand (sector + 9) behind next stand.1 (subst (λ (s : ℕ). BlockStandsAt image disk s next.1) (omega arith) more))
 
   -- where all stand, each does
-  pub no_gap : (sector i : ℕ) (changed : List Changed) → i < length changed → StandOn image disk sector changed → ((block : Block) → StandsAt image disk (sector + 9 * i) block → ⊥) → ⊥
+  pub no_gap : (sector i : ℕ) (changed : List Changed) → i < length changed → StandOn image disk sector changed → ((block : Block) → BlockStandsAt image disk (sector + 9 * i) block → ⊥) → ⊥
   no_gap sector i [] less stand none = absurd (omega (arith, less))
-  no_gap sector zero (change ∷ behind) less stand none = none change.1 (subst (λ (s : ℕ). StandsAt image disk s change.1) (omega arith) stand.0)
+  no_gap sector zero (change ∷ behind) less stand none = none change.1 (subst (λ (s : ℕ). BlockStandsAt image disk s change.1) (omega arith) stand.0)
   no_gap sector (suc i) (change ∷ behind) less stand none =
-      no_gap (sector + 9) i behind (omega (arith, less)) stand.1 (λ block at. none block (subst (λ (s : ℕ). StandsAt image disk s block) (omega arith) at))
+      no_gap (sector + 9) i behind (omega (arith, less)) stand.1 (λ block at. none block (subst (λ (s : ℕ). BlockStandsAt image disk s block) (omega arith) at))
 
 -- ---- numbers
 

@@ -7,7 +7,7 @@ use Rattle.bx_calls.specs.Regions.{ReadsAs}
 use Rattle.bx_places.specs.Places.{IsBlock}
 use Rattle.bx_records.specs.Drafts.{Changed}
 use Rattle.bx_homes.specs.bx_volume.specs.Records.{Logged, IsLogged, logged_text}
-use Rattle.bx_homes.specs.Standing.{StandsAt}
+use Rattle.bx_homes.specs.Standing.{BlockStandsAt}
 
 -- numbers of blocks of a volume with so many areas, each once
 abbrev pub AreNumbers : ℕ → List ℕ → Type 0
@@ -17,7 +17,7 @@ AreNumbers areas (number ∷ others) = IsBlock areas number × AllByRecursion (�
 -- blocks stand on a disk one behind the other, nine sectors each, the first from this sector on
 abbrev pub StandOn : Image → ℕ → ℕ → List Changed → Type 0
 StandOn image disk sector [] = Unit {0}
-StandOn image disk sector (change ∷ behind) = StandsAt image disk sector change.1 × StandOn image disk (sector + 9) behind
+StandOn image disk sector (change ∷ behind) = BlockStandsAt image disk sector change.1 × StandOn image disk (sector + 9) behind
 
 -- the record of a volume with so many areas stands on a disk from this sector on
 pub record IsRecordAt (image : Image) (disk sector areas : ℕ) (logged : Logged) : Type 0 where

@@ -29,7 +29,7 @@ use Rattle.bx_truth.proofs.Taking.{taken_keeps}
 use Rattle.bx_views.specs.Truths.{Truth, Held, Hints, IsTruth, with_draft}
 use Rattle.bx_leaves.specs.bx_blink.specs.Hints.{HintsFit}
 use Rattle.bx_leaves.specs.bx_blink.proofs.Sees.{Holds}
-use Rattle.bx_chunks.specs.Allocating.{Adds, AllocatesAt}
+use Rattle.bx_chunks.specs.Allocating.{AddsChunk, AllocatesAt}
 use Rattle.bx_chunks.specs.Putting.{empty_of}
 use Rattle.bx_chunks.specs.declared.error.ChunkError.{ChunkError}
 use Rattle.bx_chunks.specs.declared.error.ChunkError.TheVariants.{Need, Stale, Full, OutOfMemory, Crowded}
@@ -55,10 +55,10 @@ module _ (areas near : ℕ) (held : Held) (truth : Truth) (old new : List Change
   abbrev t4 : Truth
   t4 = with_draft truth new
 
-  a : Adds areas (with_draft truth old) (with_draft truth m.one) handle
+  a : AddsChunk areas (with_draft truth old) (with_draft truth m.one) handle
   a = allocates_in areas near held truth old m.one few same is.chunked (Ok handle) m.first
 
-  b : Adds areas (with_draft truth m.one) (with_draft truth m.two) m.page
+  b : AddsChunk areas (with_draft truth m.one) (with_draft truth m.two) m.page
   b = allocates_in areas near held truth m.one m.two few same a.chunked (Ok m.page) m.second
 
   chunk_one : (h : ℕ) → h ≢ handle → chunks_of areas (with_draft truth m.one) h ≡ chunks_of areas (with_draft truth old) h
@@ -269,6 +269,6 @@ makes_in areas near held truth old new tree inode body few same is empty (Err er
     by : (e : ChunkError) → MakesAt held old new inode near areas (Err e) → MakesIn areas truth old new tree inode body (Err e)
     by e (inl first) = of_first old is.chunked e first
     by e (inr (inl second)) =
-        let adds : Adds areas (with_draft truth old) (with_draft truth second.one) second.handle = allocates_in areas near held truth old second.one few same is.chunked (Ok second.handle) second.first in
+        let adds : AddsChunk areas (with_draft truth old) (with_draft truth second.one) second.handle = allocates_in areas near held truth old second.one few same is.chunked (Ok second.handle) second.first in
         of_first second.one adds.chunked e second.second
     by e (inr (inr third)) = of_fills e third.two third.handle third.page third.fills

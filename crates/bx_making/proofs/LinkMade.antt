@@ -28,7 +28,7 @@ use Rattle.bx_views.specs.Attempts.{IsHeldDraft}
 use Rattle.bx_views.specs.Truths.{Truth, Held, Hints, IsTruth, with_draft}
 use Rattle.bx_leaves.specs.bx_blink.specs.Hints.{HintsFit}
 use Rattle.bx_leaves.specs.bx_blink.proofs.Sees.{Holds}
-use Rattle.bx_chunks.specs.Allocating.{Adds, NeedsFairly}
+use Rattle.bx_chunks.specs.Allocating.{AddsChunk, NeedsFairly}
 use Rattle.bx_chunks.specs.Putting.{empty_of}
 use Rattle.bx_chunks.specs.declared.error.ChunkError.{ChunkError}
 use Rattle.bx_chunks.specs.declared.error.ChunkError.TheVariants.{Need, Stale, Full, OutOfMemory, Crowded}
@@ -49,7 +49,7 @@ use Rattle.bx_making.proofs.Unused.{unused_is}
 
 module _ (areas near : ℕ) (held : Held) (truth : Truth) (old new : List Changed) (tree : Tree) (inode : Inode) (handle : ℕ) (few : areas ≤ 64) (same : IsTruth held truth)
     (is : StandsFor areas (with_draft truth old) tree) (kind : inode.kind ≡ 5) (no_tree : inode.tree ≡ 0) (m : LinksOne held old new inode near areas handle) where
-  a : Adds areas (with_draft truth old) (with_draft truth m.one) handle
+  a : AddsChunk areas (with_draft truth old) (with_draft truth m.one) handle
   a = allocates_in areas near held truth old m.one few same is.chunked (Ok handle) m.first
 
   chunk_one : (h : ℕ) → h ≢ handle → chunks_of areas (with_draft truth m.one) h ≡ chunks_of areas (with_draft truth old) h

@@ -4,7 +4,7 @@ use Rattle.bx_facts.specs.Writes.{Sent}
 use Rattle.bx_rows.specs.declared.device.DeviceRow.{DeviceRow}
 use Rattle.bx_mirror_laws.specs.Acting.{Acts, Been, Counts, FromEpoch, IsRow, MayAct, Moved}
 use Rattle.bx_mirror_laws.specs.Sides.{Among, Copied, CopyLetter, Handing, Out, Side, WriteLetter, Wrote}
-use Rattle.bx_mirror_laws.specs.Sound.{AreCopies, AreHanded, AreOuts, AreRows, AreWrites, HasAcked, HasTaken, IsAnswer, IsWrote, NeverAll, Sends, Standing, wrote_of}
+use Rattle.bx_mirror_laws.specs.Sound.{AreCopies, AreHanded, AreOuts, AreRows, AreWrites, HasAcked, HasTaken, IsAnswer, IsWrote, NeverAll, Sends, DeviceStands, wrote_of}
 use Rattle.bx_mirror_laws.specs.Steps.{Ages, answer_to}
 use Rattle.bx_mirror_laws.proofs.Ages.{copies_age, hands_age, rows_age}
 use Rattle.bx_mirror_laws.proofs.Memory.{acts_been}
@@ -59,7 +59,7 @@ module _ (device room greatest : ℕ) (last : DeviceRow) (older : List DeviceRow
       (λ c r acts copying leads s low high. are.held c r (acts_back c r acts) copying leads s low high)
       (λ c r acts copying leads s low below. are.progress c r (acts_back c r acts) copying leads s low below)
 
-  pub owing_stands : (From : DeviceRow → Type 0) (Comes : WriteLetter → Type 0) (past : List Sent) (s : ℕ) (content : List ℕ) → Standing device greatest From last older handed sides Comes past s content → Standing device greatest From last older handed next Comes past s content
+  pub owing_stands : (From : DeviceRow → Type 0) (Comes : WriteLetter → Type 0) (past : List Sent) (s : ℕ) (content : List ℕ) → DeviceStands device greatest From last older handed sides Comes past s content → DeviceStands device greatest From last older handed next Comes past s content
   owing_stands From Comes past s content stands = record {
     reads = λ c counts. stands.reads c (counts_back From c counts);
     sure = stands.sure;

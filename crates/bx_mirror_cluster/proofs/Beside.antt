@@ -16,8 +16,8 @@ use Rattle.bx_mirror_client.specs.Sends.{member_at}
 use Rattle.bx_mirror_client.specs.declared.asking.Asking.{Asking}
 use Rattle.bx_mirror_laws.specs.Acting.{FromEpoch}
 use Rattle.bx_mirror_laws.specs.Sides.{Among, Side, WriteLetter}
-use Rattle.bx_mirror_laws.specs.Sound.{AreCopies, AreHanded, AreOuts, AreRows, AreWrites, AreWrotes, Standing}
-use Rattle.bx_mirror_member.specs.Standing.{Standing as Serving}
+use Rattle.bx_mirror_laws.specs.Sound.{AreCopies, AreHanded, AreOuts, AreRows, AreWrites, AreWrotes, DeviceStands}
+use Rattle.bx_mirror_member.specs.Standing.{MemberView as Serving}
 use Rattle.bx_mirror_server.specs.Sides.{copied_in, wrote_in}
 use Rattle.bx_mirror_tables.specs.Lasts.{last_in}
 use Rattle.bx_mirror_tables.specs.declared.answers.Owing.{Owing}
@@ -108,7 +108,7 @@ module _ (parts : Parts) (x : Disks) (past : StorePast) (members : ℕ → Servi
 
   pub beside_stands : (From : DeviceRow → Type 0) (d sector : ℕ) (content : List ℕ) → d < parts.made.devices → StandsFor From parts x past d sector content → StandsFor From parts_then x then_ d sector content
   beside_stands From d sector content within stands =
-      by d within (λ s. Standing d past.told.greatest From (last_row past.told.chain d) (rows_before past.told.chain d) (handings d past.told.handed) s (IsComing past.told.letters d) past.writes sector content) stands
+      by d within (λ s. DeviceStands d past.told.greatest From (last_row past.told.chain d) (rows_before past.told.chain d) (handings d past.told.handed) s (IsComing past.told.letters d) past.writes sector content) stands
 
   pub beside_settled : (d sector : ℕ) (content : List ℕ) → IsSettledOn parts x past d sector content → IsSettledOn parts_then x then_ d sector content
   beside_settled d sector content set = record { device = set.device; behind_label = set.behind_label; within = set.within; is = beside_stands Nowhere d sector content set.device set.is }

@@ -6,7 +6,7 @@ use Rattle.bx_facts.specs.Writes.{Sent, StorePast, store_room}
 use Rattle.bx_rows.specs.declared.device.DeviceRow.{DeviceRow}
 use Rattle.bx_mirror_laws.specs.Sides.{Handing, Out, Side, WriteLetter, Wrote}
 use Rattle.bx_mirror_laws.specs.Acting.{FromEpoch}
-use Rattle.bx_mirror_laws.specs.Sound.{AreOuts, AreWrites, Standing}
+use Rattle.bx_mirror_laws.specs.Sound.{AreOuts, AreWrites, DeviceStands}
 use Rattle.bx_mirror_laws.proofs.Small.{outs_lived, writes_lived}
 use Rattle.bx_mirror_client.specs.declared.asking.Asking.{Asking}
 use Rattle.bx_mirror_cluster.specs.Fitting.{IsClaimed, IsComing, IsSettledOn, Keeps, KnownFrom, Nowhere, Parts, StandsFor, StandsOn, WillReadOn, handings, knows_of, last_row, outs_of, rows_before, side_of}
@@ -51,7 +51,7 @@ outs_later device room greatest later last_ older handed sides writes wrotes act
 }
 
 stand_later : (device greatest later : ℕ) (From : DeviceRow → Type 0) (last_ : DeviceRow) (older : List DeviceRow) (handed : List Handing) (sides : Bool → Side) (Comes : WriteLetter → Type 0) (past : List Sent) (sector : ℕ) (content : List ℕ)
-    → greatest ≤ later → Standing device greatest From last_ older handed sides Comes past sector content → Standing device later From last_ older handed sides Comes past sector content
+    → greatest ≤ later → DeviceStands device greatest From last_ older handed sides Comes past sector content → DeviceStands device later From last_ older handed sides Comes past sector content
 stand_later device greatest later From last_ older handed sides Comes past sector content rises stands = record {
   reads = stands.reads;
   sure = stands.sure;

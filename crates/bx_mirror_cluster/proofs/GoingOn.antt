@@ -15,12 +15,12 @@ use Rattle.bx_mirror_client.specs.Streams.{Streaming}
 use Rattle.bx_mirror_client.specs.declared.asking.Asking.{Asking}
 use Rattle.bx_mirror_cluster.specs.Fitting.{IsClaimed, IsComing, IsData, IsDeviceSound, IsReading, IsSettledOn, Keeps, KnownFrom, Nowhere, Parts, StandsFor, StandsOn, WillReadOn, handings, knows_of, last_row, outs_of, rows_before, side_of}
 use Rattle.bx_mirror_cluster.proofs.Leaving.{same_left}
-use Rattle.bx_mirror_cluster.specs.GoingOn.{AreReads, GoesOn, IsAskedOn, letters_more, with_nodes}
+use Rattle.bx_mirror_cluster.specs.GoingOn.{AreReads, StreamsGoOn, IsAskedOn, letters_more, with_nodes}
 use Rattle.bx_mirror_cluster.specs.Speaking.{IsOfRead}
 use Rattle.bx_mirror_cluster.proofs.Drawn.{drawn_more, drawn_own, drawn_same, not_member, same_read}
 use Rattle.bx_mirror_packets.specs.declared.message.ReadBody.{ReadBody}
 
-module _ (parts : Parts) (x : Disks) (past : StorePast) (keeps : Keeps parts x past) (nodes_next : ℕ → Streaming) (more : List Letter) (on : GoesOn parts keeps.history nodes_next) (reads : AreReads nodes_next more) where
+module _ (parts : Parts) (x : Disks) (past : StorePast) (keeps : Keeps parts x past) (nodes_next : ℕ → Streaming) (more : List Letter) (on : StreamsGoOn parts keeps.history nodes_next) (reads : AreReads nodes_next more) where
   -- a letter of another kind was there before
   was_there : (letter : Letter) → Contains (past.told.letters ++ more) letter → letter.kind ≢ 20 → Contains past.told.letters letter
   was_there letter there other = elim (Contains-append_cases past.told.letters more letter there) [

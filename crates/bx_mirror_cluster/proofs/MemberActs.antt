@@ -22,11 +22,11 @@ use Rattle.bx_mirror_packets.specs.declared.message.CopyBody.{CopyBody}
 use Rattle.bx_mirror_packets.specs.declared.message.DeviceMessage.TheVariants.{Data, Copy, Alive}
 use Rattle.bx_mirror_packets.specs.declared.message.ReadBody.{ReadBody}
 use Rattle.bx_mirror_packets.specs.declared.message.WriteBody.{WriteBody}
-use Rattle.bx_mirror_member.specs.Standing.{Standing as Serving, copies, device_in, disk_in, hearing, me, partner, room_in}
+use Rattle.bx_mirror_member.specs.Standing.{MemberView as Serving, copies, device_in, disk_in, hearing, me, partner, room_in}
 use Rattle.bx_mirror_member.specs.Steps.{alive_letter, proposes, released, shift, with_owing, with_piece, with_write, wrote_to, owing, answer_letter, copied_of, owed_letters}
 use Rattle.bx_mirror_client.specs.Sends.{member_at}
 use Rattle.bx_mirror_server.proofs.Shifting.{copies_whole, proposes_step}
-use Rattle.bx_mirror_server.specs.Serving.{AnswersRead, PutsPiece, PutsWrite, SendsPiece}
+use Rattle.bx_mirror_server.specs.Serving.{AnswersRead, PutsCopy, PutsWrite, SendsPiece}
 use Rattle.bx_mirror_cluster.specs.Fitting.{IsComing, Keeps, Parts, StandsFor, last_row, side_of}
 use Rattle.bx_mirror_cluster.specs.GoesFurther.{GoesFurther}
 use Rattle.bx_mirror_cluster.specs.MemberSteps.{history_of, served, with_serving}
@@ -173,7 +173,7 @@ module _ (parts : Parts) (x : Disks) (past : StorePast) (keeps : Keeps parts x p
 
   -- ---- copies
 
-  pub target_takes : (y : Disks) → ((k s : ℕ) → k ≢ member_disk d b → Stays x y k s) → SameMemberLengths x y → (from : Actor) (c : CopyBody) → PieceComes parts past d b c → PutsPiece (Unit {0}) from c was (with_piece from (copied_of c) was) x y
+  pub target_takes : (y : Disks) → ((k s : ℕ) → k ≢ member_disk d b → Stays x y k s) → SameMemberLengths x y → (from : Actor) (c : CopyBody) → PieceComes parts past d b c → PutsCopy (Unit {0}) from c was (with_piece from (copied_of c) was) x y
       → GoesFurther parts (with_serving parts n (with_piece from (copied_of c) was)) x y past past
   target_takes y disks lengths from c comes puts = plain_goes parts x y past keeps d b (with_piece from (copied_of c) was) past.told.letters past.told.handed knew (history_of keeps.history d)
       (target_step parts x y past keeps d b within up number disks lengths from c comes puts) (λ k e session epoch tag bytes a. a)

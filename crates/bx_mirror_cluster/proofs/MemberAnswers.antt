@@ -16,7 +16,7 @@ use Rattle.bx_mirror_packets.specs.declared.message.DataBody.{DataBody}
 use Rattle.bx_mirror_packets.specs.declared.message.DeviceMessage.TheVariants.{Read, Data}
 use Rattle.bx_mirror_packets.specs.declared.message.ReadBody.{ReadBody}
 use Rattle.bx_mirror_member.specs.Acting.{IsReadAt, IsReadHere}
-use Rattle.bx_mirror_member.specs.Standing.{Standing as Serving, disk_in, me}
+use Rattle.bx_mirror_member.specs.Standing.{MemberView as Serving, disk_in, me}
 use Rattle.bx_mirror_client.specs.Sends.{member_at}
 use Rattle.bx_mirror_client.specs.declared.asking.Asking.{Asking}
 use Rattle.bx_mirror_server.specs.Serving.{AnswersRead}

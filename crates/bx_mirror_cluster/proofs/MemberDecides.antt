@@ -12,7 +12,7 @@ use Rattle.bx_mirror_tables.specs.declared.answers.Answer.{Answer}
 use Rattle.bx_mirror_tables.specs.declared.answers.Answer.TheVariants as answers
 use Rattle.bx_mirror_tables.specs.declared.answers.Owing.{Owing}
 use Rattle.bx_mirror_member.specs.Acting.{IsNoted}
-use Rattle.bx_mirror_member.specs.Standing.{Standing as Serving, copy_from, device_in, is_second}
+use Rattle.bx_mirror_member.specs.Standing.{MemberView as Serving, copy_from, device_in, is_second}
 
 same_or : (n m : ℕ) → (n ≡ m) ⊎ (n ≢ m)
 same_or n m = grind arith

@@ -20,7 +20,7 @@ use Rattle.bx_global.specs.declared.change.Change.{Change}
 use Rattle.bx_global.specs.declared.state.GlobalState.{GlobalState}
 use Rattle.bx_post.specs.declared.packets.Letter.{Letter}
 use Rattle.bx_rows.specs.declared.device.DeviceRow.{DeviceRow}
-use Rattle.bx_mirror_member.specs.Standing.{Standing as Serving, copies, device_in, first_piece, first_piece_in, is_news, learned, learned_row, piece_at, room_in, with_row}
+use Rattle.bx_mirror_member.specs.Standing.{MemberView as Serving, copies, device_in, first_piece, first_piece_in, is_news, learned, learned_row, piece_at, room_in, with_row}
 use Rattle.bx_mirror_member.specs.declared.copies.Piece.{Piece}
 use Rattle.bx_mirror_client.specs.Sends.{member_at}
 use Rattle.bx_mirror_server.specs.Serving.{Does, OfInput, SendsAny, SendsPiece}

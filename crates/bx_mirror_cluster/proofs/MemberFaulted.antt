@@ -16,7 +16,7 @@ use Rattle.bx_mirror_laws.specs.Steps.{PartlyTaken, PieceChanged}
 use Rattle.bx_mirror_packets.specs.declared.message.CopyBody.{CopyBody}
 use Rattle.bx_mirror_packets.specs.declared.message.WriteBody.{WriteBody}
 use Rattle.bx_mirror_member.specs.Acting.{IsCopiedHere, IsTaken}
-use Rattle.bx_mirror_member.specs.Standing.{Standing as Serving, device_in, disk_in, is_news, is_second, learned, learned_row, with_row}
+use Rattle.bx_mirror_member.specs.Standing.{MemberView as Serving, device_in, disk_in, is_news, is_second, learned, learned_row, with_row}
 use Rattle.bx_mirror_client.specs.Sends.{member_at}
 use Rattle.bx_mirror_server.specs.Sides.{letter_to, piece_from, side_of as side_by}
 use Rattle.bx_mirror_cluster.specs.Fitting.{Keeps, Parts}

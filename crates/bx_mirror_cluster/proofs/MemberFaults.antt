@@ -15,7 +15,7 @@ use Rattle.bx_mirror_laws.specs.Steps.{Ages, PartlyTaken, TakesWrite}
 use Rattle.bx_mirror_laws.proofs.Ages.{hands_age, rows_age, writes_age, wrotes_age}
 use Rattle.bx_mirror_laws.proofs.Faulting.{partly_ages, partly_lasts, partly_no_more, partly_outs, partly_stands}
 use Rattle.bx_mirror_packets.specs.declared.message.WriteBody.{WriteBody}
-use Rattle.bx_mirror_member.specs.Standing.{Standing as Serving, device_in, is_second}
+use Rattle.bx_mirror_member.specs.Standing.{MemberView as Serving, device_in, is_second}
 use Rattle.bx_mirror_client.specs.Sends.{member_at}
 use Rattle.bx_mirror_server.specs.Sides.{letter_to, side_of as side_by}
 use Rattle.bx_mirror_cluster.specs.Fitting.{History, IsClaimed, IsComing, IsDeviceSound, Keeps, Parts, StandsFor, handings, knows_of, last_row, outs_of, rows_before, side_of}

@@ -11,9 +11,9 @@ use Rattle.bx_rows.specs.Modes.{IsReachable, IsSource}
 use Rattle.bx_rows.specs.declared.device.DeviceRow.{DeviceRow}
 use Rattle.bx_mirror_laws.specs.Acting.{Acts, IsRow}
 use Rattle.bx_mirror_laws.specs.Sides.{Among, Copied, Handing, Side}
-use Rattle.bx_mirror_laws.specs.Sound.{AreHanded, AreOuts, Filled, Standing}
+use Rattle.bx_mirror_laws.specs.Sound.{AreHanded, AreOuts, Filled, DeviceStands}
 use Rattle.bx_mirror_laws.proofs.Handing.{hands_hand, outs_hand, stands_hand}
-use Rattle.bx_mirror_member.specs.Standing.{Standing as Serving, device_in, is_second}
+use Rattle.bx_mirror_member.specs.Standing.{MemberView as Serving, device_in, is_second}
 use Rattle.bx_mirror_member.specs.Steps.{shift}
 use Rattle.bx_mirror_client.specs.Sends.{member_at}
 use Rattle.bx_mirror_cluster.specs.Fitting.{History, IsClaimed, IsComing, IsDeviceSound, Keeps, NeedsLabel, Parts, StandsFor, handings, knows_of, last_row, outs_of, rows_before, side_of}
@@ -128,5 +128,5 @@ module _ (parts : Parts) (x : Disks) (past : StorePast) (keeps : Keeps parts x p
   pub hand_goes : (From : DeviceRow → Type 0) (sector : ℕ) (content : List ℕ) → 1 ≤ sector → sector < store_room parts.made → StandsFor From parts x past d sector content → StandsFor From (with_serving parts n was) x (served past past.told.letters handed_next past.told.knew) d sector content
   hand_goes From sector content low high stands =
       subst (λ (p : Parts). StandsFor From p x (served past past.told.letters handed_next past.told.knew) d sector content) (sym (same_serving parts n))
-      (subst (λ (hs : List Handing). Standing d g From last_ older_ hs sides (IsComing past.told.letters d) past.writes sector content) (sym handings_is)
+      (subst (λ (hs : List Handing). DeviceStands d g From last_ older_ hs sides (IsComing past.told.letters d) past.writes sector content) (sym handings_is)
       (stands_hand d room g last_ older_ handed sides (h.source d) sound.rows sound.hands (h.copies d) (h.copieds d) sound.copies hd row is_row knows boot_is refl reaches kinds From (IsComing past.told.letters d) past.writes sector content low high stands))

@@ -24,7 +24,7 @@ use Rattle.bx_mirror_packets.specs.declared.message.DeviceMessage.{DeviceMessage
 use Rattle.bx_mirror_packets.specs.declared.message.DeviceMessage.TheVariants.{Write, Wrote, Read, Data, Copy, Copied, Alive}
 use Rattle.bx_mirror_client.specs.Sends.{member_at}
 use Rattle.bx_mirror_member.specs.Acting.{IsCopiedHere, IsTaken}
-use Rattle.bx_mirror_member.specs.Standing.{Standing as Serving, learned}
+use Rattle.bx_mirror_member.specs.Standing.{MemberView as Serving, learned}
 use Rattle.bx_mirror_server.proofs.Taking.{partly, piece_partly}
 use Rattle.bx_mirror_server.specs.Serving.{BringsOf, BringsOnly, run_of}
 use Rattle.bx_mirror_server.specs.Working.{alone}

@@ -26,7 +26,7 @@ use Rattle.bx_mirror_packets.specs.declared.message.DeviceMessage.{DeviceMessage
 use Rattle.bx_mirror_packets.specs.declared.message.DeviceMessage.TheVariants.{Write, Wrote as WroteOf, Read, Data, Copy, Copied as CopiedOf, Alive}
 use Rattle.bx_mirror_packets.specs.declared.message.WriteBody.{WriteBody}
 use Rattle.bx_mirror_member.specs.Acting.{IsNoted, Judges}
-use Rattle.bx_mirror_member.specs.Standing.{Standing as Serving, copies, current_piece, hearing, piece_at, piece_in, room_in}
+use Rattle.bx_mirror_member.specs.Standing.{MemberView as Serving, copies, current_piece, hearing, piece_at, piece_in, room_in}
 use Rattle.bx_mirror_member.specs.Steps.{alive_letter, answer_letter, copied_of, gone_on, is_last_piece, owed_letters, owing, progress_in, proposes_in, released, shift, with_owing, with_piece, with_write, wrote_to}
 use Rattle.bx_mirror_member.specs.declared.copies.Progress.{Progress}
 use Rattle.bx_mirror_member.specs.declared.copies.Progress.TheVariants.{Next, Unchanged, Whole}

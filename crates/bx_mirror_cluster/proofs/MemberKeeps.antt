@@ -13,7 +13,7 @@ use Rattle.bx_mirror_laws.specs.Sound.{HasTaken}
 use Rattle.bx_mirror_laws.specs.Steps.{Ages, LastsGoOn}
 use Rattle.bx_mirror_laws.proofs.Ages.{copies_age, hands_age, rows_age, writes_age, wrotes_age}
 use Rattle.bx_mirror_laws.proofs.Still.{outs_still, stands_still}
-use Rattle.bx_mirror_member.specs.Standing.{Standing as Serving, disk_in}
+use Rattle.bx_mirror_member.specs.Standing.{MemberView as Serving, disk_in}
 use Rattle.bx_mirror_client.specs.Sends.{member_at}
 use Rattle.bx_mirror_server.specs.Sides.{side_of as side_by}
 use Rattle.bx_mirror_cluster.specs.Fitting.{History, IsClaimed, IsComing, IsDeviceSound, Keeps, Parts, StandsFor, handings, knows_of, last_row, outs_of, rows_before, side_of}

@@ -18,7 +18,7 @@ use Rattle.bx_mirror_laws.specs.Sides.{Handing, Side}
 use Rattle.bx_mirror_laws.specs.Steps.{Ages, KnowsBefore, Learns}
 use Rattle.bx_mirror_laws.proofs.Ages.{hands_age, rows_age}
 use Rattle.bx_mirror_laws.proofs.Learning.{learn_ages, learn_copies, learn_outs, learn_stands, learn_writes, learn_wrotes}
-use Rattle.bx_mirror_member.specs.Standing.{Standing as Serving, copies, copy_from, is_named, is_news, is_second, with_row}
+use Rattle.bx_mirror_member.specs.Standing.{MemberView as Serving, copies, copy_from, is_named, is_news, is_second, with_row}
 use Rattle.bx_mirror_client.specs.Sends.{member_at}
 use Rattle.bx_mirror_server.specs.Sides.{side_of as side_by}
 use Rattle.bx_mirror_cluster.specs.Fitting.{History, IsClaimed, IsComing, IsDeviceSound, Keeps, Parts, StandsFor, handings, knows_of, last_row, outs_of, row_of, row_or, rows_before, side_of}

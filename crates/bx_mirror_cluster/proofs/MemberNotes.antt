@@ -20,7 +20,7 @@ use Rattle.bx_mirror_packets.specs.DeviceMessages.{Spells}
 use Rattle.bx_mirror_packets.specs.declared.message.CopiedBody.{CopiedBody}
 use Rattle.bx_mirror_packets.specs.declared.message.DeviceMessage.TheVariants.{Copied as CopiedOf}
 use Rattle.bx_mirror_member.specs.Acting.{IsNoted}
-use Rattle.bx_mirror_member.specs.Standing.{Standing as Serving, copy_from, is_second}
+use Rattle.bx_mirror_member.specs.Standing.{MemberView as Serving, copy_from, is_second}
 use Rattle.bx_mirror_client.specs.Sends.{member_at}
 use Rattle.bx_mirror_cluster.specs.Fitting.{History, IsClaimed, IsComing, IsDeviceSound, Keeps, Parts, StandsFor, handings, knows_of, last_row, outs_of, rows_before, side_of}
 use Rattle.bx_mirror_cluster.specs.MemberSteps.{history_of, served, with_histories, with_member, with_serving}

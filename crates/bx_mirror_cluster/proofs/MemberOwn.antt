@@ -14,7 +14,7 @@ use Rattle.bx_post.specs.declared.packets.Letter.{Letter}
 use Rattle.bx_rows.specs.declared.device.DeviceRow.{DeviceRow}
 use Rattle.bx_mirror_laws.specs.Sides.{Copied}
 use Rattle.bx_mirror_tables.specs.Lasts.{last_in}
-use Rattle.bx_mirror_member.specs.Standing.{Standing as Serving, device_in, disk_in, is_second}
+use Rattle.bx_mirror_member.specs.Standing.{MemberView as Serving, device_in, disk_in, is_second}
 use Rattle.bx_mirror_client.specs.Sends.{member_at}
 use Rattle.bx_mirror_server.specs.Sides.{copied_in, side_of as side_by, wrote_in}
 use Rattle.bx_mirror_cluster.specs.Fitting.{HasLabel, Keeps, NeedsLabel, Parts, handings, last_row, side_of}

@@ -16,7 +16,7 @@ use Rattle.bx_mirror_laws.proofs.Ages.{hands_age, rows_age}
 use Rattle.bx_mirror_laws.proofs.Copying.{piece_ages, piece_copies, piece_outs, piece_stands, piece_writes, piece_wrotes}
 use Rattle.bx_mirror_packets.specs.declared.message.CopyBody.{CopyBody}
 use Rattle.bx_mirror_packets.specs.declared.message.DeviceMessage.TheVariants.{Copy}
-use Rattle.bx_mirror_member.specs.Standing.{Standing as Serving, copy_from, is_second}
+use Rattle.bx_mirror_member.specs.Standing.{MemberView as Serving, copy_from, is_second}
 use Rattle.bx_mirror_client.specs.Sends.{member_at}
 use Rattle.bx_mirror_server.specs.Sides.{piece_from, side_of as side_by}
 use Rattle.bx_mirror_cluster.specs.Fitting.{History, IsClaimed, IsComing, IsDeviceSound, Keeps, Parts, StandsFor, handings, knows_of, last_row, outs_of, rows_before, side_of}

@@ -22,11 +22,11 @@ use Rattle.bx_mirror_packets.specs.declared.message.CopyBody.{CopyBody}
 use Rattle.bx_mirror_packets.specs.declared.message.DeviceMessage.TheVariants.{Copy}
 use Rattle.bx_mirror_tables.specs.declared.answers.Answer.TheVariants as answers
 use Rattle.bx_mirror_member.specs.Acting.{IsCopiedHere}
-use Rattle.bx_mirror_member.specs.Standing.{Standing as Serving, copy_from, is_second}
+use Rattle.bx_mirror_member.specs.Standing.{MemberView as Serving, copy_from, is_second}
 use Rattle.bx_mirror_member.specs.Steps.{copied_of, owing, with_piece}
 use Rattle.bx_mirror_client.specs.Sends.{member_at}
 use Rattle.bx_mirror_server.proofs.Taking.{piece}
-use Rattle.bx_mirror_server.specs.Serving.{PutsPiece}
+use Rattle.bx_mirror_server.specs.Serving.{PutsCopy}
 use Rattle.bx_mirror_server.specs.Sides.{piece_from, side_of as side_by}
 use Rattle.bx_mirror_cluster.specs.Fitting.{History, IsClaimed, IsComing, IsDeviceSound, IsOwing, Keeps, Parts, StandsFor, handings, knows_of, last_row, outs_of, rows_before, side_of}
 use Rattle.bx_mirror_cluster.specs.MemberSteps.{history_of, served, with_histories, with_member, with_serving}
@@ -52,7 +52,7 @@ not_both false e = absurd cc
 
 module _ (parts : Parts) (x y : Disks) (past : StorePast) (keeps : Keeps parts x past) (d : ℕ) (b : Bool) (within : d < parts.made.devices) (up : past.told.down (Member (member_at d b)) ≡ false)
     (number : (parts.members (member_at d b)).number ≡ member_at d b) (disks : (k s : ℕ) → k ≢ member_disk d b → Stays x y k s) (lengths : SameMemberLengths x y)
-    (from : Actor) (c : CopyBody) (comes : PieceComes parts past d b c) (puts : PutsPiece (Unit {0}) from c (parts.members (member_at d b)) (with_piece from (copied_of c) (parts.members (member_at d b))) x y) where
+    (from : Actor) (c : CopyBody) (comes : PieceComes parts past d b c) (puts : PutsCopy (Unit {0}) from c (parts.members (member_at d b)) (with_piece from (copied_of c) (parts.members (member_at d b))) x y) where
   abbrev n : ℕ
   n = member_at d b
 

@@ -9,11 +9,11 @@ use Rattle.bx_facts.specs.Writes.{StorePast, store_room}
 use Rattle.bx_global.specs.declared.state.GlobalState.{GlobalState}
 use Rattle.bx_rows.specs.declared.device.DeviceRow.{DeviceRow}
 use Rattle.bx_mirror_laws.specs.Sides.{Among, Side, WriteLetter}
-use Rattle.bx_mirror_laws.specs.Sound.{AreCopies, AreHanded, AreOuts, AreRows, AreWrites, AreWrotes, Standing}
+use Rattle.bx_mirror_laws.specs.Sound.{AreCopies, AreHanded, AreOuts, AreRows, AreWrites, AreWrotes, DeviceStands}
 use Rattle.bx_mirror_tables.specs.Lasts.{last_in}
 use Rattle.bx_mirror_tables.specs.declared.lasts.Last.{Last}
 use Rattle.bx_mirror_tables.specs.declared.answers.Owing.{Owing}
-use Rattle.bx_mirror_member.specs.Standing.{Standing as Serving}
+use Rattle.bx_mirror_member.specs.Standing.{MemberView as Serving}
 use Rattle.bx_mirror_client.specs.Sends.{member_at}
 use Rattle.bx_mirror_server.specs.Sides.{side_of as side_by}
 use Rattle.bx_mirror_cluster.specs.Fitting.{History, IsClaimed, IsComing, IsDeviceSound, Keeps, Parts, StandsFor, handings, knows_of, last_row, outs_of, rows_before, side_of}
@@ -94,4 +94,4 @@ module _ (parts : Parts) (x : Disks) (past : StorePast) (keeps : Keeps parts x p
 
   pub quiet_goes : (From : DeviceRow → Type 0) (sector : ℕ) (content : List ℕ) → StandsFor From parts x past d sector content → StandsFor From (with_serving parts n m) x past_then d sector content
   quiet_goes From sector content stands =
-      subst (λ (s : Bool → Side). Standing d past.told.greatest From (last_row past.told.chain d) (rows_before past.told.chain d) (handings d past.told.handed) s (IsComing past.told.letters d) past.writes sector content) (sym all_is) stands
+      subst (λ (s : Bool → Side). DeviceStands d past.told.greatest From (last_row past.told.chain d) (rows_before past.told.chain d) (handings d past.told.handed) s (IsComing past.told.letters d) past.writes sector content) (sym all_is) stands

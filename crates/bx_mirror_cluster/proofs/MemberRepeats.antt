@@ -12,7 +12,7 @@ use Rattle.bx_post.specs.declared.packets.Letter.{Letter}
 use Rattle.bx_rows.specs.declared.device.DeviceRow.{DeviceRow}
 use Rattle.bx_mirror_laws.specs.Acting.{Acts, IsRow, boot_in}
 use Rattle.bx_mirror_laws.specs.Sides.{Among, Handing, Out, Side, WriteLetter, Wrote}
-use Rattle.bx_mirror_laws.specs.Sound.{AreCopies, AreHanded, AreOuts, AreRows, AreWrites, AreWrotes, HasAcked, HasTaken, IsAnswer, IsWrote, Sends, Standing, wrote_of}
+use Rattle.bx_mirror_laws.specs.Sound.{AreCopies, AreHanded, AreOuts, AreRows, AreWrites, AreWrotes, HasAcked, HasTaken, IsAnswer, IsWrote, Sends, DeviceStands, wrote_of}
 use Rattle.bx_mirror_laws.specs.Steps.{answer_to}
 use Rattle.bx_mirror_packets.specs.DeviceMessages.{IsDeviceMessage, Spells}
 use Rattle.bx_mirror_packets.specs.declared.message.DeviceMessage.TheVariants.{Write, Wrote as WroteOf}
@@ -20,7 +20,7 @@ use Rattle.bx_mirror_packets.specs.declared.message.WriteBody.{WriteBody}
 use Rattle.bx_mirror_packets.specs.declared.message.WroteBody.{WroteBody}
 use Rattle.bx_mirror_tables.specs.declared.answers.Owing.{Owing}
 use Rattle.bx_mirror_member.specs.Acting.{IsRepeated}
-use Rattle.bx_mirror_member.specs.Standing.{Standing as Serving, is_second}
+use Rattle.bx_mirror_member.specs.Standing.{MemberView as Serving, is_second}
 use Rattle.bx_mirror_member.specs.Steps.{answer_letter, owing, with_owing, wrote_to}
 use Rattle.bx_mirror_client.specs.Sends.{member_at}
 use Rattle.bx_mirror_server.proofs.Owing.{copied_same, wrote_only, wrote_still}
@@ -362,5 +362,5 @@ module _ (parts : Parts) (x : Disks) (past : StorePast) (keeps : Keeps parts x p
 
   pub owe_goes : (From : DeviceRow → Type 0) (sector : ℕ) (content : List ℕ) → StandsFor From parts x past d sector content → StandsFor From (with_serving parts n m) x past_then d sector content
   owe_goes From sector content stands =
-      subst (λ (s : Bool → Side). Standing d g From last_ older_ handed s (IsComing past.told.letters d) past.writes sector content) (sym all_is)
+      subst (λ (s : Bool → Side). DeviceStands d g From last_ older_ handed s (IsComing past.told.letters d) past.writes sector content) (sym all_is)
       (owing_stands d room g last_ older_ handed sides (h.source d) sound.rows (h.writes d) (h.wrotes d) (h.wrotes d) h.actual (outs_of parts.nodes) (knows_of parts.nodes d) live ws From (IsComing past.told.letters d) past.writes sector content stands)

@@ -21,7 +21,7 @@ use Rattle.bx_mirror_packets.specs.declared.message.CopyBody.{CopyBody}
 use Rattle.bx_mirror_packets.specs.declared.message.DeviceMessage.{DeviceMessage}
 use Rattle.bx_mirror_packets.specs.declared.message.DeviceMessage.TheVariants.{Write, Wrote as WroteOf, Read, Data, Copy, Copied as CopiedOf, Alive}
 use Rattle.bx_mirror_packets.proofs.Spelled.{one_message}
-use Rattle.bx_mirror_member.specs.Standing.{Standing as Serving, copies, copy_from, device_in, disk_in, is_second, me, partner, room_in}
+use Rattle.bx_mirror_member.specs.Standing.{MemberView as Serving, copies, copy_from, device_in, disk_in, is_second, me, partner, room_in}
 use Rattle.bx_mirror_client.specs.Sends.{member_at}
 use Rattle.bx_mirror_server.specs.Serving.{SendsPiece}
 use Rattle.bx_mirror_cluster.specs.Fitting.{History, IsAnswering, IsComing, IsCopiedTo, IsCopying, IsData, IsDeviceSound, IsFromMember, Keeps, Parts, handings, last_row, rows_before, side_of}

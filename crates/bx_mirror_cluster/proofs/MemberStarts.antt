@@ -14,14 +14,14 @@ use Rattle.bx_rows.specs.Modes.{IsSource}
 use Rattle.bx_rows.specs.declared.device.DeviceRow.{DeviceRow}
 use Rattle.bx_mirror_laws.specs.Acting.{Acts, Counts, FromEpoch, IsRow}
 use Rattle.bx_mirror_laws.specs.Sides.{Among, Handing, Side, WriteLetter}
-use Rattle.bx_mirror_laws.specs.Sound.{AreCopies, AreHanded, AreOuts, AreRows, AreWrites, AreWrotes, Standing}
+use Rattle.bx_mirror_laws.specs.Sound.{AreCopies, AreHanded, AreOuts, AreRows, AreWrites, AreWrotes, DeviceStands}
 use Rattle.bx_mirror_laws.specs.Steps.{Ages, Silent}
 use Rattle.bx_mirror_laws.proofs.Ages.{hands_age, rows_age}
 use Rattle.bx_mirror_laws.proofs.Stopping.{silent_ages, silent_copies, silent_outs, silent_stands, silent_writes, silent_wrotes}
 use Rattle.bx_mirror_tables.specs.Lasts.{last_in}
 use Rattle.bx_mirror_tables.specs.declared.answers.Owing.{Owing}
 use Rattle.bx_mirror_tables.specs.declared.lasts.Last.{Last}
-use Rattle.bx_mirror_member.specs.Standing.{Standing as Serving}
+use Rattle.bx_mirror_member.specs.Standing.{MemberView as Serving}
 use Rattle.bx_mirror_client.specs.Sends.{member_at}
 use Rattle.bx_mirror_server.specs.Sides.{copied_in, wrote_in}
 use Rattle.bx_mirror_cluster.specs.Fitting.{HasLabel, History, IsClaimed, IsComing, IsDeviceSound, IsSettledOn, Keeps, KnownFrom, NeedsLabel, Nowhere, Parts, StandsFor, handings, knows_of, last_row, outs_of, rows_before, side_of}
@@ -243,7 +243,7 @@ module _ (parts : Parts) (x y : Disks) (past : StorePast) (keeps : Keeps parts x
 
     other_stands : (From : DeviceRow → Type 0) (sector : ℕ) (content : List ℕ) → StandsFor From parts x past k sector content → StandsFor From (with_serving parts n m) y past_then k sector content
     other_stands From sector content stands =
-        by (λ s. Standing k past.told.greatest From (last_row past.told.chain k) (rows_before past.told.chain k) (handings k past.told.handed) s (IsComing past.told.letters k) past.writes sector content) stands
+        by (λ s. DeviceStands k past.told.greatest From (last_row past.told.chain k) (rows_before past.told.chain k) (handings k past.told.handed) s (IsComing past.told.letters k) past.writes sector content) stands
 
   -- ---- all of it
 

@@ -13,13 +13,13 @@ use Rattle.bx_post.specs.declared.packets.Letter.{Letter}
 use Rattle.bx_rows.specs.declared.device.DeviceRow.{DeviceRow}
 use Rattle.bx_mirror_laws.specs.Acting.{FromEpoch}
 use Rattle.bx_mirror_laws.specs.Sides.{Among, Handing, Side, WriteLetter, Wrote}
-use Rattle.bx_mirror_laws.specs.Sound.{AreCopies, AreHanded, AreOuts, AreRows, AreWrites, AreWrotes, Standing}
+use Rattle.bx_mirror_laws.specs.Sound.{AreCopies, AreHanded, AreOuts, AreRows, AreWrites, AreWrotes, DeviceStands}
 use Rattle.bx_mirror_packets.specs.DeviceMessages.{Spells}
 use Rattle.bx_mirror_packets.specs.declared.message.DeviceMessage.{DeviceMessage}
 use Rattle.bx_mirror_packets.specs.declared.message.ReadBody.{ReadBody}
 use Rattle.bx_mirror_tables.specs.Lasts.{last_in}
 use Rattle.bx_mirror_tables.specs.declared.answers.Owing.{Owing}
-use Rattle.bx_mirror_member.specs.Standing.{Standing as Serving}
+use Rattle.bx_mirror_member.specs.Standing.{MemberView as Serving}
 use Rattle.bx_mirror_client.specs.Sends.{member_at}
 use Rattle.bx_mirror_client.specs.declared.asking.Asking.{Asking}
 use Rattle.bx_mirror_server.specs.Sides.{copied_in, wrote_in}
@@ -187,7 +187,7 @@ module _ (parts : Parts) (x y : Disks) (past : StorePast) (keeps : Keeps parts x
 
     other_stands : (From : DeviceRow → Type 0) (sector : ℕ) (content : List ℕ) → StandsFor From parts x past k sector content → StandsFor From parts_next y past_next k sector content
     other_stands From sector content stands =
-        let was = by (λ s hs. Standing k past.told.greatest From (last_row past.told.chain k) (rows_before past.told.chain k) hs s (IsComing past.told.letters k) past.writes sector content) stands in record {
+        let was = by (λ s hs. DeviceStands k past.told.greatest From (last_row past.told.chain k) (rows_before past.told.chain k) hs s (IsComing past.told.letters k) past.writes sector content) stands in record {
           reads = was.reads;
           sure = was.sure;
           coming = λ c r l other is from may leads comes at come brought. was.coming c r l other is from may leads (was_coming k l comes) at come brought;

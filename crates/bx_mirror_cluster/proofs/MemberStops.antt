@@ -14,14 +14,14 @@ use Rattle.bx_global.specs.declared.state.GlobalState.{GlobalState}
 use Rattle.bx_mirror_client.specs.declared.asking.Asking.{Asking}
 use Rattle.bx_mirror_laws.specs.Acting.{FromEpoch}
 use Rattle.bx_mirror_laws.specs.Sides.{Among, Side, WriteLetter}
-use Rattle.bx_mirror_laws.specs.Sound.{AreCopies, AreHanded, AreOuts, AreRows, AreWrites, AreWrotes, Standing}
+use Rattle.bx_mirror_laws.specs.Sound.{AreCopies, AreHanded, AreOuts, AreRows, AreWrites, AreWrotes, DeviceStands}
 use Rattle.bx_mirror_laws.specs.Steps.{Ages, Silent}
 use Rattle.bx_mirror_laws.proofs.Ages.{hands_age, rows_age}
 use Rattle.bx_mirror_laws.proofs.Stopping.{silent_ages, silent_copies, silent_outs, silent_stands, silent_writes, silent_wrotes}
 use Rattle.bx_mirror_tables.specs.declared.answers.Owing.{Owing}
 use Rattle.bx_mirror_tables.specs.Lasts.{last_in}
 use Rattle.bx_mirror_tables.specs.declared.lasts.Last.{Last}
-use Rattle.bx_mirror_member.specs.Standing.{Standing as Serving}
+use Rattle.bx_mirror_member.specs.Standing.{MemberView as Serving}
 use Rattle.bx_mirror_client.specs.Sends.{member_at}
 use Rattle.bx_mirror_cluster.specs.Fitting.{HasLabel, History, IsClaimed, IsComing, IsDeviceSound, IsSettledOn, Keeps, KnownFrom, NeedsLabel, Nowhere, Parts, StandsFor, StandsOn, WillReadOn, handings, knows_of, last_row, outs_of, rows_before, side_of}
 use Rattle.bx_mirror_cluster.specs.Stopping.{Stops}
@@ -147,7 +147,7 @@ module _ (parts : Parts) (x : Disks) (past : StorePast) (n : ℕ) (members : ℕ
     other_stands : ((c : Bool) → member_at d c ≢ n) → (From : DeviceRow → Type 0) (sector : ℕ) (content : List ℕ) → StandsFor From parts x past d sector content → StandsFor From (record parts { members = members }) x (store_crashed past (Member n)) d sector content
     other_stands apart From sector content stands =
         let same : next ≡ sides = (λ i. λ c. (same_side c (apart c)) i) in
-        subst (λ s. Standing d past.told.greatest From (last_row past.told.chain d) (rows_before past.told.chain d) (handings d past.told.handed) s (IsComing past.told.letters d) past.writes sector content) (sym same) stands
+        subst (λ s. DeviceStands d past.told.greatest From (last_row past.told.chain d) (rows_before past.told.chain d) (handings d past.told.handed) s (IsComing past.told.letters d) past.writes sector content) (sym same) stands
 
     stands_for : (From : DeviceRow → Type 0) (sector : ℕ) (content : List ℕ) → 1 ≤ sector → sector < store_room parts.made → StandsFor From parts x past d sector content → StandsFor From (record parts { members = members }) x (store_crashed past (Member n)) d sector content
     stands_for From sector content low high stands = elim (same_or (member_at d false) n) [

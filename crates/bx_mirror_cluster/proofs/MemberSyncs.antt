@@ -21,7 +21,7 @@ use Rattle.bx_mirror_tables.specs.Owed.{message_of}
 use Rattle.bx_mirror_tables.specs.declared.answers.Answer.{Answer}
 use Rattle.bx_mirror_tables.specs.declared.answers.Answer.TheVariants as answers
 use Rattle.bx_mirror_tables.specs.declared.answers.Owing.{Owing}
-use Rattle.bx_mirror_member.specs.Standing.{Standing as Serving, disk_in, is_second}
+use Rattle.bx_mirror_member.specs.Standing.{MemberView as Serving, disk_in, is_second}
 use Rattle.bx_mirror_member.specs.Steps.{answer_letter, owed_letters, released}
 use Rattle.bx_mirror_client.specs.Sends.{member_at}
 use Rattle.bx_mirror_server.specs.Sides.{copied_in, side_of as side_by, wrote_in}

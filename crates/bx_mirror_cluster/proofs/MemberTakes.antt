@@ -24,7 +24,7 @@ use Rattle.bx_mirror_packets.specs.declared.message.WriteBody.{WriteBody}
 use Rattle.bx_mirror_tables.specs.Lasts.{last_in}
 use Rattle.bx_mirror_tables.specs.declared.answers.Owing.{Owing}
 use Rattle.bx_mirror_member.specs.Acting.{IsTaken}
-use Rattle.bx_mirror_member.specs.Standing.{Standing as Serving, device_in, disk_in, is_second}
+use Rattle.bx_mirror_member.specs.Standing.{MemberView as Serving, device_in, disk_in, is_second}
 use Rattle.bx_mirror_member.specs.Steps.{owing, with_write, wrote_to}
 use Rattle.bx_mirror_client.specs.Sends.{member_at}
 use Rattle.bx_mirror_server.specs.Serving.{PutsWrite}

@@ -29,7 +29,7 @@ use Rattle.bx_mirror_client.specs.declared.sending.Sending.{Sending}
 use Rattle.bx_mirror_client.proofs.Leaving.{noted_more}
 use Rattle.bx_mirror_client.proofs.Telling.{both, same_number}
 use Rattle.bx_mirror_cluster.specs.Fitting.{IsReading, IsSettledOn, Keeps, Parts, StandsOn, WillReadOn, out_by}
-use Rattle.bx_mirror_cluster.specs.GoingOn.{AreReads, GoesOn, IsAskedOn, IsSameRead, letters_more}
+use Rattle.bx_mirror_cluster.specs.GoingOn.{AreReads, StreamsGoOn, IsAskedOn, IsSameRead, letters_more}
 use Rattle.bx_mirror_cluster.specs.Speaking.{IsOfRead, IsSendable}
 use Rattle.bx_mirror_cluster.specs.NodeSteps.{IsAck, MayRead, parts_acked, parts_asked, past_asked}
 use Rattle.bx_mirror_cluster.specs.Writing.{with_node, with_stream}
@@ -59,7 +59,7 @@ module _ (parts : Parts) (x : Disks) (past : StorePast) (keeps : Keeps parts x p
   pub node_goes_on : out_by c.out ≡ out_by (parts.nodes n).out → c.rows ≡ (parts.nodes n).rows → c.session ≡ (parts.nodes n).session → c.sequence ≡ (parts.nodes n).sequence → c.boot ≡ (parts.nodes n).boot → (parts.nodes n).tag ≤ c.tag → ((s : Sending) → c.out ≡ Some s → IsSendable parts.made s)
       → ((s : Sending) → c.out ≡ Some s → (parts.nodes n).session ≡ Some s.session)
       → ((d epoch : ℕ) (b : Bool) (s : Sending) → d < parts.made.devices → c.out ≡ Some s → HasAcked s.acks (member_at d b) epoch → Among (keeps.history.wrotes d) (record { by = b; session = s.session; epoch = epoch; sequence = s.sequence }))
-      → ((a : Asking) → c.asks ≡ Some a → (c.session ≡ Some a.session) × (a.tag ≤ c.tag) × FitsRead a × IsAskedOn (parts.nodes n) a) → GoesOn parts keeps.history (with_node parts.nodes n c)
+      → ((a : Asking) → c.asks ≡ Some a → (c.session ≡ Some a.session) × (a.tag ≤ c.tag) × FitsRead a × IsAskedOn (parts.nodes n) a) → StreamsGoOn parts keeps.history (with_node parts.nodes n c)
   node_goes_on out rows session sequence boot tag sendable holding noted asked = record {
     out = λ m. kept (λ q. out_by q.out) out m;
     rows = λ m. kept (λ q. q.rows) rows m;
@@ -188,7 +188,7 @@ ack_noted parts x past n s member w keeps ack =
         subst (λ (k : ℕ). Among (keeps.history.wrotes d) (record { by = b; session = t.session; epoch = epoch; sequence = k })) sequence
         (subst (λ (k : ℕ). Among (keeps.history.wrotes d) (record { by = b; session = k; epoch = epoch; sequence = s.sequence })) session old)
 
-    on : GoesOn parts keeps.history (with_node parts.nodes n (record (parts.nodes n) { out = Some (with_ack member w.epoch s) }))
+    on : StreamsGoOn parts keeps.history (with_node parts.nodes n (record (parts.nodes n) { out = Some (with_ack member w.epoch s) }))
     on = node_goes_on parts x past keeps n (record (parts.nodes n) { out = Some (with_ack member w.epoch s) }) (kept_by.2 ∙ sym (ap out_by ack.out)) refl refl refl refl (omega arith) (λ t is. let same : with_ack member w.epoch s ≡ t = cc in subst (IsSendable parts.made) same (ack_fits parts.made member w.epoch s (keeps.sendable n s ack.out)))
         (λ t is. let same : with_ack member w.epoch s ≡ t = cc in keeps.holding n s ack.out ∙ ap (λ (k : ℕ). Some k) (sym kept_by.0) ∙ ap (λ (q : Sending). Some q.session) same) noted (λ a is. asked_still parts x past keeps n a is)
 
@@ -273,7 +273,7 @@ module _ (parts : Parts) (x : Disks) (past : StorePast) (keeps : Keeps parts x p
       by true e = inl (ap (λ (t : Bool). if t then 0 else (parts.nodes n).tag + 1) e)
       by false e = inr (let is : next_number (parts.nodes n).tag ≡ (parts.nodes n).tag + 1 = ap (λ (t : Bool). if t then 0 else (parts.nodes n).tag + 1) e in omega (arith, is))
 
-  on : GoesOn parts keeps.history (with_node parts.nodes n next)
+  on : StreamsGoOn parts keeps.history (with_node parts.nodes n next)
   on = node_goes_on parts x past keeps n next refl refl refl refl refl (omega arith) (λ s is. keeps.sendable n s is) (λ s is. keeps.holding n s is) (λ d epoch b s within is has. keeps.noted n d epoch b s within is has)
       (λ a is. let same : it ≡ a = cc in (may.own ∙ ap (λ (q : Asking). Some q.session) same, (let e = ap (λ (q : Asking). q.tag) same in omega (arith, e)), subst FitsRead same fits_it, subst (IsAskedOn (parts.nodes n)) same fresh))
 

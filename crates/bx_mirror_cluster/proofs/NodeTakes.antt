@@ -24,7 +24,7 @@ use Rattle.bx_mirror_client.specs.Streams.{Streaming, asks_in, is_session, learn
 use Rattle.bx_mirror_client.specs.declared.asking.Asking.{Asking}
 use Rattle.bx_mirror_client.specs.declared.sending.Sending.{Sending}
 use Rattle.bx_mirror_cluster.specs.Fitting.{IsReading, Keeps, Parts, out_by}
-use Rattle.bx_mirror_cluster.specs.GoingOn.{AreReads, GoesOn, IsSameRead, letters_more}
+use Rattle.bx_mirror_cluster.specs.GoingOn.{AreReads, StreamsGoOn, IsSameRead, letters_more}
 use Rattle.bx_mirror_cluster.specs.Learning.{Learned, MayLearn, knowing}
 use Rattle.bx_mirror_cluster.specs.NodeSteps.{parts_acked}
 use Rattle.bx_mirror_cluster.specs.Speaking.{IsOfRead}
@@ -244,7 +244,7 @@ ack_heard parts x past n member w letter keeps there from says = by (parts.nodes
 -- ---- it tells members of its read
 
 pub reads_more : (parts : Parts) (x : Disks) (past : StorePast) (n : ℕ) (before : List DeviceRow) (keeps : Keeps parts x past) → (parts.nodes n).node ≡ n → (a : Asking) → (parts.nodes n).asks ≡ Some a
-    → GoesOn parts keeps.history parts.nodes × AreReads parts.nodes (read_letters before (parts.nodes n).node (Some a) (parts.nodes n).rows)
+    → StreamsGoOn parts keeps.history parts.nodes × AreReads parts.nodes (read_letters before (parts.nodes n).node (Some a) (parts.nodes n).rows)
 reads_more parts x past n before keeps itself_is a e = (
   record { out = λ m. refl; rows = λ m. refl; session = λ m. refl; sequence = λ m. refl; boot = λ m. refl; tag = λ m. omega arith; sendable = keeps.sendable; askable = keeps.askable; holding = keeps.holding; noted = keeps.noted; asking = keeps.asking; asked = λ m b is. inl (b, is, itself_asked b) },
   record { kinds = λ letter there. ap (λ (l : Letter). l.kind) (is_asked before (parts.nodes n).node a (parts.nodes n).rows letter there).is; each = each },

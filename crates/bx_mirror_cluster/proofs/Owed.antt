@@ -13,7 +13,7 @@ use Rattle.bx_mirror_tables.specs.Owed.{message_of}
 use Rattle.bx_mirror_tables.specs.declared.answers.Answer.{Answer}
 use Rattle.bx_mirror_tables.specs.declared.answers.Answer.TheVariants as answers
 use Rattle.bx_mirror_tables.specs.declared.answers.Owing.{Owing}
-use Rattle.bx_mirror_member.specs.Standing.{Standing as Serving}
+use Rattle.bx_mirror_member.specs.Standing.{MemberView as Serving}
 use Rattle.bx_mirror_member.specs.Steps.{answer_letter}
 use Rattle.bx_mirror_server.specs.Sides.{copied_in, with_copied, with_wrote, wrote_in}
 

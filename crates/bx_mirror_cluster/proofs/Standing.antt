@@ -11,7 +11,7 @@ use Rattle.bx_global.specs.declared.state.GlobalState.{GlobalState}
 use Rattle.bx_rows.specs.declared.device.DeviceRow.{DeviceRow}
 use Rattle.bx_mirror_laws.specs.Acting.{FromEpoch}
 use Rattle.bx_mirror_laws.specs.Sides.{Among, Handing, Out, Side}
-use Rattle.bx_mirror_laws.specs.Sound.{Standing, sent_of}
+use Rattle.bx_mirror_laws.specs.Sound.{DeviceStands, sent_of}
 use Rattle.bx_mirror_laws.proofs.Growing.{stands_grow}
 use Rattle.bx_mirror_laws.proofs.Small.{stands_fewer, stands_last}
 use Rattle.bx_mirror_cluster.specs.Fitting.{History, IsClaimed, IsComing, IsDeviceSound, Keeps, KnownFrom, Nowhere, Parts, StandsFor, StandsOn, handings, knows_of, outs_of, row_of, row_or, rows_before, side_of}
@@ -30,8 +30,8 @@ module _ (parts : Parts) (x : Disks) (past : StorePast) (h : History) (d : ℕ) 
       (same : row_of (effect (last past.told.chain) change) d ≡ row_of (last past.told.chain) d) (older : rows_before (grown past.told.chain change) d ≡ rows_before past.told.chain d) where
     pub still_stands : (From : DeviceRow → Type 0) (sector : ℕ) (content : List ℕ) → StandsFor From parts x past d sector content → StandsFor From parts x (store_grown past change) d sector content
     still_stands From sector content stands =
-        subst (λ (l : DeviceRow). Standing d past.told.greatest From l (rows_before (grown past.told.chain change) d) handed sides (IsComing past.told.letters d) past.writes sector content) (sym same)
-        (subst (λ (o : List DeviceRow). Standing d past.told.greatest From (row_of (last past.told.chain) d) o handed sides (IsComing past.told.letters d) past.writes sector content) (sym older) stands)
+        subst (λ (l : DeviceRow). DeviceStands d past.told.greatest From l (rows_before (grown past.told.chain change) d) handed sides (IsComing past.told.letters d) past.writes sector content) (sym same)
+        (subst (λ (o : List DeviceRow). DeviceStands d past.told.greatest From (row_of (last past.told.chain) d) o handed sides (IsComing past.told.letters d) past.writes sector content) (sym older) stands)
       where
         handed : List Handing
         handed = handings d past.told.handed
@@ -55,7 +55,7 @@ module _ (parts : Parts) (x : Disks) (past : StorePast) (h : History) (d : ℕ) 
       (lived : (n : ℕ) (o : Out) → outs_of parts.nodes n ≡ Some o → LivesIn (effect (last past.told.chain) (Shift d epoch mode second boot)) o.session → LivesIn (last past.told.chain) o.session) where
     pub shift_stands : (From : DeviceRow → Type 0) (sector : ℕ) (content : List ℕ) → StandsFor From parts x past d sector content → StandsFor From parts x (store_grown past (Shift d epoch mode second boot)) d sector content
     shift_stands From sector content stands =
-        subst (λ (o : List DeviceRow). Standing d past.told.greatest From (row_of (effect (last past.told.chain) (Shift d epoch mode second boot)) d) o (handings d past.told.handed) (side_of past.told x parts.members d) (IsComing past.told.letters d) past.writes sector content)
+        subst (λ (o : List DeviceRow). DeviceStands d past.told.greatest From (row_of (effect (last past.told.chain) (Shift d epoch mode second boot)) d) o (handings d past.told.handed) (side_of past.told x parts.members d) (IsComing past.told.letters d) past.writes sector content)
         (sym (older_is parts x past h d epoch mode boot second was legal own lived))
         (stands_grow d (store_room parts.made) past.told.greatest (row_of (last past.told.chain) d) (rows_before past.told.chain d) (handings d past.told.handed) (side_of past.told x parts.members d) (h.source d) was.rows was.hands
         (record { epoch = epoch; mode = mode; second = second; boot = boot }) (handed_there d past.told.handed epoch mode boot second own) (row_of (effect (last past.told.chain) (Shift d epoch mode second boot)) d)

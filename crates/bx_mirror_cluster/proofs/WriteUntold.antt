@@ -16,7 +16,7 @@ use Rattle.bx_mirror_client.specs.Streams.{Streaming, sending}
 use Rattle.bx_mirror_client.specs.declared.asking.Asking.{Asking}
 use Rattle.bx_mirror_client.specs.declared.sending.Sending.{Sending}
 use Rattle.bx_mirror_cluster.specs.Fitting.{IsComing, IsSettledOn, Keeps, KnownFrom, Nowhere, Parts, StandsFor, StandsOn, WillReadOn, handings, last_row, out_by, rows_before, side_of}
-use Rattle.bx_mirror_cluster.specs.GoingOn.{GoesOn, letters_more}
+use Rattle.bx_mirror_cluster.specs.GoingOn.{StreamsGoOn, letters_more}
 use Rattle.bx_mirror_cluster.specs.Speaking.{FitsPacket, IsSendable}
 use Rattle.bx_mirror_cluster.specs.Writing.{parts_sent, past_sent, with_node, with_sent, with_stream, write_by}
 use Rattle.bx_mirror_cluster.proofs.GoingOn.{goes_on, reads_on, settles_on, stands_still}
@@ -124,7 +124,7 @@ module _ (parts : Parts) (x : Disks) (past : StorePast) (keeps : Keeps parts x p
   untold : out_by (Some s) ≡ out_by (parts.nodes n).out
   untold = ap (λ (t : Bool). if t then None else Some (record { session = session; sequence = next_number (parts.nodes n).sequence; until = until; runs = runs.1 })) no_number ∙ sym (ap out_by none)
 
-  on : GoesOn parts keeps.history (with_node parts.nodes n next)
+  on : StreamsGoOn parts keeps.history (with_node parts.nodes n next)
   on = node_goes_on parts x past keeps n next untold refl refl (omega (arith, zero_is)) refl (omega arith)
       (λ t is. let same : s ≡ t = cc in subst (λ (w : Sending). IsSendable parts.made w) same (record { packet = fits; runs = are }))
       (λ t is. let same : s ≡ t = cc in own ∙ ap (λ (w : Sending). Some w.session) same)

@@ -4,7 +4,7 @@ use Rattle.bx_base.specs.declared.names.Actor.{Actor}
 use Rattle.bx_base.specs.declared.names.Actor.TheVariants.{Member, Node}
 use Rattle.bx_facts.specs.Pasts.{Told}
 use Rattle.bx_facts.specs.Writes.{Made, StorePast}
-use Rattle.bx_mirror_member.specs.Standing.{Standing as Serving}
+use Rattle.bx_mirror_member.specs.Standing.{MemberView as Serving}
 use Rattle.bx_mirror_cluster.specs.Fitting.{Parts}
 
 -- A machine is no node, and no member of the volume.

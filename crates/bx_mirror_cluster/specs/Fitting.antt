@@ -28,13 +28,13 @@ use Rattle.bx_mirror_packets.specs.declared.message.DeviceMessage.{DeviceMessage
 use Rattle.bx_mirror_packets.specs.declared.message.DeviceMessage.TheVariants.{Write, Wrote as WroteOf, Read, Data, Copy, Copied as CopiedOf, Alive}
 use Rattle.bx_mirror_laws.specs.Sides.{Among, Copied, CopyLetter, Handing, Out, Side, WriteLetter, Wrote}
 use Rattle.bx_mirror_laws.specs.Acting.{FromEpoch, IsRow, MayLead}
-use Rattle.bx_mirror_laws.specs.Sound.{AreCopies, AreHanded, AreOuts, AreRows, AreWrites, AreWrotes, IsLate, Standing, sent_of}
+use Rattle.bx_mirror_laws.specs.Sound.{AreCopies, AreHanded, AreOuts, AreRows, AreWrites, AreWrotes, IsLate, DeviceStands, sent_of}
 use Rattle.bx_mirror_tables.specs.Lasts.{last_in}
 use Rattle.bx_mirror_tables.specs.Owed.{message_of}
 use Rattle.bx_mirror_tables.specs.declared.answers.Answer.{Answer}
 use Rattle.bx_mirror_tables.specs.declared.answers.Answer.TheVariants as answers
 use Rattle.bx_mirror_tables.specs.declared.answers.Owing.{Owing}
-use Rattle.bx_mirror_member.specs.Standing.{Standing as Serving}
+use Rattle.bx_mirror_member.specs.Standing.{MemberView as Serving}
 use Rattle.bx_mirror_server.specs.Sides.{copied_in, wrote_in}
 use Rattle.bx_mirror_client.specs.Asks.{FitsRead}
 use Rattle.bx_mirror_client.specs.Sends.{member_at}
@@ -192,7 +192,7 @@ KnownFrom chain d index r = (s : GlobalState) × IsPlace chain s × (index ≤ s
 
 abbrev pub StandsFor : (DeviceRow → Type 0) → Parts → Disks → StorePast → ℕ → ℕ → List ℕ → Type 0
 StandsFor From parts x past d sector content =
-    Standing d past.told.greatest From (last_row past.told.chain d) (rows_before past.told.chain d) (handings d past.told.handed) (side_of past.told x parts.members d) (IsComing past.told.letters d) past.writes sector content
+    DeviceStands d past.told.greatest From (last_row past.told.chain d) (rows_before past.told.chain d) (handings d past.told.handed) (side_of past.told x parts.members d) (IsComing past.told.letters d) past.writes sector content
 
 -- It is a sector of the volume, behind the label; members that an audit reads have the content surely, in the last state and in each that a change
 -- which was handed back may make of it.

@@ -32,7 +32,7 @@ abbrev pub IsAskedOn : Streaming → Asking → Type 0
 IsAskedOn c a = ((was : Asking) × (c.asks ≡ Some was) × IsSameRead was a) ⊎ ((a.tag ≡ 0) ⊎ (c.tag < a.tag))
 
 -- Streams have out what they had, know what they knew, and what they have noted was answered.
-pub record GoesOn (parts : Parts) (history : History) (nodes : ℕ → Streaming) : Type 0 where
+pub record StreamsGoOn (parts : Parts) (history : History) (nodes : ℕ → Streaming) : Type 0 where
   pub out : (m : ℕ) → out_by (nodes m).out ≡ out_by (parts.nodes m).out
   pub rows : (m : ℕ) → (nodes m).rows ≡ (parts.nodes m).rows
   pub session : (m : ℕ) → (nodes m).session ≡ (parts.nodes m).session

@@ -16,7 +16,7 @@ use Rattle.bx_mirror_packets.specs.declared.message.DeviceMessage.TheVariants.{C
 use Rattle.bx_mirror_packets.specs.declared.message.CopyBody.{CopyBody}
 use Rattle.bx_mirror_packets.specs.declared.message.WriteBody.{WriteBody}
 use Rattle.bx_mirror_laws.specs.Sides.{Copied, CopyLetter, Wrote}
-use Rattle.bx_mirror_member.specs.Standing.{Standing as Serving}
+use Rattle.bx_mirror_member.specs.Standing.{MemberView as Serving}
 use Rattle.bx_mirror_cluster.specs.Fitting.{History, Parts}
 
 -- one member is another

@@ -5,7 +5,7 @@ use Rattle.bx_disk.specs.Disks.{Disks, Stays}
 use Rattle.bx_facts.specs.Disks.{SameMemberLengths}
 use Rattle.bx_facts.specs.Machines.{put_at}
 use Rattle.bx_facts.specs.Writes.{Made, StorePast, member_disk}
-use Rattle.bx_mirror_member.specs.Standing.{Standing}
+use Rattle.bx_mirror_member.specs.Standing.{MemberView}
 use Rattle.bx_mirror_cluster.specs.Fitting.{HasLabel}
 
 -- the past once a node has a boot, and knows nothing yet
@@ -30,7 +30,7 @@ awaking past n boot failed = record past {
 
 -- A member of a device has started in a boot, or its disk failed: it knows and owes nothing. Behind the label its disk reads as it did, and what was
 -- sure is. Once it started it has its label, else it has it where it had it.
-pub record IsBooted (made : Made) (x y : Disks) (d : ℕ) (b failed : Bool) (boot : ℕ) (m : Standing) : Type 0 where
+pub record IsBooted (made : Made) (x y : Disks) (d : ℕ) (b failed : Bool) (boot : ℕ) (m : MemberView) : Type 0 where
   pub boot_is : failed ≡ false → m.boot ≡ boot
   pub row : m.row ≡ None
   pub lasts : m.lasts ≡ []

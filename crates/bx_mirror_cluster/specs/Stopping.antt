@@ -1,6 +1,6 @@
 -- A member stops.
 use Rattle.std.specs.Prelude.{◌≡◌, ◌≢◌, ℕ, [], None}
-use Rattle.bx_mirror_member.specs.Standing.{Standing as Serving}
+use Rattle.bx_mirror_member.specs.Standing.{MemberView as Serving}
 use Rattle.bx_mirror_cluster.specs.Fitting.{Parts}
 
 -- What one member knew and owed is gone, and all others are as they were.

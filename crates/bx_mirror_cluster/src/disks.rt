@@ -6,7 +6,7 @@ ghost use Rattle.bx_disk.specs.Disks.{Disks, Stays};
 ghost use Rattle.bx_facts.specs.Chains.{last};
 ghost use Rattle.bx_facts.specs.Disks.{Crashes, SameMemberLengths, SameMembers};
 ghost use Rattle.bx_facts.specs.Writes.{StorePast, member_disk, store_crashed};
-ghost use Rattle.bx_mirror_member.specs.Standing.{Standing};
+ghost use Rattle.bx_mirror_member.specs.Standing.{MemberView};
 ghost use Rattle.bx_mirror_client.specs.Sends.{member_at};
 ghost use Rattle.bx_mirror_client.specs.declared.asking.Asking.{Asking};
 ghost use Rattle.bx_mirror_cluster.specs.Fitting.{IsSettledOn, IsSideAlone, Keeps, Parts, StandsOn, WillReadOn, row_of};
@@ -49,11 +49,11 @@ pub fn disks_are_surer()
 
 /// Members and streams go on fitting the past where a member stops: what it knew and owed is gone, and its disk stays.
 pub fn a_member_stops()
-    ensures keeps { (parts : Parts) (x : Disks) (past : StorePast) (member : ℕ) (members : ℕ → Standing) → Keeps parts x past → Stops parts members member → Keeps (record parts { members = members }) x (store_crashed past (Member member)) }
-    ensures stands { (parts : Parts) (x : Disks) (past : StorePast) (member device sector : ℕ) (members : ℕ → Standing) (content : List ℕ) (index : ℕ) → Keeps parts x past → Stops parts members member
+    ensures keeps { (parts : Parts) (x : Disks) (past : StorePast) (member : ℕ) (members : ℕ → MemberView) → Keeps parts x past → Stops parts members member → Keeps (record parts { members = members }) x (store_crashed past (Member member)) }
+    ensures stands { (parts : Parts) (x : Disks) (past : StorePast) (member device sector : ℕ) (members : ℕ → MemberView) (content : List ℕ) (index : ℕ) → Keeps parts x past → Stops parts members member
         → StandsOn parts x past device sector content index → StandsOn (record parts { members = members }) x (store_crashed past (Member member)) device sector content index }
-    ensures settles { (parts : Parts) (x : Disks) (past : StorePast) (member device sector : ℕ) (members : ℕ → Standing) (content : List ℕ) → Keeps parts x past → Stops parts members member
+    ensures settles { (parts : Parts) (x : Disks) (past : StorePast) (member device sector : ℕ) (members : ℕ → MemberView) (content : List ℕ) → Keeps parts x past → Stops parts members member
         → IsSettledOn parts x past device sector content → IsSettledOn (record parts { members = members }) x (store_crashed past (Member member)) device sector content }
-    ensures reads { (parts : Parts) (x : Disks) (past : StorePast) (member reader : ℕ) (members : ℕ → Standing) (read : Asking) (sector : ℕ) (content : List ℕ) → Keeps parts x past → Stops parts members member
+    ensures reads { (parts : Parts) (x : Disks) (past : StorePast) (member reader : ℕ) (members : ℕ → MemberView) (read : Asking) (sector : ℕ) (content : List ℕ) → Keeps parts x past → Stops parts members member
         → WillReadOn parts x past reader read sector content → WillReadOn (record parts { members = members }) x (store_crashed past (Member member)) reader read sector content }
 {}

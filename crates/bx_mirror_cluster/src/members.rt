@@ -16,7 +16,7 @@ ghost use Rattle.bx_post.specs.declared.packets.Letter.{Letter};
 ghost use Rattle.bx_records.specs.declared.runs.Run.{Run};
 ghost use Rattle.bx_mirror_client.specs.Sends.{member_at};
 ghost use Rattle.bx_mirror_member.specs.Acting.{IsCopiedHere, IsTaken};
-ghost use Rattle.bx_mirror_member.specs.Standing.{Standing, device_in, is_second, learned};
+ghost use Rattle.bx_mirror_member.specs.Standing.{MemberView, device_in, is_second, learned};
 ghost use Rattle.bx_mirror_laws.specs.Steps.{PartlyTaken, PieceChanged};
 ghost use Rattle.bx_mirror_packets.specs.declared.message.CopyBody.{CopyBody};
 ghost use Rattle.bx_mirror_packets.specs.declared.message.WriteBody.{WriteBody};
@@ -31,7 +31,7 @@ ghost use Rattle.bx_mirror_cluster.specs.Starting.{IsBooted};
 /// All that a member does in one event: it learns the state that it is handed, and takes what comes. Members and streams fit the past again, with its
 /// letters and the change that it hands back, and what was settled, stood or is read goes on, where members write nothing else.
 pub fn a_member_takes()
-    ensures { (parts : Parts) (x y : Disks) (past : StorePast) (device : ℕ) (second : Bool) (known : GlobalState) (input : Input) (new : Standing) (change : Option Change) (before after : List Letter) → Keeps parts x (store_with past before) → device < parts.made.devices
+    ensures { (parts : Parts) (x y : Disks) (past : StorePast) (device : ℕ) (second : Bool) (known : GlobalState) (input : Input) (new : MemberView) (change : Option Change) (before after : List Letter) → Keeps parts x (store_with past before) → device < parts.made.devices
         → MayServe parts (store_with past before) (member_at device second) known → Arrives (past.told.letters ++ before) input → IsFor (Member (member_at device second)) input → IsSteady past.told.greatest input
         → ((disk sector : ℕ) → disk ≢ member_disk device second → Stays x y disk sector) → SameMemberLengths x y → Does (Unit {0}) known input (parts.members (member_at device second)) new change before after x y
         → GoesFurther parts (with_serving parts (member_at device second) new) x y (store_with past before) (store_with (store_heard past (Member (member_at device second)) known.index input change) after) }
@@ -73,10 +73,10 @@ pub fn an_event_is_cut()
 /// A member that is down starts again in a later boot, with its label; or its disk fails, and it stays down: members and streams go on fitting the
 /// past, and what was settled, stood or is read goes on.
 pub fn a_member_starts()
-    ensures started { (parts : Parts) (x y : Disks) (past : StorePast) (device : ℕ) (second : Bool) (boot reading : ℕ) (member : Standing) → Keeps parts x past → past.told.down (Member (member_at device second)) ≡ true
+    ensures started { (parts : Parts) (x y : Disks) (past : StorePast) (device : ℕ) (second : Bool) (boot reading : ℕ) (member : MemberView) → Keeps parts x past → past.told.down (Member (member_at device second)) ≡ true
         → past.told.boots (Member (member_at device second)) < boot → IsBooted parts.made x y device second false boot member
         → GoesFurther parts (with_serving parts (member_at device second) member) x y past (store_restarted past (Member (member_at device second)) boot reading) }
-    ensures failed { (parts : Parts) (x y : Disks) (past : StorePast) (device : ℕ) (second : Bool) (boot reading : ℕ) (member : Standing) → Keeps parts x past → past.told.down (Member (member_at device second)) ≡ true
+    ensures failed { (parts : Parts) (x y : Disks) (past : StorePast) (device : ℕ) (second : Bool) (boot reading : ℕ) (member : MemberView) → Keeps parts x past → past.told.down (Member (member_at device second)) ≡ true
         → past.told.boots (Member (member_at device second)) < boot → IsBooted parts.made x y device second true boot member
         → GoesFurther parts (with_serving parts (member_at device second) member) x y past (store_failed past (Member (member_at device second)) boot reading) }
 {}

@@ -1,3 +1,3 @@
-pub mod Standing
+pub mod MemberView
 pub mod Acting
 pub mod Steps

@@ -14,7 +14,7 @@ use Rattle.bx_mirror_member.specs.declared.copies.Piece.{Piece}
 -- A member: its number, what it is made for, and its boot; the row of its device that it learned last since it started; the last sequences that
 -- it took in that row's epoch; the answers that it owes, and whether it owes a sync; when it heard its partner last; and the place of the current
 -- piece of a copy that it makes, 0 where it makes none.
-pub record Standing : Type 0 where
+pub record MemberView : Type 0 where
   pub number : ℕ
   pub made : Made
   pub boot : ℕ
@@ -27,26 +27,26 @@ pub record Standing : Type 0 where
 
 -- ---- which member it is: A, or B (second), of its device
 
-abbrev pub device_in : Standing → ℕ
+abbrev pub device_in : MemberView → ℕ
 device_in m = m.number / 2
 
-abbrev pub is_second : Standing → Bool
+abbrev pub is_second : MemberView → Bool
 is_second m = m.number % 2 == 1
 
-abbrev pub disk_in : Standing → ℕ
+abbrev pub disk_in : MemberView → ℕ
 disk_in m = 3 + m.number
 
-abbrev pub room_in : Standing → ℕ
+abbrev pub room_in : MemberView → ℕ
 room_in m = store_room m.made
 
-abbrev pub me : Standing → Actor
+abbrev pub me : MemberView → Actor
 me m = actors.Member m.number
 
-abbrev pub partner : Standing → Actor
+abbrev pub partner : MemberView → Actor
 partner m = actors.Member (if is_second m then m.number - 1 else m.number + 1)
 
 -- The volume has such a member, the current piece begins within the device, and where no sync is owed nothing is.
-pub record IsStanding (m : Standing) : Type 0 where
+pub record IsMemberView (m : MemberView) : Type 0 where
   pub least_devices : 1 ≤ m.made.devices
   pub most_devices : m.made.devices ≤ 4
   pub least_areas : 1 ≤ m.made.areas
@@ -56,19 +56,19 @@ pub record IsStanding (m : Standing) : Type 0 where
   pub quiet : m.due ≡ false → m.owed ≡ []
 
 -- one that nothing was done with
-abbrev pub new_member : ℕ → Made → Standing
+abbrev pub new_member : ℕ → Made → MemberView
 new_member number made = record { number = number; made = made; boot = 0; row = None; lasts = []; owed = []; due = false; heard = 0; place = 0 }
 
 -- one that has stopped: what it knew and owed is gone
-abbrev pub stopped : Standing → Standing
+abbrev pub stopped : MemberView → MemberView
 stopped m = record { number = m.number; made = m.made; boot = m.boot; row = None; lasts = []; owed = []; due = false; heard = m.heard; place = 0 }
 
 -- and that starts in a boot
-abbrev pub started : ℕ → Standing → Standing
+abbrev pub started : ℕ → MemberView → MemberView
 started boot m = record { number = m.number; made = m.made; boot = boot; row = None; lasts = []; owed = []; due = false; heard = m.heard; place = 0 }
 
 -- it hears its partner
-abbrev pub hearing : ℕ → Standing → Standing
+abbrev pub hearing : ℕ → MemberView → MemberView
 hearing reading m = record m { heard = reading }
 
 -- ---- rows
@@ -78,11 +78,11 @@ abbrev pub copy_from : Bool → ℕ
 copy_from false = copy_ab
 copy_from true = copy_ba
 
-abbrev pub is_named : Standing → DeviceRow → Bool
+abbrev pub is_named : MemberView → DeviceRow → Bool
 is_named m row = boot_in (is_second m) row == m.boot
 
 -- in this row it makes a copy
-abbrev pub copies : Standing → DeviceRow → Bool
+abbrev pub copies : MemberView → DeviceRow → Bool
 copies m row = is_named m row && (row.mode == copy_from (is_second m))
 
 -- a row of another epoch is new
@@ -91,33 +91,33 @@ is_news None row = true
 is_news (Some known) row = not (known.epoch == row.epoch)
 
 -- in a new row nothing was taken yet, and a copy begins behind the label
-abbrev pub with_row : Standing → DeviceRow → Standing
+abbrev pub with_row : MemberView → DeviceRow → MemberView
 with_row m row = record m { row = Some row; lasts = []; place = if copies m row then 1 else 0 }
 
-abbrev pub learned_row : Standing → Option DeviceRow → Standing
+abbrev pub learned_row : MemberView → Option DeviceRow → MemberView
 learned_row m None = m
 learned_row m (Some row) = if is_news m.row row then with_row m row else m
 
-abbrev pub learned : GlobalState → Standing → Standing
+abbrev pub learned : GlobalState → MemberView → MemberView
 learned known m = learned_row m (slice_get known.devices (device_in m))
 
 -- ---- pieces of a copy: of 64 sectors, the last one of what is left
 
-abbrev pub piece_at : Standing → ℕ → ℕ → Piece
+abbrev pub piece_at : MemberView → ℕ → ℕ → Piece
 piece_at m epoch place = record { epoch = epoch; place = place; sectors = min 64 (room_in m - place) }
 
 -- the piece with which a copy begins as a row is learned
-abbrev pub first_piece_in : Standing → Option DeviceRow → Option Piece
+abbrev pub first_piece_in : MemberView → Option DeviceRow → Option Piece
 first_piece_in m None = None
 first_piece_in m (Some row) = if is_news m.row row && copies m row then Some (piece_at m row.epoch 1) else None
 
-abbrev pub first_piece : GlobalState → Standing → Option Piece
+abbrev pub first_piece : GlobalState → MemberView → Option Piece
 first_piece known m = first_piece_in m (slice_get known.devices (device_in m))
 
 -- the current one
-abbrev pub piece_in : Standing → Option DeviceRow → Option Piece
+abbrev pub piece_in : MemberView → Option DeviceRow → Option Piece
 piece_in m None = None
 piece_in m (Some row) = if copies m row && not (m.place == 0) then Some (piece_at m row.epoch m.place) else None
 
-abbrev pub current_piece : Standing → Option Piece
+abbrev pub current_piece : MemberView → Option Piece
 current_piece m = piece_in m m.row

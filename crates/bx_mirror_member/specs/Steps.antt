@@ -20,7 +20,7 @@ use Rattle.bx_mirror_tables.specs.Owed.{message_of}
 use Rattle.bx_mirror_member.specs.declared.copies.Progress.{Progress}
 use Rattle.bx_mirror_member.specs.declared.copies.Progress.TheVariants.{Unchanged, Next, Whole}
 use Rattle.bx_mirror_member.specs.Acting.{IsNoted}
-use Rattle.bx_mirror_member.specs.Standing.{Standing, copy_from, device_in, is_named, is_second, me, partner, piece_at, room_in}
+use Rattle.bx_mirror_member.specs.Standing.{MemberView, copy_from, device_in, is_named, is_second, me, partner, piece_at, room_in}
 
 -- ---- answers
 
@@ -34,36 +34,36 @@ wrote_to w = Wrote (record { session = w.session; device = w.device; epoch = w.e
 abbrev pub copied_of : CopyBody → CopiedBody
 copied_of c = record { device = c.device; epoch = c.epoch; place = c.place }
 
-abbrev pub answer_letter : Standing → Owing → Letter
+abbrev pub answer_letter : MemberView → Owing → Letter
 answer_letter m o = letter_with (me m) o.to (message_of o.answer)
 
 -- a write, or a piece, stands on the disk: its answer waits for a sync
-abbrev pub with_write : Actor → WriteBody → Standing → Standing
+abbrev pub with_write : Actor → WriteBody → MemberView → MemberView
 with_write from w m = record m { lasts = noted m.lasts w.session w.sequence; owed = m.owed ++ owing from (wrote_to w) ∷ []; due = true }
 
-abbrev pub with_piece : Actor → CopiedBody → Standing → Standing
+abbrev pub with_piece : Actor → CopiedBody → MemberView → MemberView
 with_piece from c m = record m { owed = m.owed ++ owing from (Copied c) ∷ []; due = true }
 
-abbrev pub with_owing : Owing → Standing → Standing
+abbrev pub with_owing : Owing → MemberView → MemberView
 with_owing o m = record m { owed = m.owed ++ o ∷ [] }
 
 -- A write came before: it is answered at once, or with the sync that is owed, and then once.
-pub record Repeats (from : Actor) (w : WriteBody) (m new : Standing) (before after : List Letter) : Type 0 where
+pub record Repeats (from : Actor) (w : WriteBody) (m new : MemberView) (before after : List Letter) : Type 0 where
   pub at_once : m.due ≡ false → (new ≡ m) × (after ≡ before ++ answer_letter m (owing from (wrote_to w)) ∷ [])
   pub waits : m.due ≡ true → after ≡ before
   pub once : m.due ≡ true → Contains m.owed (owing from (wrote_to w)) → new ≡ m
   pub owes : m.due ≡ true → (Contains m.owed (owing from (wrote_to w)) → ⊥) → new ≡ with_owing (owing from (wrote_to w)) m
 
 -- the disk was synced: all that is owed goes, in its order
-abbrev pub released : Standing → Standing
+abbrev pub released : MemberView → MemberView
 released m = record m { owed = []; due = false }
 
-abbrev pub owed_letters : Standing → List Letter
+abbrev pub owed_letters : MemberView → List Letter
 owed_letters m = map (answer_letter m) m.owed
 
 -- ---- changes of the mode
 
-abbrev pub shift : Standing → DeviceRow → ℕ → Change
+abbrev pub shift : MemberView → DeviceRow → ℕ → Change
 shift m row mode = Shift (device_in m) row.epoch mode (is_second m) m.boot
 
 -- this member alone
@@ -71,45 +71,45 @@ abbrev pub only : Bool → ℕ
 only second = only_other (not second)
 
 -- it may go on alone: both are written, or it makes a copy
-abbrev pub may_alone : Standing → DeviceRow → Bool
+abbrev pub may_alone : MemberView → DeviceRow → Bool
 may_alone m row = (row.mode == both) || (row.mode == copy_from (is_second m))
 
 -- its partner was heard more than 2000 ms before a reading
-abbrev pub is_silent : Standing → ℕ → Bool
+abbrev pub is_silent : MemberView → ℕ → Bool
 is_silent m reading = ltb (m.heard + 2000) reading
 
 -- What it proposes at a tick. Where it is left out, a copy onto itself; where its boot isn't named, its own boot in the same mode; where its
 -- partner is silent, itself alone.
-abbrev pub proposes : Standing → DeviceRow → ℕ → Option Change
+abbrev pub proposes : MemberView → DeviceRow → ℕ → Option Change
 proposes m row reading =
     if row.mode == only_other (is_second m) then Some (shift m row (copy_from (not (is_second m))))
     else if not (is_named m row) then Some (shift m row row.mode)
     else if may_alone m row && is_silent m reading then Some (shift m row (only (is_second m)))
     else None
 
-abbrev pub proposes_in : Standing → Option DeviceRow → ℕ → Option Change
+abbrev pub proposes_in : MemberView → Option DeviceRow → ℕ → Option Change
 proposes_in m None reading = None
 proposes_in m (Some row) reading = proposes m row reading
 
 -- the sign of life
-abbrev pub alive_letter : Standing → Letter
+abbrev pub alive_letter : MemberView → Letter
 alive_letter m = letter_with (me m) (partner m) Alive
 
 -- ---- a copy goes on
 
 -- no piece stands behind the current one
-abbrev pub is_last_piece : Standing → Bool
+abbrev pub is_last_piece : MemberView → Bool
 is_last_piece m = not (ltb (m.place + 64) (room_in m))
 
 -- What an answer to a piece makes of a copy. Behind the last piece both members are whole, and the last piece stays the current one.
-abbrev pub progress_in : Standing → DeviceRow → Progress
+abbrev pub progress_in : MemberView → DeviceRow → Progress
 progress_in m row = if is_last_piece m then Whole (shift m row both) else Next (piece_at m row.epoch (m.place + 64))
 
-pub record IsProgress (m : Standing) (c : CopiedBody) (progress : Progress) : Type 0 where
+pub record IsProgress (m : MemberView) (c : CopiedBody) (progress : Progress) : Type 0 where
   pub noted : (row : DeviceRow) → IsNoted m c row → progress ≡ progress_in m row
   pub ignored : ((row : DeviceRow) → IsNoted m c row → ⊥) → progress ≡ Unchanged
 
-abbrev pub gone_on : Progress → Standing → Standing
+abbrev pub gone_on : Progress → MemberView → MemberView
 gone_on Unchanged m = m
 gone_on (Next piece) m = record m { place = piece.place }
 gone_on (Whole change) m = m

@@ -59,13 +59,13 @@ fn label_of(volume: u64, disk: u32, devices: u32, areas: u32) -> Label
 
 impl Model for Member {
     ghost use Rattle.std.specs.Prelude.{slice_index};
-    ghost use Rattle.bx_mirror_member.specs.Standing.{IsStanding, Standing};
+    ghost use Rattle.bx_mirror_member.specs.Standing.{IsMemberView, MemberView};
 
-    ghost Value = { Standing };
+    ghost Value = { MemberView };
 
     ghost view = { λ m. record { number = m.number; made = record { volume = m.volume; nodes = m.nodes; devices = m.devices; areas = m.areas }; boot = m.boot; row = m.row; lasts = m.lasts.items; owed = m.owed.items; due = m.due; heard = slice_index m.detector 0; place = m.place } };
 
-    ghost invariant = { λ m. IsStanding (record { number = m.number; made = record { volume = m.volume; nodes = m.nodes; devices = m.devices; areas = m.areas }; boot = m.boot; row = m.row; lasts = m.lasts.items; owed = m.owed.items; due = m.due; heard = slice_index m.detector 0; place = m.place }) };
+    ghost invariant = { λ m. IsMemberView (record { number = m.number; made = record { volume = m.volume; nodes = m.nodes; devices = m.devices; areas = m.areas }; boot = m.boot; row = m.row; lasts = m.lasts.items; owed = m.owed.items; due = m.due; heard = slice_index m.detector 0; place = m.place }) };
 }
 
 impl Member {

@@ -12,12 +12,12 @@ use Rattle.bx_mirror_packets.specs.DeviceMessages.{IsCopyBody, IsRunOf, IsWriteB
 use Rattle.bx_mirror_packets.specs.declared.message.CopyBody.{CopyBody}
 use Rattle.bx_mirror_packets.specs.declared.message.WriteBody.{WriteBody}
 use Rattle.bx_mirror_member.specs.Acting.{IsCopiedHere, IsOpen}
-use Rattle.bx_mirror_member.specs.Standing.{Standing, device_in, disk_in, is_second, room_in}
+use Rattle.bx_mirror_member.specs.Standing.{MemberView, device_in, disk_in, is_second, room_in}
 use Rattle.bx_mirror_server.specs.Serving.{run_of}
 use Rattle.bx_records.specs.declared.runs.Run.{Run}
 
 -- its disk is a member's of its device
-pub own_disk : (m : Standing) → disk_in m ≡ member_disk (device_in m) (is_second m)
+pub own_disk : (m : MemberView) → disk_in m ≡ member_disk (device_in m) (is_second m)
 own_disk m = by_test (m.number % 2 == 1) refl
   where
     by_test : (b : Bool) → (m.number % 2 == 1) ≡ b → disk_in m ≡ member_disk (device_in m) b
@@ -30,7 +30,7 @@ each_of P (y ∷ ys) x all (zero, less, is) = subst P is all.0
 each_of P (y ∷ ys) x all (suc k, less, is) = each_of P ys x all.1 (k, omega (arith, less), is)
 
 -- the runs of a write that isn't refused lie in the device
-pub writes_lie : (m : Standing) (reading : ℕ) (w : WriteBody) → IsWriteBody w → IsOpen m reading w → AllLieIn (device_in m) (room_in m) w.runs.1
+pub writes_lie : (m : MemberView) (reading : ℕ) (w : WriteBody) → IsWriteBody w → IsOpen m reading w → AllLieIn (device_in m) (room_in m) w.runs.1
 writes_lie m reading w body opens = record {
   each = λ run has.
       let of : IsRunOf w.device run = each_of (IsRunOf w.device) w.runs.1 run body.each has in
@@ -39,7 +39,7 @@ writes_lie m reading w body opens = record {
 }
 
 -- and so does a piece of a copy that is taken
-pub piece_lies : (m : Standing) (c : CopyBody) → IsCopyBody c → IsCopiedHere m c → AllLieIn (device_in m) (room_in m) (run_of c ∷ [])
+pub piece_lies : (m : MemberView) (c : CopyBody) → IsCopyBody c → IsCopiedHere m c → AllLieIn (device_in m) (room_in m) (run_of c ∷ [])
 piece_lies m c body here = record { each = λ run has. subst (LiesIn (device_in m) (room_in m)) (only_run run has) (record { on = here.acts.device_is; whole = body.3; behind_label = here.inside.behind_label; within = here.inside.within }) }
   where
     only_run : (run : Run) → Contains (run_of c ∷ []) run → run_of c ≡ run

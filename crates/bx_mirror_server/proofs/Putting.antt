@@ -6,12 +6,12 @@ use Rattle.bx_facts.specs.Writes.{Sent, member_disk}
 use Rattle.bx_members.specs.Members.{HasMembers, KeepsMembers}
 use Rattle.bx_mirror_disks.proofs.Putting.{lone_brought}
 use Rattle.bx_mirror_disks.specs.Puts.{AllLieIn, AreBrought, PutsRuns}
-use Rattle.bx_mirror_member.specs.Standing.{Standing, device_in, disk_in, is_second, room_in}
+use Rattle.bx_mirror_member.specs.Standing.{MemberView, device_in, disk_in, is_second, room_in}
 use Rattle.bx_mirror_server.specs.Working.{Works, alone}
 use Rattle.bx_mirror_server.proofs.Places.{own_disk}
 use Rattle.bx_records.specs.declared.runs.Run.{Run}
 
-module _ {R : Type 0} (rack : racks.Ghosts R) (old new : R) (m : Standing) (runs : List Run) (disk room : ℕ) (disk_is : disk ≡ disk_in m) (room_is : room ≡ room_in m) (lie : AllLieIn (device_in m) (room_in m) runs) where
+module _ {R : Type 0} (rack : racks.Ghosts R) (old new : R) (m : MemberView) (runs : List Run) (disk room : ℕ) (disk_is : disk ≡ disk_in m) (room_is : room ≡ room_in m) (lie : AllLieIn (device_in m) (room_in m) runs) where
   own : disk ≡ member_disk (device_in m) (is_second m)
   own = disk_is ∙ own_disk m
 

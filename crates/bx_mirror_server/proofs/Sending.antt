@@ -21,7 +21,7 @@ use Rattle.bx_mirror_tables.specs.Owed.{message_of}
 use Rattle.bx_mirror_member.specs.declared.copies.Piece.{Piece}
 use Rattle.bx_mirror_member.specs.declared.judging.Judgement.{Judgement}
 use Rattle.bx_mirror_member.specs.declared.judging.Judgement.TheVariants.{Taken, Repeated, Refused}
-use Rattle.bx_mirror_member.specs.Standing.{Standing, me}
+use Rattle.bx_mirror_member.specs.Standing.{MemberView, me}
 use Rattle.bx_mirror_member.specs.Steps.{Repeats, alive_letter, answer_letter, owed_letters, owing, wrote_to}
 use Rattle.bx_mirror_server.specs.Serving.{Does, DoesWrite, OfInput, OfMessage, OfSaid, SendsAny}
 
@@ -61,28 +61,28 @@ answer_is : (from to : Actor) (answer : Answer) → IsStores (letter_with from t
 answer_is from to (answers.Wrote w) = record { least = lit≤ tt; most = lit≤ tt }
 answer_is from to (answers.Copied c) = record { least = lit≤ tt; most = lit≤ tt }
 
-owed_are : (m : Standing) (owed : List Owing) → AreStores (map (answer_letter m) owed)
+owed_are : (m : MemberView) (owed : List Owing) → AreStores (map (answer_letter m) owed)
 owed_are m [] = are_none
 owed_are m (o ∷ owed) = are_more (answer_letter m o) (map (answer_letter m) owed) (answer_is (me m) o.to o.answer) (owed_are m owed)
 
 module _ (Told : Type 0) where
-  any_sent : (m : Standing) (piece : Option Piece) (x : Disks) (before after : List Letter) → SendsAny Told m piece x before after → Only before after
+  any_sent : (m : MemberView) (piece : Option Piece) (x : Disks) (before after : List Letter) → SendsAny Told m piece x before after → Only before after
   any_sent m None x before after sends = none_sent before after sends
   any_sent m (Some piece) x before after sends = one_sent before _ after (record { least = lit≤ tt; most = lit≤ tt }) sends.sends
 
-  repeat_sent : (from : Actor) (w : WriteBody) (m new : Standing) (before after : List Letter) → Repeats from w m new before after → Only before after
+  repeat_sent : (from : Actor) (w : WriteBody) (m new : MemberView) (before after : List Letter) → Repeats from w m new before after → Only before after
   repeat_sent from w m new before after of = by_due m.due refl
     where
       by_due : (due : Bool) → m.due ≡ due → Only before after
       by_due true is = none_sent before after (of.waits is)
       by_due false is = one_sent before (answer_letter m (owing from (wrote_to w))) after (answer_is (me m) from (wrote_to w)) (of.at_once is).1
 
-  write_sent : (judgement : Judgement) (from : Actor) (w : WriteBody) (m new : Standing) (before after : List Letter) (old now : Disks) → DoesWrite Told judgement from w m new before after old now → Only before after
+  write_sent : (judgement : Judgement) (from : Actor) (w : WriteBody) (m new : MemberView) (before after : List Letter) (old now : Disks) → DoesWrite Told judgement from w m new before after old now → Only before after
   write_sent Taken from w m new before after old now does = none_sent before after does.sends
   write_sent Repeated from w m new before after old now does = repeat_sent from w m new before after does.repeats
   write_sent Refused from w m new before after old now does = none_sent before after does.sends
 
-  module _ (m new : Standing) (change : Option Change) (before after : List Letter) (old now : Disks) where
+  module _ (m new : MemberView) (change : Option Change) (before after : List Letter) (old now : Disks) where
     message_sent : (reading : ℕ) (from : Actor) (message : DeviceMessage) → OfMessage Told reading from message m new change before after old now → Only before after
     message_sent reading from (Write w) of = write_sent of.0.judgement from w m new before after old now of.0.does
     message_sent reading from (Wrote w) of = none_sent before after of.0.sends
@@ -105,10 +105,10 @@ module _ (Told : Type 0) where
         sent_then before (before ++ alive_letter m ∷ []) after (one_sent before (alive_letter m) (before ++ alive_letter m ∷ []) (record { least = lit≤ tt; most = lit≤ tt }) refl) (any_sent m _ old (before ++ alive_letter m ∷ []) after of.sends)
     input_sent Synced of = all_sent before (owed_letters m) after (owed_are m m.owed) of.sends
 
-  pub does_sent : (known : GlobalState) (input : Input) (m new : Standing) (change : Option Change) (before after : List Letter) (old now : Disks) → Does Told known input m new change before after old now → Only before after
+  pub does_sent : (known : GlobalState) (input : Input) (m new : MemberView) (change : Option Change) (before after : List Letter) (old now : Disks) → Does Told known input m new change before after old now → Only before after
   does_sent known input m new change before after old now does =
       sent_then before does.between after (any_sent _ _ old before does.between does.begins) (input_sent _ new change does.between after old now input does.does)
 
-  pub sent_on : {E : Type 0} (known : GlobalState) (input : Input) (m new : Standing) (result : Result (Option Change) E) (before after : List Letter) (old now : Disks) → IfOk result (λ change. Does Told known input m new change before after old now) → OnOk result (SendsOnly IsStores before after)
+  pub sent_on : {E : Type 0} (known : GlobalState) (input : Input) (m new : MemberView) (result : Result (Option Change) E) (before after : List Letter) (old now : Disks) → IfOk result (λ change. Does Told known input m new change before after old now) → OnOk result (SendsOnly IsStores before after)
   sent_on known input m new (Ok change) before after old now does = does_sent known input m new change before after old now does
   sent_on known input m new (Err e) before after old now does = tt

@@ -7,7 +7,7 @@ use Rattle.bx_global.specs.declared.change.Change.{Change}
 use Rattle.bx_rows.specs.Modes.{IsReachable, IsSource, both}
 use Rattle.bx_rows.specs.declared.device.DeviceRow.{DeviceRow}
 use Rattle.bx_mirror_laws.proofs.Modes.{alone_reached, alone_sources, both_reached, both_sources, copy_reached, copy_sources, left_reached, left_sources, same_reached}
-use Rattle.bx_mirror_member.specs.Standing.{Standing, copy_from, is_named, is_second}
+use Rattle.bx_mirror_member.specs.Standing.{MemberView, copy_from, is_named, is_second}
 use Rattle.bx_mirror_member.specs.Steps.{is_silent, may_alone, only, proposes, shift}
 use Rattle.bx_mirror_server.specs.Sides.{IsStep, IsWhole}
 
@@ -48,7 +48,7 @@ some_is : {X : Type 0} → (x y : X) → Some x ≡ Some y → y ≡ x
 some_is x y same = cc
 
 -- in a row of this mode, a step to another
-step_to : (m : Standing) (row : DeviceRow) (change : Change) (from mode : ℕ) → row.mode ≡ from → IsReachable from mode → ((b : Bool) → IsSource mode b → IsSource from b) → Some (shift m row mode) ≡ Some change → IsStep m row change
+step_to : (m : MemberView) (row : DeviceRow) (change : Change) (from mode : ℕ) → row.mode ≡ from → IsReachable from mode → ((b : Bool) → IsSource mode b → IsSource from b) → Some (shift m row mode) ≡ Some change → IsStep m row change
 step_to m row change from mode at reaches sources is = record {
   mode = mode;
   is = some_is (shift m row mode) change is;
@@ -56,7 +56,7 @@ step_to m row change from mode at reaches sources is = record {
   sources = λ b h. subst (λ (n : ℕ). IsSource n b) (sym at) (sources b h);
 }
 
-pub proposes_step : (m : Standing) (row : DeviceRow) (reading : ℕ) (change : Change) → row.mode < 5 → proposes m row reading ≡ Some change → IsStep m row change
+pub proposes_step : (m : MemberView) (row : DeviceRow) (reading : ℕ) (change : Change) → row.mode < 5 → proposes m row reading ≡ Some change → IsStep m row change
 proposes_step m row reading change less is = left_out (row.mode == only_other (is_second m)) refl is
   where
     alone : (both_now copying silent : Bool) → (row.mode == both) ≡ both_now → (row.mode == copy_from (is_second m)) ≡ copying → is_silent m reading ≡ silent
@@ -80,7 +80,7 @@ proposes_step m row reading change less is = left_out (row.mode == only_other (i
     left_out true at is = step_to m row change (only_other (is_second m)) (copy_from (not (is_second m))) (grind (arith, nat_tests, at)) (onto_reached (is_second m)) (onto_sources (is_second m)) is
     left_out false at is = unnamed (is_named m row) refl is
 
-pub copies_whole : (m : Standing) (row : DeviceRow) → row.mode ≡ copy_from (is_second m) → IsWhole m row both
+pub copies_whole : (m : MemberView) (row : DeviceRow) → row.mode ≡ copy_from (is_second m) → IsWhole m row both
 copies_whole m row at = record {
   reaches = subst (λ (n : ℕ). IsReachable n both) (sym at) (whole_reached (is_second m));
   sources = λ b h. subst (λ (n : ℕ). IsSource n b ⊎ (is_second m ≡ not b)) (sym at) (whole_sources (is_second m) b h);

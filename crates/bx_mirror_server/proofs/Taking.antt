@@ -19,9 +19,9 @@ use Rattle.bx_mirror_packets.specs.declared.message.WriteBody.{WriteBody}
 use Rattle.bx_mirror_tables.specs.Lasts.{last_in}
 use Rattle.bx_mirror_tables.proofs.Noting.{noted_last}
 use Rattle.bx_mirror_member.specs.Acting.{IsTaken}
-use Rattle.bx_mirror_member.specs.Standing.{Standing, device_in, disk_in, hearing, is_news, is_second, learned, learned_row, started, stopped, with_row}
+use Rattle.bx_mirror_member.specs.Standing.{MemberView, device_in, disk_in, hearing, is_news, is_second, learned, learned_row, started, stopped, with_row}
 use Rattle.bx_mirror_member.specs.Steps.{copied_of}
-use Rattle.bx_mirror_server.specs.Serving.{OfSync, PutsPiece, PutsWrite, run_of}
+use Rattle.bx_mirror_server.specs.Serving.{OfSync, PutsCopy, PutsWrite, run_of}
 use Rattle.bx_mirror_server.specs.Sides.{IsOnce, MayTakeWrite, letter_to, piece_from, side_of}
 use Rattle.bx_mirror_server.specs.Working.{alone}
 use Rattle.bx_mirror_server.proofs.Places.{own_disk}
@@ -29,7 +29,7 @@ use Rattle.bx_mirror_server.proofs.Owing.{copied_only, copied_same, wrote_it, wr
 
 -- ---- writes
 
-pub takes : (m : Standing) (reading greatest : ℕ) (w : WriteBody) (x : Disks) → greatest ≤ reading + 500 → IsTaken m reading w → MayTakeWrite greatest m x w
+pub takes : (m : MemberView) (reading greatest : ℕ) (w : WriteBody) (x : Disks) → greatest ≤ reading + 500 → IsTaken m reading w → MayTakeWrite greatest m x w
 takes m reading greatest w x steady is = record {
   row = is.opens.row;
   takes = record {
@@ -41,9 +41,9 @@ takes m reading greatest w x steady is = record {
   };
 }
 
-pub took : (m new : Standing) (from : Actor) (w : WriteBody) (before after : List Letter) (x y : Disks) → IsOnce w.runs.1 (device_in m) → PutsWrite (Unit {0}) from w m new before after x y
+pub took : (m new : MemberView) (from : Actor) (w : WriteBody) (before after : List Letter) (x y : Disks) → IsOnce w.runs.1 (device_in m) → PutsWrite (Unit {0}) from w m new before after x y
     → Taken (device_in m) (letter_to m w) (side_of true m x) (side_of true new y)
-took m new from w before after x y once is = subst (λ (n : Standing). Taken (device_in m) (letter_to m w) (side_of true m x) (side_of true n y)) (sym is.member) (record {
+took m new from w before after x y once is = subst (λ (n : MemberView). Taken (device_in m) (letter_to m w) (side_of true m x) (side_of true n y)) (sym is.member) (record {
   memory = record { up = refl; boot = refl; row = refl };
   puts = record { written = λ sector content brings. (is.puts tt).written sector content brings (λ other too. once sector content other brings too); keeps = (is.puts tt).keeps };
   last = let e : (w.session == w.session) ≡ true = grind (arith, nat_tests) in noted_last m.lasts w.session w.sequence w.session ∙ ap (λ (t : Bool). if t then w.sequence else last_in m.lasts w.session) e;
@@ -64,9 +64,9 @@ only_piece c run (suc k, less, is) = absurd (omega (arith, less))
 piece_writes : (c : CopyBody) (device x : ℕ) (other : List ℕ) → WritesIn (run_of c ∷ []) device x other → Writes (run_of c) device x other
 piece_writes c device x other (run, has, at) = subst (λ (r : Run). Writes r device x other) (sym (only_piece c run has)) at
 
-pub piece : (m new : Standing) (from : Actor) (by : Bool) (c : CopyBody) (x y : Disks) → c.device ≡ device_in m → PutsPiece (Unit {0}) from c m new x y
+pub piece : (m new : MemberView) (from : Actor) (by : Bool) (c : CopyBody) (x y : Disks) → c.device ≡ device_in m → PutsCopy (Unit {0}) from c m new x y
     → PieceTaken (is_second m) (piece_from by c) (side_of true m x) (side_of true new y)
-piece m new from by c x y here is = subst (λ (n : Standing). PieceTaken (is_second m) (piece_from by c) (side_of true m x) (side_of true n y)) (sym is.member) (record {
+piece m new from by c x y here is = subst (λ (n : MemberView). PieceTaken (is_second m) (piece_from by c) (side_of true m x) (side_of true n y)) (sym is.member) (record {
   memory = record { up = refl; boot = refl; row = refl };
   lasts = refl;
   wrote = wrote_same (is_second m) m.owed from (copied_of c);
@@ -87,9 +87,9 @@ newer : (known : Option DeviceRow) (row : DeviceRow) → KnowsBefore known row.e
 newer None row before = refl
 newer (Some k) row before = let e : (k.epoch == row.epoch) ≡ false = grind (arith, nat_tests, before) in ap not e
 
-pub learns : (m : Standing) (known : GlobalState) (row : DeviceRow) (x : Disks) → slice_get known.devices (device_in m) ≡ Some row → KnowsBefore m.row row.epoch
+pub learns : (m : MemberView) (known : GlobalState) (row : DeviceRow) (x : Disks) → slice_get known.devices (device_in m) ≡ Some row → KnowsBefore m.row row.epoch
     → Learns row (side_of true m x) (side_of true (learned known m) x)
-learns m known row x at before = subst (λ (n : Standing). Learns row (side_of true m x) (side_of true n x)) (sym becomes) (record {
+learns m known row x at before = subst (λ (n : MemberView). Learns row (side_of true m x) (side_of true n x)) (sym becomes) (record {
   before = before;
   up = refl;
   boot = refl;
@@ -104,8 +104,8 @@ learns m known row x at before = subst (λ (n : Standing). Learns row (side_of t
     becomes : learned known m ≡ with_row m row
     becomes = ap (learned_row m) at ∙ ap (λ (t : Bool). if t then with_row m row else m) (newer m.row row before)
 
-pub syncs : (m new : Standing) (before after : List Letter) (x y : Disks) → OfSync (Unit {0}) m new None before after x y → Synced (side_of true m x) (side_of true new y)
-syncs m new before after x y is = subst (λ (n : Standing). Synced (side_of true m x) (side_of true n y)) (sym is.member) (record {
+pub syncs : (m new : MemberView) (before after : List Letter) (x y : Disks) → OfSync (Unit {0}) m new None before after x y → Synced (side_of true m x) (side_of true new y)
+syncs m new before after x y is = subst (λ (n : MemberView). Synced (side_of true m x) (side_of true n y)) (sym is.member) (record {
   memory = record { up = refl; boot = refl; row = refl };
   lasts = refl;
   place = refl;
@@ -115,12 +115,12 @@ syncs m new before after x y is = subst (λ (n : Standing). Synced (side_of true
   copied = refl;
 })
 
-pub stops : (m : Standing) (x : Disks) → IsDown (side_of false (stopped m) x)
+pub stops : (m : MemberView) (x : Disks) → IsDown (side_of false (stopped m) x)
 stops m x = record { down = refl; wrote = refl; copied = refl; row = refl }
 
 -- ---- a fault cuts a write short, and a member starts again
 
-pub partly : (m : Standing) (w : WriteBody) (x y : Disks) → KeepsMembers (alone w.runs.1) 0 x y → PartlyTaken (device_in m) (letter_to m w) (side_of true m x) (side_of true m y)
+pub partly : (m : MemberView) (w : WriteBody) (x y : Disks) → KeepsMembers (alone w.runs.1) 0 x y → PartlyTaken (device_in m) (letter_to m w) (side_of true m x) (side_of true m y)
 partly m w x y keeps = record {
   memory = record { up = refl; boot = refl; row = refl };
   keeps = λ sector content unique here.
@@ -147,7 +147,7 @@ partly m w x y keeps = record {
       each = λ write other there brings. inl (unique other (subst (λ (s : Sent). WritesIn s.runs (device_in m) sector other) (sym (one write there)) brings));
     }
 
-pub piece_partly : (m : Standing) (by : Bool) (c : CopyBody) (x y : Disks) → c.device ≡ device_in m → KeepsMembers (alone (run_of c ∷ [])) 0 x y → PieceChanged (is_second m) (piece_from by c) (side_of true m x) (side_of true m y)
+pub piece_partly : (m : MemberView) (by : Bool) (c : CopyBody) (x y : Disks) → c.device ≡ device_in m → KeepsMembers (alone (run_of c ∷ [])) 0 x y → PieceChanged (is_second m) (piece_from by c) (side_of true m x) (side_of true m y)
 piece_partly m by c x y here keeps = record {
   memory = record { up = refl; boot = refl; row = refl };
   lasts = refl;
@@ -177,7 +177,7 @@ piece_partly m by c x y here keeps = record {
           inl (sym w.is ∙ sym (same w.from w.below) ∙ ap (λ (d : ℕ). x.reads d sector) at);
     }
 
-pub starts : (m : Standing) (boot reading : ℕ) (last : DeviceRow) (older : List DeviceRow) (x y : Disks) → m.boot ≤ boot → ((r : DeviceRow) → IsRow last older r → boot_in (is_second m) r < boot)
+pub starts : (m : MemberView) (boot reading : ℕ) (last : DeviceRow) (older : List DeviceRow) (x y : Disks) → m.boot ≤ boot → ((r : DeviceRow) → IsRow last older r → boot_in (is_second m) r < boot)
     → KeepsSure x y (disk_in m) 0 1 → IsSynced y (disk_in m) → Starts (is_second m) last older (side_of false (stopped m) x) (side_of true (hearing reading (started boot m)) y)
 starts m boot reading last older x y rises newer_than keeps synced = record {
   was = stops m x;

@@ -15,18 +15,18 @@ use Rattle.bx_mirror_packets.specs.declared.message.DeviceMessage.TheVariants.{W
 use Rattle.bx_mirror_member.specs.declared.copies.Piece.{Piece}
 use Rattle.bx_mirror_member.specs.declared.judging.Judgement.{Judgement}
 use Rattle.bx_mirror_member.specs.declared.judging.Judgement.TheVariants.{Taken, Repeated, Refused}
-use Rattle.bx_mirror_member.specs.Standing.{Standing}
-use Rattle.bx_mirror_server.specs.Serving.{AnswersRead, DoesWrite, OfCopy, OfInput, OfMessage, OfRead, OfSaid, OfWrite, SendsAny, SendsPiece, TakesCopied, PutsPiece}
+use Rattle.bx_mirror_member.specs.Standing.{MemberView}
+use Rattle.bx_mirror_server.specs.Serving.{AnswersRead, DoesWrite, OfCopy, OfInput, OfMessage, OfRead, OfSaid, OfWrite, SendsAny, SendsPiece, TakesCopied, PutsCopy}
 
 module _ (A B : Type 0) (goes : B → A) where
-  pub piece_told : (m : Standing) (piece : Piece) (x : Disks) (before after : List Letter) → SendsPiece A m piece x before after → SendsPiece B m piece x before after
+  pub piece_told : (m : MemberView) (piece : Piece) (x : Disks) (before after : List Letter) → SendsPiece A m piece x before after → SendsPiece B m piece x before after
   piece_told m piece x before after sends = record { bytes = sends.bytes; long = sends.long; reads = λ told. sends.reads (goes told); sends = sends.sends }
 
-  pub any_told : (m : Standing) (piece : Option Piece) (x : Disks) (before after : List Letter) → SendsAny A m piece x before after → SendsAny B m piece x before after
+  pub any_told : (m : MemberView) (piece : Option Piece) (x : Disks) (before after : List Letter) → SendsAny A m piece x before after → SendsAny B m piece x before after
   any_told m None x before after sends = sends
   any_told m (Some piece) x before after sends = piece_told m piece x before after sends
 
-  module _ (m new : Standing) (before after : List Letter) (old now : Disks) where
+  module _ (m new : MemberView) (before after : List Letter) (old now : Disks) where
     does_told : (judgement : Judgement) (from : Actor) (w : WriteBody) → DoesWrite A judgement from w m new before after old now → DoesWrite B judgement from w m new before after old now
     does_told Taken from w does = record { member = does.member; sends = does.sends; puts = λ told. does.puts (goes told) }
     does_told Repeated from w does = does
@@ -41,7 +41,7 @@ module _ (A B : Type 0) (goes : B → A) where
     read_told : (from : Actor) (r : ReadBody) → OfRead A from r m new before after old now → OfRead B from r m new before after old now
     read_told from r of = elim of [ inl here ↦ inl (here.0, answer_told from r here.1) | inr not ↦ inr not ]
 
-    take_told : (from : Actor) (c : CopyBody) → PutsPiece A from c m new old now → PutsPiece B from c m new old now
+    take_told : (from : Actor) (c : CopyBody) → PutsCopy A from c m new old now → PutsCopy B from c m new old now
     take_told from c of = record { member = of.member; puts = λ told. of.puts (goes told) }
 
     copy_told : (from : Actor) (c : CopyBody) → OfCopy A from c m new old now → OfCopy B from c m new old now

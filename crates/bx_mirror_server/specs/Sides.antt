@@ -14,7 +14,7 @@ use Rattle.bx_mirror_tables.specs.declared.answers.Answer.{Answer}
 use Rattle.bx_mirror_tables.specs.declared.answers.Answer.TheVariants as answers
 use Rattle.bx_mirror_tables.specs.declared.answers.Owing.{Owing}
 use Rattle.bx_mirror_tables.specs.Lasts.{last_in}
-use Rattle.bx_mirror_member.specs.Standing.{Standing, disk_in, is_second}
+use Rattle.bx_mirror_member.specs.Standing.{MemberView, disk_in, is_second}
 use Rattle.bx_mirror_member.specs.Steps.{shift}
 
 -- the answers to writes that are owed, and those to pieces of copies
@@ -35,7 +35,7 @@ copied_in b [] = []
 copied_in b (o ∷ owed) = with_copied b o.answer (copied_in b owed)
 
 -- a member that is up or down, with its disk
-abbrev pub side_of : Bool → Standing → Disks → Side
+abbrev pub side_of : Bool → MemberView → Disks → Side
 side_of up m disks = record {
   up = up;
   boot = m.boot;
@@ -49,7 +49,7 @@ side_of up m disks = record {
 }
 
 -- the letter of a write to it, and that of a piece from its partner
-abbrev pub letter_to : Standing → WriteBody → WriteLetter
+abbrev pub letter_to : MemberView → WriteBody → WriteLetter
 letter_to m w = record { at = is_second m; session = w.session; epoch = w.epoch; sequence = w.sequence; until = w.until; runs = w.runs.1 }
 
 abbrev pub piece_from : Bool → CopyBody → CopyLetter
@@ -60,18 +60,18 @@ abbrev pub IsOnce : List Run → ℕ → Type 0
 IsOnce runs device = (sector : ℕ) (content other : List ℕ) → WritesIn runs device sector content → WritesIn runs device sector other → other ≡ content
 
 -- A write is one that the laws let this member take, in some row.
-pub record MayTakeWrite (greatest : ℕ) (m : Standing) (disks : Disks) (w : WriteBody) : Type 0 where
+pub record MayTakeWrite (greatest : ℕ) (m : MemberView) (disks : Disks) (w : WriteBody) : Type 0 where
   pub row : DeviceRow
   pub takes : TakesWrite greatest (side_of true m disks) row (letter_to m w)
 
 -- A change shifts the row's mode by one step, and who is read afterwards was read before.
-pub record IsStep (m : Standing) (row : DeviceRow) (change : Change) : Type 0 where
+pub record IsStep (m : MemberView) (row : DeviceRow) (change : Change) : Type 0 where
   pub mode : ℕ
   pub is : change ≡ shift m row mode
   pub reaches : IsReachable row.mode mode
   pub sources : (b : Bool) → IsSource mode b → IsSource row.mode b
 
 -- A copy makes both members whole: who is read afterwards was read before, or is the copy's target.
-pub record IsWhole (m : Standing) (row : DeviceRow) (mode : ℕ) : Type 0 where
+pub record IsWhole (m : MemberView) (row : DeviceRow) (mode : ℕ) : Type 0 where
   pub reaches : IsReachable row.mode mode
   pub sources : (b : Bool) → IsSource mode b → IsSource row.mode b ⊎ (is_second m ≡ not b)

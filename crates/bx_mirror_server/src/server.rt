@@ -29,9 +29,9 @@ pub struct MirrorServer {
 }
 
 impl Model for MirrorServer {
-    ghost use Rattle.bx_mirror_member.specs.Standing.{Standing};
+    ghost use Rattle.bx_mirror_member.specs.Standing.{MemberView};
 
-    ghost Value = { Standing };
+    ghost Value = { MemberView };
 
     ghost view = { λ server. server.member };
 }

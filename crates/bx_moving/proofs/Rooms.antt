@@ -33,7 +33,7 @@ use Rattle.bx_tree_files.specs.Times.{Time}
 use Rattle.bx_truth.specs.Chunks.{chunks_of}
 use Rattle.bx_truth.specs.Edits.{ChunkAnew}
 use Rattle.bx_truth.specs.Keys.{entry_key, name_key}
-use Rattle.bx_truth.specs.PageTrees.{Chunks, IsNode, IsPageOf, IsTree, Node, PageTree, map_of, without_entry}
+use Rattle.bx_truth.specs.PageTrees.{Chunks, IsNode, IsPageOf, IsTree, Node, PageTree, map_of, map_without}
 use Rattle.bx_truth.proofs.Frames.{tree_kept}
 use Rattle.bx_truth.proofs.OneFiles.{one_inode}
 use Rattle.bx_views.specs.Truths.{Held, Hints, Truth, with_draft}
@@ -114,10 +114,10 @@ module _ (areas : ℕ) (held : Held) (hints : Hints) (truth : Truth) (old new : 
   abbrev pages : HasEntries areas held hints truth old inode.tree e.names
   pages = listed areas held hints truth old tree handle inode file number name counts now e
 
-  one : MakesMap areas held hints truth old t.takes.mid inode.tree pages.tree (without_entry (map_of pages.tree) (name_key name))
+  one : MakesMap areas held hints truth old t.takes.mid inode.tree pages.tree (map_without (map_of pages.tree) (name_key name))
   one = (removes_in areas held hints truth old t.takes.mid inode.tree pages.tree (name_key name) pages.under (Ok tt) t.takes.named).1
 
-  two : MakesMap areas held hints truth t.takes.mid t.mid inode.tree one.after (without_entry (map_of one.after) (entry_key number))
+  two : MakesMap areas held hints truth t.takes.mid t.mid inode.tree one.after (map_without (map_of one.after) (entry_key number))
   two = (removes_in areas held hints truth t.takes.mid t.mid inode.tree one.after (entry_key number) one.under (Ok tt) t.takes.numbered).1
 
   -- the inode is there until it is put

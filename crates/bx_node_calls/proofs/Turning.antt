@@ -1,7 +1,7 @@
 -- What a turn of one node is, and leaves of the calls that wait and of what the logs have.
 use Rattle.std.proofs.Common.{◌≡◌, ◌≢◌, ⊎_elim, ◌∙◌, ℕ, ◌<◌, ◌≤◌, List, length, Contains, Option, Some, IsSome, IsSomeAnd, sym, ap, subst, arith}
 use Rattle.std.specs.Prelude.{option_map, slice_get}
-use Rattle.bx_node_calls.specs.Turns.{IsTurn, session_at}
+use Rattle.bx_node_calls.specs.Turns.{IsNodeTurn, session_at}
 use Rattle.bx_node_calls.specs.Waits.{AreNumbered, AreTold, Waits}
 use Rattle.bx_node_calls.proofs.Found.{and_some, same_or, some_and, which}
 use Rattle.bx_node_steps.specs.Calls.{AnswersCalls, AreApart, CallOf, IsAnswered, WaitsAt, acting_said}
@@ -25,7 +25,7 @@ module _ {G O S E T : Type 0} (moment node : ℕ) (old new : Nodes G O S E T) (s
   after = there_is new.machines.items node (omega (arith, there, count))
 
   -- A node has its turn.
-  pub turn_of : IsTurn moment node old.machines.items new.machines.items said
+  pub turn_of : IsNodeTurn moment node old.machines.items new.machines.items said
   turn_of = record {
     answers = λ machine is.
         and_some (λ now. AnswersCalls moment machine now said) (slice_get new.machines.items node) after.0 after.1
@@ -38,13 +38,13 @@ module _ {G O S E T : Type 0} (moment node : ℕ) (old new : Nodes G O S E T) (s
   }
 
 -- A turn leaves all sessions.
-pub sessions_turn : (moment node : ℕ) (old new : List Machine) (said : List Said) → IsTurn moment node old new said → (other : ℕ) → session_at new other ≡ session_at old other
+pub sessions_turn : (moment node : ℕ) (old new : List Machine) (said : List Said) → IsNodeTurn moment node old new said → (other : ℕ) → session_at new other ≡ session_at old other
 sessions_turn moment node old new said turn other = ⊎_elim
     (λ same. subst (λ (n : ℕ). session_at new n ≡ session_at old n) (sym same) turn.sessions)
     (λ ne. ap (option_map (λ (m : Machine). m.session)) (turn.others other ne))
     (same_or other node)
 
-module _ (moment node latest : ℕ) (old new : List Machine) (said : List Said) (machine : Machine) (there : slice_get old node ≡ Some machine) (turn : IsTurn moment node old new said) where
+module _ (moment node latest : ℕ) (old new : List Machine) (said : List Said) (machine : Machine) (there : slice_get old node ≡ Some machine) (turn : IsNodeTurn moment node old new said) where
   then_is : (now : Machine) × (slice_get new node ≡ Some now) × AnswersCalls moment machine now said
   then_is = which (λ now. AnswersCalls moment machine now said) (slice_get new node) (turn.answers machine there)
 

@@ -32,7 +32,7 @@ pub record HaveStill (old new : List Machine) : Type 0 where
 -- ---- turns
 
 -- One node has its turn at a moment: it answers calls, its tidy goes on, or rests where the node was asked for a block, and all other nodes are as they were.
-pub record IsTurn (moment node : ℕ) (old new : List Machine) (said : List Said) : Type 0 where
+pub record IsNodeTurn (moment node : ℕ) (old new : List Machine) (said : List Said) : Type 0 where
   pub answers : (machine : Machine) → slice_get old node ≡ Some machine → IsSomeAnd (slice_get new node) (λ now. AnswersCalls moment machine now said)
   pub asked : Option (ℕ × ℕ)
   pub tidies : (machine : Machine) → slice_get old node ≡ Some machine → IsSomeAnd (slice_get new node) (TidyGoes (IsSome asked) machine)

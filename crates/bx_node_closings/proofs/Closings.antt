@@ -15,7 +15,7 @@ use Rattle.bx_world_logs.specs.bx_redo.proofs.Within.{within_it}
 use Rattle.bx_rows.specs.declared.session.SessionRow.{SessionRow}
 use Rattle.bx_rows.specs.Words.{is_taken}
 use Rattle.bx_views.specs.Truths.{Truth}
-use Rattle.bx_volume.specs.Overlay.{Logs, IsTruth, IsUnlogged, with_log}
+use Rattle.bx_volume.specs.Overlay.{Logs, IsOverlaidTruth, IsUnlogged, with_log}
 use Rattle.bx_volume.specs.Records.{Logged, LogWhere, gate_of, newest_in}
 use Rattle.bx_volume.proofs.Overlay.{log_here, log_there}
 use Rattle.bx_volume.proofs.Steps.{log_closed}
@@ -111,7 +111,7 @@ module _ (Sure : ℕ → ℕ → List ℕ → Type 0) (devices areas : ℕ) (row
   pub homes_land : (next : Logged) → (slots slot).activity ≡ idle → 0 < length (logs slot)
       → ((s d x : ℕ) → s < 8 → IsIn s x → now d x ≡ before d x)
       → ((at i : ℕ) → IsBlock areas at → newest_in (logs slot) at ≡ None → i < 9 → now (block_place at devices).0 ((block_place at devices).1 + i) ≡ before (block_place at devices).0 ((block_place at devices).1 + i))
-      → IsTruth now devices areas rows logs truth → AreHomed Sure devices areas now logs slot
+      → IsOverlaidTruth now devices areas rows logs truth → AreHomed Sure devices areas now logs slot
       → LogsStand Sure devices areas rows now logs (with_slot slots slot (record { activity = OfLog works.Closes; more = next })) truth
   homes_land next was some in_slots in_homes is_truth homed =
       moved Sure devices areas rows before now logs logs slots (with_slot slots slot then_is) truth truth slot less st

@@ -41,7 +41,7 @@ use Rattle.bx_world_standing.specs.Parts.{Clocks}
 use Rattle.bx_world_standing.specs.Rights.{MayTouch}
 use Rattle.bx_world_standing.specs.Standing.{Course, Known, StandsAt, SureOf}
 use Rattle.bx_world_standing.proofs.Owns.{own_is}
-use Rattle.bx_world_views.specs.Views.{Allows, Doubt}
+use Rattle.bx_world_views.specs.Views.{Allows, Unacknowledged}
 
 -- What an event makes of a node's machine and of the course: what its cache shows, which blocks aren't home, its log and what that is for; what the devices
 -- hold, the records of logs, what is under way in its slot, what each block holds, and what is in doubt.
@@ -54,7 +54,7 @@ pub record Outcome : Type 0 where
   pub logs : Logs
   pub slot : Slot
   pub truth : Truth
-  pub doubts : ℕ → Option Doubt
+  pub doubts : ℕ → Option Unacknowledged
 
 abbrev pub machine_then : MachineView → Outcome → MachineView
 machine_then machine to = record machine { held = to.held; away = to.away; log = to.log; stage = to.stage }

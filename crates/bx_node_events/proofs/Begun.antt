@@ -37,7 +37,7 @@ use Rattle.bx_world_standing.specs.Parts.{Clocks}
 use Rattle.bx_world_standing.specs.Standing.{Course, Known, SureOf}
 use Rattle.bx_world_standing.proofs.Owns.{own_is}
 use Rattle.bx_world_views.specs.Views as views
-use Rattle.bx_world_views.specs.Views.{Allows, Doubt}
+use Rattle.bx_world_views.specs.Views.{Allows, Unacknowledged}
 
 -- what the header of a record tells of what it does, where it has its call's number
 act_is : (call : Option Replying) (more : Logged) → more.head.call ≡ number_of call → IsActOf more (act_of call (point_in more))
@@ -91,7 +91,7 @@ module _ {G O S T : Type 0} (g : register.Ghosts G) (o : owners.Ghosts O) (st : 
   fair_shown = subst (λ (h : Held). IsHeldDraft h more.changed) (sym shows) fair
 
   -- the record in doubt
-  abbrev its_doubt : Doubt
+  abbrev its_doubt : Unacknowledged
   its_doubt = record { call = number_of call; act = act_of call (point_in more); draft = more.changed; held = shown (slice_get machines node) (o.own owners_are node); hints = hinted (slice_get machines node) }
 
   abbrev begun_to : Outcome
@@ -183,6 +183,6 @@ module _ {G O S T : Type 0} (g : register.Ghosts G) (o : owners.Ghosts O) (st : 
         refl,
         ap (λ (l : Slot). l.activity) (slot_here c.slots row.slot (body_slot more)),
         inl flying,
-        subst (λ (found : Option Doubt). IsSomeAnd found (IsDoubtOf call more.changed (point_in more))) (sym doubt_here) (record { draft_is = refl; call_is = refl; numbered = numbered; act_is = refl }),
+        subst (λ (found : Option Unacknowledged). IsSomeAnd found (IsDoubtOf call more.changed (point_in more))) (sym doubt_here) (record { draft_is = refl; call_is = refl; numbered = numbered; act_is = refl }),
         at_rest.5,
       ))

@@ -44,7 +44,7 @@ use Rattle.bx_world_logs.proofs.Moving.{slot_here, with_slot}
 use Rattle.bx_world_standing.specs.Doubts.{IsRecordOf}
 use Rattle.bx_world_standing.specs.Parts.{Clocks}
 use Rattle.bx_world_standing.specs.Standing.{Course, Known, StandsAt, SureOf}
-use Rattle.bx_world_views.specs.Views.{Act, Doubt, ShowsDraft, StepOf}
+use Rattle.bx_world_views.specs.Views.{Act, Unacknowledged, ShowsDraft, StepOf}
 use Rattle.bx_world_views.proofs.Doubts.{without_doubt, without_only}
 
 newest_or : (one older : Option Block) → IsSome (or_older one older) → IsSome older ⊎ IsSome one
@@ -97,12 +97,12 @@ module _ {G O S T : Type 0} (g : register.Ghosts G) (o : owners.Ghosts O) (st : 
     began = ap (λ (l : Slot). begins l.activity) was
 
     -- the record in doubt, which is the slot's and the machine's
-    has_doubt : (found : Option Doubt) → c.doubts session ≡ found → IsSomeAnd found (IsDoubtOf call draft point) → IsSomeAnd found (IsRecordOf (c.slots row.slot).more)
-        → (doubt : Doubt) × (c.doubts session ≡ Some doubt) × IsDoubtOf call draft point doubt × IsRecordOf (c.slots row.slot).more doubt
+    has_doubt : (found : Option Unacknowledged) → c.doubts session ≡ found → IsSomeAnd found (IsDoubtOf call draft point) → IsSomeAnd found (IsRecordOf (c.slots row.slot).more)
+        → (doubt : Unacknowledged) × (c.doubts session ≡ Some doubt) × IsDoubtOf call draft point doubt × IsRecordOf (c.slots row.slot).more doubt
     has_doubt None is_found one other = absurd one
     has_doubt (Some doubt) is_found one other = (doubt, is_found, one, other)
 
-    doubt : (doubt : Doubt) × (c.doubts session ≡ Some doubt) × IsDoubtOf call draft point doubt × IsRecordOf (c.slots row.slot).more doubt
+    doubt : (doubt : Unacknowledged) × (c.doubts session ≡ Some doubt) × IsDoubtOf call draft point doubt × IsRecordOf (c.slots row.slot).more doubt
     doubt = has_doubt (c.doubts session) refl (subst (λ (w : Work). IsSomeAnd (c.doubts session) (IsDoubtIn w call draft)) is work.4) (stands.at.doubted.each session row live.is_row began)
 
     drafts : draft ≡ (c.slots row.slot).more.changed

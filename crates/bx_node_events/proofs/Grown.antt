@@ -37,7 +37,7 @@ use Rattle.bx_world_standing.specs.Standing.{Course, StandsAt, SureOf, own_up}
 use Rattle.bx_world_standing.proofs.Grown.{surely_goes}
 use Rattle.bx_world_standing.proofs.Grows.{grown_course}
 use Rattle.bx_world_standing.proofs.Owns.{of_before}
-use Rattle.bx_world_views.specs.Views.{Doubt}
+use Rattle.bx_world_views.specs.Views.{Unacknowledged}
 
 either : (a b : ℕ) → (a < b) ⊎ (b ≤ a)
 either a b = grind arith
@@ -107,7 +107,7 @@ module _ {G O S T : Type 0} (g : register.Ghosts G) (o : owners.Ghosts O) (st : 
       shut_slot : row.slot < 8 → is_taken (last c.register.chain).sessions row.slot ≡ false → (c.slots row.slot).activity ≡ idle
       shut_slot low is_free = (subst (λ (t : Bool). SlotStands Sure_before (st.made store_is).devices (st.made store_is).areas c.before t c.logs row.slot (c.slots row.slot)) is_free (at_first.logs.each row.slot low)).still
 
-      undoubted : (found : Option Doubt) → c.doubts its ≡ found → found ≡ None
+      undoubted : (found : Option Unacknowledged) → c.doubts its ≡ found → found ≡ None
       undoubted None is = refl
       undoubted (Some doubt) is = absurd (
           let had = at_first.doubted.only its doubt is in

@@ -25,7 +25,7 @@ use Rattle.bx_rows.specs.Words.{is_taken, row_in}
 use Rattle.bx_rows.specs.declared.session.SessionRow.{SessionRow}
 use Rattle.bx_views.specs.Attempts.{Deed}
 use Rattle.bx_views.specs.Truths.{Hints, Truth}
-use Rattle.bx_volume.specs.Overlay.{IsTruth, Logs}
+use Rattle.bx_volume.specs.Overlay.{IsOverlaidTruth, Logs}
 use Rattle.bx_volume.specs.Records.{LogWhere, newest_in}
 use Rattle.bx_volume.proofs.Apart.{home_and_log, two_homes}
 use Rattle.bx_volume.proofs.LoggedHomes.{homes_written}
@@ -124,7 +124,7 @@ module _ (devices areas : ℕ) (volume : IsVolume devices areas) (logs : Logs) (
           (λ w. absurd (apart_home at i (with_runs before runs (block_place at devices).0 ((block_place at devices).1 + i)) is none few w))
           (written_or before runs (block_place at devices).0 ((block_place at devices).1 + i))
 
-      pub truth_then : IsTruth (with_runs before runs) devices areas rows logs truth
+      pub truth_then : IsOverlaidTruth (with_runs before runs) devices areas rows logs truth
       truth_then = homes_written devices areas logs volume before (with_runs before runs) rows truth
           (λ d s. ⊎_elim (λ same. inl same.0) (λ w. inr (of_logged devices areas logs slot less runs its d s (with_runs before runs d s) w)) (written_or before runs d s)) st.is_truth
 

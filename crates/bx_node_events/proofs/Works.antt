@@ -5,7 +5,7 @@ use Rattle.bx_node_events.specs.Works.{KeepsWorks, LeavesWorks}
 use Rattle.bx_rows.specs.Words.{row_in}
 use Rattle.bx_world_logs.specs.Logs.{Slot}
 use Rattle.bx_world_standing.specs.Standing.{Course}
-use Rattle.bx_world_views.specs.Views.{Doubt}
+use Rattle.bx_world_views.specs.Views.{Unacknowledged}
 
 pub keeps_all : (c : Course) → KeepsWorks c c
 keeps_all c = record { slots = refl; doubts = refl }
@@ -17,7 +17,7 @@ keeps_on a b c one two = record { slots = two.slots ∙ one.slots; doubts = two.
 pub leaves_kept : (own : Option ℕ) (a b : Course) → KeepsWorks a b → LeavesWorks own a b
 leaves_kept own a b keeps = record {
   slots = λ session row other has. ap (λ (slots : ℕ → Slot). (slots row.slot).activity) keeps.slots;
-  doubts = λ session other. ap (λ (doubts : ℕ → Option Doubt). doubts session) keeps.doubts;
+  doubts = λ session other. ap (λ (doubts : ℕ → Option Unacknowledged). doubts session) keeps.doubts;
 }
 
 pub leaves_on : (own : Option ℕ) (a b c : Course) → b.register.chain ≡ a.register.chain → LeavesWorks own a b → LeavesWorks own b c → LeavesWorks own a c

@@ -25,7 +25,7 @@ use Rattle.bx_volume.proofs.Overlay.{log_here, log_there}
 use Rattle.bx_global.specs.Allowed.{IsAllowed, IsSession}
 use Rattle.bx_world_chains.proofs.Rows.{all_row, one_slot, taken_of}
 use Rattle.bx_world_standing.specs.bx_world_logs.specs.Logs.{IsInLog, Slot, OfLog, begins, idle, view_of}
-use Rattle.bx_world_views.specs.Views.{Doubt, ShowsDraft, StepOf, VolumeStands}
+use Rattle.bx_world_views.specs.Views.{Unacknowledged, ShowsDraft, StepOf, VolumeStands}
 use Rattle.bx_world_standing.specs.Rights.{MayTouch}
 use Rattle.bx_world_standing.specs.Rights.MayTouch.{OfSlot, OfHeld, OfLogged}
 use Rattle.bx_world_standing.specs.Doubts.{IsRecordOf}
@@ -62,7 +62,7 @@ either None p some = inr some
 either (Some b) p some = inl refl
 
 module _ {G O S T : Type 0} (g : register.Ghosts G) (o : owners.Ghosts O) (st : store.Ghosts S) (Stands : Truth → Hints → T → Type 0) (Step : T → Deed → T → Type 0)
-    (register_is : G) (owners_are : O) (store_is : S) (x : Disks) (known : Known) (c : Course) (tree : T) (node session : ℕ) (row : SessionRow) (more next : Logged) (point : Point) (doubt : Doubt) (now : Image) (held : ℕ → Held)
+    (register_is : G) (owners_are : O) (store_is : S) (x : Disks) (known : Known) (c : Course) (tree : T) (node session : ℕ) (row : SessionRow) (more next : Logged) (point : Point) (doubt : Unacknowledged) (now : Image) (held : ℕ → Held)
     (at : StandsAt g o st Stands Step register_is owners_are store_is x known c tree) where
   pub acked_at : known.clocks.down (Node node) ≡ false → o.own owners_are node ≡ Some session → LivesIn (last c.register.chain) session → row_in (last c.register.chain).sessions session ≡ Some row → IsAllowed (last c.register.chain)
       → c.slots row.slot ≡ record { activity = OfLog (works.Opens point); more = more } → c.doubts session ≡ Some doubt
@@ -116,7 +116,7 @@ module _ {G O S T : Type 0} (g : register.Ghosts G) (o : owners.Ghosts O) (st : 
 
       of_doubt : IsRecordOf more doubt
       of_doubt = subst (λ (l : Slot). IsRecordOf l.more doubt) opening
-          (subst (λ (found : Option Doubt). IsSomeAnd found (IsRecordOf (c.slots row.slot).more)) has (at.doubted.each session row is_row (ap (λ (l : Slot). begins l.activity) opening)))
+          (subst (λ (found : Option Unacknowledged). IsSomeAnd found (IsRecordOf (c.slots row.slot).more)) has (at.doubted.each session row is_row (ap (λ (l : Slot). begins l.activity) opening)))
 
       drafts : doubt.draft ≡ more.changed
       drafts = sym of_doubt.draft
@@ -203,10 +203,10 @@ module _ {G O S T : Type 0} (g : register.Ghosts G) (o : owners.Ghosts O) (st : 
           let e = slot_there c.slots row.slot its_row.slot (rest_slot next) ne in
           let other_one : other ≢ session = λ f. ne (slots_of its_row row (subst (λ (n : ℕ). row_in (last c.register.chain).sessions n ≡ Some its_row) f is_its) is_row) in
           subst (λ (l : Slot). IsSomeAnd (without_doubt c.doubts session other) (IsRecordOf l.more)) (sym e)
-          (subst (λ (found : Option Doubt). IsSomeAnd found (IsRecordOf (c.slots its_row.slot).more)) (sym ((without_only c.doubts session).others other other_one))
+          (subst (λ (found : Option Unacknowledged). IsSomeAnd found (IsRecordOf (c.slots its_row.slot).more)) (sym ((without_only c.doubts session).others other other_one))
           (at.doubted.each other its_row is_its (subst (λ (l : Slot). begins l.activity ≡ true) e is_begun)))
 
-      by_only : (other : ℕ) (found : Doubt) (b : Bool) → eqb other session ≡ b → without_doubt c.doubts session other ≡ Some found
+      by_only : (other : ℕ) (found : Unacknowledged) (b : Bool) → eqb other session ≡ b → without_doubt c.doubts session other ≡ Some found
           → (its_row : SessionRow) × (row_in (last c.register.chain).sessions other ≡ Some its_row) × (begins (with_slot c.slots row.slot (rest_slot next) its_row.slot).activity ≡ true)
       by_only other found true same is =
           let e : other ≡ session = grind (arith, nat_tests, same) in

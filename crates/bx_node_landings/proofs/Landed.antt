@@ -21,7 +21,7 @@ use Rattle.bx_rows.specs.Words.{is_taken, row_in}
 use Rattle.bx_rows.specs.declared.session.SessionRow.{SessionRow}
 use Rattle.bx_views.specs.Attempts.{Deed}
 use Rattle.bx_views.specs.Truths.{Hints, Truth}
-use Rattle.bx_volume.specs.Overlay.{IsTruth, Logs, with_log}
+use Rattle.bx_volume.specs.Overlay.{IsOverlaidTruth, Logs, with_log}
 use Rattle.bx_volume.specs.Records.{Logged, newest_in}
 use Rattle.bx_volume.proofs.Overlay.{log_here, log_there}
 use Rattle.bx_world_chains.specs.Entitled.{IsEntitled}
@@ -175,7 +175,7 @@ module _ {G O S T : Type 0} (g : register.Ghosts G) (o : owners.Ghosts O) (st : 
       → ((s d n : ℕ) → s < 8 → IsIn s n → now d n ≡ c.before d n)
       → ((block i : ℕ) → IsBlock (st.made store_is).areas block → newest_in (c.logs row.slot) block ≡ None → i < 9
       → now (block_place block (st.made store_is).devices).0 ((block_place block (st.made store_is).devices).1 + i) ≡ c.before (block_place block (st.made store_is).devices).0 ((block_place block (st.made store_is).devices).1 + i))
-      → IsTruth now (st.made store_is).devices (st.made store_is).areas (last c.register.chain).sessions c.logs c.truth
+      → IsOverlaidTruth now (st.made store_is).devices (st.made store_is).areas (last c.register.chain).sessions c.logs c.truth
       → AreHomed (SureOf g o st Stands Step register_is owners_are store_is x known c) (st.made store_is).devices (st.made store_is).areas now c.logs row.slot
       → StandsAt g o st Stands Step register_is owners_are store_is x known (with_landed c row.slot c.logs (record { activity = OfLog works.Closes; more = next }) now) tree
   homes_at next now rests some in_slots in_homes is_truth homed = landed_at (record { activity = OfLog works.Closes; more = next }) c.logs now (λ other ne. refl)

@@ -13,7 +13,7 @@ use Rattle.bx_world_logs.specs.bx_redo.specs.declared.work.Work.TheVariants as w
 use Rattle.bx_rows.specs.declared.session.SessionRow.{SessionRow}
 use Rattle.bx_rows.specs.Words.{is_taken}
 use Rattle.bx_views.specs.Truths.{Truth}
-use Rattle.bx_world_logs.specs.bx_volume.specs.Overlay.{Logs, IsTruth, IsUnlogged, filled_of}
+use Rattle.bx_world_logs.specs.bx_volume.specs.Overlay.{Logs, IsOverlaidTruth, IsUnlogged, filled_of}
 use Rattle.bx_world_logs.specs.bx_volume.specs.Records.{Logged, IsInBody, LogWhere, StandOpen, logged_text, newest_in}
 use Rattle.bx_world_logs.specs.bx_volume.proofs.Sizes.{length-block_text, logged_sectors}
 use Rattle.bx_world_logs.specs.Logs.{AreHomed, AreSure, Activity, OfLog, Found, Finds, IsBegun, IsHomeSure, IsInLog, LogsStand, Slot, SlotStands, begins, writes_in}
@@ -134,7 +134,7 @@ module _ (Sure : ℕ → ℕ → List ℕ → Type 0) (devices areas : ℕ) (row
       → ((other : ℕ) → other < 8 → other ≢ slot → (later other ≡ logs other) × (slots_then other ≡ slots other))
       → ((other : ℕ) → other < 8 → other ≢ slot → (d s : ℕ) → IsIn other s → now d s ≡ before d s)
       → ((other at i : ℕ) → other < 8 → other ≢ slot → IsBlock areas at → IsSome (newest_in (logs other) at) → i < 9 → now (block_place at devices).0 ((block_place at devices).1 + i) ≡ before (block_place at devices).0 ((block_place at devices).1 + i))
-      → IsTruth now devices areas rows later truth_then
+      → IsOverlaidTruth now devices areas rows later truth_then
       → ((at : ℕ) → IsBlock areas at → IsUnlogged later at → IsHomeSure Sure devices areas now at)
       → SlotStands Sure devices areas now (is_taken rows slot) later slot (slots_then slot)
       → ((one other at : ℕ) → one < 8 → other < 8 → IsInLog later slots_then one at → IsInLog later slots_then other at → one ≡ other)

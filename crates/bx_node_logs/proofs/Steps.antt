@@ -15,7 +15,7 @@ use Rattle.bx_world_logs.specs.bx_redo.proofs.Within.{before_it, behind_it, else
 use Rattle.bx_rows.specs.declared.session.SessionRow.{SessionRow}
 use Rattle.bx_rows.specs.Words.{is_taken}
 use Rattle.bx_views.specs.Truths.{Truth, with_draft}
-use Rattle.bx_world_logs.specs.bx_volume.specs.Overlay.{Logs, IsTruth, IsUnlogged, WritesOnly, filled_of, with_log}
+use Rattle.bx_world_logs.specs.bx_volume.specs.Overlay.{Logs, IsOverlaidTruth, IsUnlogged, WritesOnly, filled_of, with_log}
 use Rattle.bx_world_logs.specs.bx_volume.specs.Records.{Logged, LogWhere, StandOpen, gate_of, newest_in, or_older}
 use Rattle.bx_world_logs.specs.bx_volume.proofs.Overlay.{log_here, log_there, older_none}
 use Rattle.bx_world_logs.specs.bx_volume.proofs.Sizes.{filled_below, filled_there, logged_sectors}
@@ -44,7 +44,7 @@ module _ (Sure : ℕ → ℕ → List ℕ → Type 0) (devices areas : ℕ) (row
   -- One log goes on, behind a write in its slot.
   pub advance : (activity : Activity) → (slots slot).activity ≡ activity → ((d s : ℕ) → writes_in devices slot (length (logs slot)) activity d s ≡ false → now d s ≡ before d s)
       → (later : Logs) (is : Slot) (truth_then : Truth) → ((other : ℕ) → other ≢ slot → later other ≡ logs other)
-      → IsTruth now devices areas rows later truth_then
+      → IsOverlaidTruth now devices areas rows later truth_then
       → ((at : ℕ) → IsBlock areas at → IsUnlogged later at → IsHomeSure Sure devices areas before at)
       → IsLogOf Sure devices areas now later slot is
       → ((at : ℕ) → IsSome (newest_in (later slot) at) ⊎ ((begins is.activity ≡ true) × IsSome (block_in is.more.changed at)) → IsInLog logs slots slot at)

@@ -17,7 +17,7 @@ use Rattle.bx_rows.specs.declared.session.SessionRow.{SessionRow}
 use Rattle.bx_node_views.specs.bx_volume.specs.Overlay.{Logs}
 use Rattle.bx_node_views.specs.bx_volume.specs.Records.{Logged, newest_in}
 use Rattle.bx_node_views.specs.bx_world_logs.specs.Logs.{OfLog, Slot}
-use Rattle.bx_world_views.specs.Views.{Allows, Doubt}
+use Rattle.bx_world_views.specs.Views.{Allows, Unacknowledged}
 
 -- An event leaves the log of a slot, what is under way there, and the doubt of its session.
 pub record LeavesSlot (old new : Scene) (session slot : ℕ) : Type 0 where
@@ -58,7 +58,7 @@ module _ (devices areas : ℕ) (Touches : ℕ → ℕ → Type 0) (Sure Sure_the
     is.1,
     leaves.of_slot.slots ∙ is.2,
     leaves.writing (writes machine.log machine.log.work).1 (may.of_log is.2) is.3,
-    subst (λ (found : Option Doubt). IsSomeAnd found (IsDoubtIn machine.log.work call draft)) (sym leaves.of_slot.doubts) is.4,
+    subst (λ (found : Option Unacknowledged). IsSomeAnd found (IsDoubtIn machine.log.work call draft)) (sym leaves.of_slot.doubts) is.4,
     away is.5,
   )
   work_stays words.Homes is = (
@@ -93,7 +93,7 @@ pub all_same : (devices areas : ℕ) (Sure : ℕ → ℕ → List ℕ → Type 0
 all_same devices areas Sure Reads old new node session slot logs slots doubts out asked sent holding before machine is =
     about_stays devices areas (λ d s. Unit {0}) Sure Sure Reads Reads old new node session slot machine
     (record {
-      of_slot = record { logs = ap (λ (f : ℕ → List Logged). f slot) logs; slots = ap (λ (f : ℕ → Slot). (f slot).activity) slots; doubts = ap (λ (f : ℕ → Option Doubt). f session) doubts };
+      of_slot = record { logs = ap (λ (f : ℕ → List Logged). f slot) logs; slots = ap (λ (f : ℕ → Slot). (f slot).activity) slots; doubts = ap (λ (f : ℕ → Option Unacknowledged). f session) doubts };
       none_out = λ none. ap (λ (f : ℕ → Option Sent). f node) out ∙ none;
       none_asked = λ none. ap (λ (f : ℕ → Option Asked). f node) asked ∙ none;
       writing = λ runs touches writes. subst (λ (f : ℕ → Option Sent). IsWriting Sure session runs (f node) new.sent) (sym out) (subst (λ (l : List Sent). IsWriting Sure session runs (old.out node) l) (sym sent) writes);

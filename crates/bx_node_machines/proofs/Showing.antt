@@ -17,7 +17,7 @@ use Rattle.bx_views.specs.Truths.{Held, Hints, Truth, no_hints}
 use Rattle.bx_node_views.specs.bx_world_standing.specs.Parts.{Clocks}
 use Rattle.bx_node_views.specs.bx_world_standing.specs.Standing.{Course, Known, StandsAt, own_up}
 use Rattle.bx_node_views.specs.bx_world_standing.proofs.Owns.{own_is}
-use Rattle.bx_world_views.specs.Views.{Doubt, DoubtIn, ViewStands}
+use Rattle.bx_world_views.specs.Views.{Unacknowledged, DoubtIn, ViewStands}
 
 module _ {G O S T : Type 0} (g : register.Ghosts G) (o : owners.Ghosts O) (st : store.Ghosts S) (Stands : Truth → Hints → T → Type 0) (Step : T → Deed → T → Type 0)
     (register_is : G) (owners_are : O) (store_is : S) (x : Disks) where
@@ -66,7 +66,7 @@ module _ {G O S T : Type 0} (g : register.Ghosts G) (o : owners.Ghosts O) (st : 
     doubted = at.doubted;
   }
     where
-      by_doubt : (session : ℕ) (found : Option Doubt) → DoubtIn Stands Step (HasRow (last c.register.chain)) c.owners.holding c.truth tree session found
+      by_doubt : (session : ℕ) (found : Option Unacknowledged) → DoubtIn Stands Step (HasRow (last c.register.chain)) c.owners.holding c.truth tree session found
           → DoubtIn Stands Step (HasRow (last c.register.chain)) c.owners.holding c.truth next session found
       by_doubt session None is = is
       by_doubt session (Some doubt) is = (is.0, record { view = is.1.view; hinted = all doubt.hints is.1.hinted; own = is.1.own; works = is.1.works })

@@ -19,7 +19,7 @@ use Rattle.bx_views.specs.Truths.{Held, Hints}
 use Rattle.bx_node_views.specs.bx_volume.specs.Overlay.{Logs, IsUnlogged}
 use Rattle.bx_node_views.specs.bx_volume.specs.Records.{newest_in}
 use Rattle.bx_node_views.specs.bx_world_logs.specs.Logs.{OfLog, Slot, begins, idle}
-use Rattle.bx_world_views.specs.Views.{Act, Allows, Doubt, OfCall, OfTidy}
+use Rattle.bx_world_views.specs.Views.{Act, Allows, Unacknowledged, OfCall, OfTidy}
 
 -- ---- a node
 
@@ -108,14 +108,14 @@ IsOfClosing works.Closes = Unit {0}
 IsOfClosing works.Shuts = Unit {0}
 
 -- the record in doubt of a session is of these blocks and of this call, at a point that has its number
-pub record IsDoubtOf (call : Option Replying) (draft : List Changed) (point : Point) (doubt : Doubt) : Type 0 where
+pub record IsDoubtOf (call : Option Replying) (draft : List Changed) (point : Point) (doubt : Unacknowledged) : Type 0 where
   pub draft_is : doubt.draft ≡ draft
   pub call_is : doubt.call ≡ number_of call
   pub numbered : point.call ≡ number_of call
   pub act_is : doubt.act ≡ act_of call point
 
 -- at the point of the record that is written
-abbrev pub IsDoubtIn : Work → Option Replying → List Changed → Doubt → Type 0
+abbrev pub IsDoubtIn : Work → Option Replying → List Changed → Unacknowledged → Type 0
 IsDoubtIn works.Idle call draft doubt = ⊥
 IsDoubtIn (works.Body text point) call draft doubt = IsDoubtOf call draft point doubt
 IsDoubtIn (works.Opens point) call draft doubt = IsDoubtOf call draft point doubt
@@ -141,7 +141,7 @@ pub record Scene : Type 0 where
   pub before : Image
   pub logs : Logs
   pub slots : ℕ → Slot
-  pub doubts : ℕ → Option Doubt
+  pub doubts : ℕ → Option Unacknowledged
 
 -- what isn't home yet is what the log of a slot has
 abbrev pub AreAway : Logs → ℕ → MachineView → Type 0

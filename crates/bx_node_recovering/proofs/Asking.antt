@@ -11,7 +11,7 @@ use Rattle.bx_node_recovers.proofs.Read.{recovery_of}
 use Rattle.bx_places.specs.Places.{body_place, gate_place, log_device, log_start}
 use Rattle.bx_records.specs.Runs.{KindAndRuns}
 use Rattle.bx_recover.specs.Bodies.{IsRecordIn}
-use Rattle.bx_recover.specs.Done.{IsLast, Step, WasRead}
+use Rattle.bx_recover.specs.Done.{IsLast, RecoveryStep, WasRead}
 use Rattle.bx_recover.specs.Recovering.{RecoveryView, reads_body, reads_gates}
 use Rattle.bx_recover.specs.declared.moves.Move.{Move}
 use Rattle.bx_recover.specs.declared.moves.Move.TheVariants.{Read, Wait, Write}
@@ -23,7 +23,7 @@ use Rattle.bx_volume.specs.Records.{Logged, gate_of}
 -- ---- what was asked for last
 
 -- it is one thing
-pub last_one : (steps : List Step) (a b : Move) → a ≢ Wait → b ≢ Wait → IsLast steps a → IsLast steps b → a ≡ b
+pub last_one : (steps : List RecoveryStep) (a b : Move) → a ≢ Wait → b ≢ Wait → IsLast steps a → IsLast steps b → a ≡ b
 last_one [] a b some other one two = absurd one
 last_one (step ∷ steps) a b some other one two = ⊎_elim
     (λ first. ⊎_elim (λ second. sym first ∙ second) (λ waits. absurd (some (sym first ∙ waits.0))) two)
@@ -31,7 +31,7 @@ last_one (step ∷ steps) a b some other one two = ⊎_elim
     one
 
 -- gates aren't a body, and each body has its place
-pub gates_or_body : (devices slot body : ℕ) (steps : List Step) → IsLast steps (Read (log_device slot devices) (log_start slot + 0) 8) → IsLast steps (body_read devices slot body) → ⊥
+pub gates_or_body : (devices slot body : ℕ) (steps : List RecoveryStep) → IsLast steps (Read (log_device slot devices) (log_start slot + 0) 8) → IsLast steps (body_read devices slot body) → ⊥
 gates_or_body devices slot body steps one two =
     let wrong = last_one steps (Read (log_device slot devices) (log_start slot + 0) 8) (body_read devices slot body) (λ e. cc) (λ e. cc) one two in
     apart 8 145 refl refl (same_count (log_device slot devices) (log_device slot devices) (log_start slot + 0) (log_start slot + 8 + 145 * body) 8 145 wrong)
@@ -64,13 +64,13 @@ settled_sure devices slot session Sure gates out sent long none (inl flying) = a
 settled_sure devices slot session Sure gates out sent long none (inr landed) = λ gate low. landed.sure (gate_place slot gate devices).0 (gate_place slot gate devices).1 (sector_of gates gate) (gates_written devices slot gates long gate low)
 
 -- no body is read where a write was asked for last
-pub none_read_then : (devices slot : ℕ) (steps : List Step) (step : Step) (runs : KindAndRuns) → IsLast steps (Write runs) → HasReadNone devices slot steps → HasReadNone devices slot (step ∷ steps)
+pub none_read_then : (devices slot : ℕ) (steps : List RecoveryStep) (step : RecoveryStep) (runs : KindAndRuns) → IsLast steps (Write runs) → HasReadNone devices slot steps → HasReadNone devices slot (step ∷ steps)
 none_read_then devices slot steps step runs last none body bytes (inl is) = let wrong = last_one steps (Write runs) (body_read devices slot body) (λ e. cc) (λ e. cc) last is.1 in cc
 none_read_then devices slot steps step runs last none body bytes (inr before) = none body bytes before
 
 -- ---- steps
 
-module _ (devices areas : ℕ) (Sure : ℕ → ℕ → List ℕ → Type 0) (Reads : ℕ → List ℕ → Type 0) (chain : Chain) (knew : ℕ) (proposed : List Change) (a : Around) (session gone slot : ℕ) (records : List Logged) (step : Step) where
+module _ (devices areas : ℕ) (Sure : ℕ → ℕ → List ℕ → Type 0) (Reads : ℕ → List ℕ → Type 0) (chain : Chain) (knew : ℕ) (proposed : List Change) (a : Around) (session gone slot : ℕ) (records : List Logged) (step : RecoveryStep) where
   abbrev Is : Stage → List Logged → Type 0
   Is stage read = IsRecovering devices areas Sure Reads chain knew proposed a session gone slot stage read
 
@@ -87,8 +87,8 @@ module _ (devices areas : ℕ) (Sure : ℕ → ℕ → List ℕ → Type 0) (Rea
   }
     where
       none : HasReadNone devices slot (step ∷ was.steps)
-      none body bytes (inl last) = subst (λ (l : List Step). IsLast l (body_read devices slot body)) was.at.2 last.1
-      none body bytes (inr before) = subst (λ (l : List Step). WasRead l (body_read devices slot body) bytes) was.at.2 before
+      none body bytes (inl last) = subst (λ (l : List RecoveryStep). IsLast l (body_read devices slot body)) was.at.2 last.1
+      none body bytes (inr before) = subst (λ (l : List RecoveryStep). WasRead l (body_read devices slot body) bytes) was.at.2 before
 
   -- What came wasn't all gates: it asks again.
   pub gates_again : (bytes : List ℕ) → step.arrived ≡ Some bytes → step.said ≡ reads_gates (recovery_of slot devices areas Gates records) → a.asked ≡ None → Is Gates records → Is Gates records

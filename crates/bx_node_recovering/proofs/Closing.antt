@@ -29,7 +29,7 @@ use Rattle.bx_places.specs.Places.{gate_place, log_device, log_start}
 use Rattle.bx_post.specs.declared.packets.Letter.{Letter}
 use Rattle.bx_records.specs.Drafts.{Changed}
 use Rattle.bx_records.specs.declared.runs.Run.{Run}
-use Rattle.bx_recover.specs.Done.{HasRun, Step}
+use Rattle.bx_recover.specs.Done.{HasRun, RecoveryStep}
 use Rattle.bx_recover.specs.HomesOf.{AreNewestOf, home_runs}
 use Rattle.bx_recover.specs.Recovering.{RecoveryView, brings_home, closes}
 use Rattle.bx_recover.specs.declared.moves.Move.TheVariants.{Closed as Ended}
@@ -59,7 +59,7 @@ module _ {G O S T : Type 0} (g : register.Ghosts G) (o : owners.Ghosts O) (st : 
     (at : StandsAt g o st Stands Step_is register_is owners_are old x known c tree) (allowed : IsAllowed (last c.register.chain))
     (none_sent : (other : Sent) → Contains c.store.writes other → other.session ≢ session)
     (up : known.clocks.down (Node node) ≡ false) (own : st.own old node ≡ Some session)
-    (sending : IsSending g o st register_is owners_are old new x c letters node session write) (records : List Logged) (step : Step) where
+    (sending : IsSending g o st register_is owners_are old new x c letters node session write) (records : List Logged) (step : RecoveryStep) where
   abbrev Sure : ℕ → ℕ → List ℕ → Type 0
   Sure = SureOf g o st Stands Step_is register_is owners_are old x known c
 
@@ -255,7 +255,7 @@ module _ {G O S T : Type 0} (g : register.Ghosts G) (o : owners.Ghosts O) (st : 
 module _ {G O S T : Type 0} (g : register.Ghosts G) (o : owners.Ghosts O) (st : store.Ghosts S) (Stands : Truth → Hints → T → Type 0) (Step_is : T → Deed → T → Type 0)
     (register_is : G) (owners_are : O) (old : S) (x : Disks) (known : Known) (c : Course) (tree : T) (node session gone slot : ℕ)
     (at : StandsAt g o st Stands Step_is register_is owners_are old x known c tree) (allowed : IsAllowed (last c.register.chain))
-    (none_sent : (other : Sent) → Contains c.store.writes other → other.session ≢ session) (records : List Logged) (step : Step) where
+    (none_sent : (other : Sent) → Contains c.store.writes other → other.session ≢ session) (records : List Logged) (step : RecoveryStep) where
   -- the course then
   abbrev pub others_then : Course
   others_then = with_landed c slot c.logs (record { activity = idle; more = (c.slots slot).more }) (stored c.before (view_of (st.made old).devices slot (length (c.logs slot)) works.Shuts))

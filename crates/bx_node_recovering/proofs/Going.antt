@@ -11,7 +11,7 @@ use Rattle.bx_node_recovers.proofs.Read.{recovery_of}
 use Rattle.bx_places.specs.Places.{IsBlock, block_place, body_place, gate_place, log_device, log_start}
 use Rattle.bx_records.specs.Drafts.{Block}
 use Rattle.bx_records.specs.declared.runs.Run.{Run}
-use Rattle.bx_recover.specs.Done.{HasDone, Step}
+use Rattle.bx_recover.specs.Done.{HasDone, RecoveryStep}
 use Rattle.bx_recover.specs.HomesOf.{home_runs}
 use Rattle.bx_recover.specs.declared.stage.Stage.{Stage}
 use Rattle.bx_recover.specs.declared.stage.Stage.TheVariants.{Begins, Gates, Settles, Bodies, Told, Homes, Closes, Shuts, Closed}
@@ -194,7 +194,7 @@ module _ (devices areas : ℕ) (Sure Sure_then : ℕ → ℕ → List ℕ → Ty
         leaves.asked
 
     -- What goes with each stage goes with it still.
-    pub stage_on : (records : List Logged) (steps : List Step) (stage : Stage) (done : HasDone (recovery_of slot devices areas stage records) steps stage)
+    pub stage_on : (records : List Logged) (steps : List RecoveryStep) (stage : Stage) (done : HasDone (recovery_of slot devices areas stage records) steps stage)
         → IsAtStage devices areas Sure Reads a session slot records steps stage done → IsAtStage devices areas Sure_then Reads_then b session slot records steps stage done
     stage_on records steps Begins done at = (none_out at.0, none_asked at.1, at.2)
     stage_on records steps Gates done at = (none_out at.0, gates_on at.1, at.2)

@@ -24,7 +24,7 @@ use Rattle.bx_node_recovers.proofs.Landed.{none_at}
 use Rattle.bx_node_recovers.proofs.Read.{recovery_of}
 use Rattle.bx_post.specs.declared.packets.Letter.{Letter}
 use Rattle.bx_recover.specs.Bodies.{HasNoRecord}
-use Rattle.bx_recover.specs.Done.{HasRun, HasSettled, Step}
+use Rattle.bx_recover.specs.Done.{HasRun, HasSettled, RecoveryStep}
 use Rattle.bx_recover.specs.Gates.{IsOpenRun}
 use Rattle.bx_recover.specs.Recovering.{RecoveryView, closes, settles}
 use Rattle.bx_recover.specs.declared.stage.Stage.{Stage}
@@ -36,7 +36,7 @@ use Rattle.bx_views.specs.Truths.{Hints, Truth}
 use Rattle.bx_volume.specs.Records.{Logged}
 use Rattle.bx_world_logs.specs.Logs.{OfLog, Slot, opens}
 use Rattle.bx_world_logs.proofs.Moving.{slot_here}
-use Rattle.bx_world_views.specs.Views.{Doubt, StepOf}
+use Rattle.bx_world_views.specs.Views.{Unacknowledged, StepOf}
 use Rattle.bx_world_views.proofs.Doubts.{without_doubt}
 use Rattle.bx_world_standing.specs.Standing.{Course, Known, StandsAt, SureOf}
 
@@ -45,7 +45,7 @@ module _ {G O S T : Type 0} (g : register.Ghosts G) (o : owners.Ghosts O) (st : 
     (at : StandsAt g o st Stands Step_is register_is owners_are old x known c tree) (allowed : IsAllowed (last c.register.chain))
     (none_sent : (other : Sent) → Contains c.store.writes other → other.session ≢ session)
     (settled_is : (device sector : ℕ) (content : List ℕ) (index : ℕ) → st.stands old x c.store device sector content index → IsSettled x (last c.store.told.chain) device sector content)
-    (records : List Logged) (step : Step) where
+    (records : List Logged) (step : RecoveryStep) where
   abbrev devices : ℕ
   devices = (st.made old).devices
 
@@ -57,7 +57,7 @@ module _ {G O S T : Type 0} (g : register.Ghosts G) (o : owners.Ghosts O) (st : 
 
   -- the tree is as it was, or that after the record in doubt, whose gate was being opened
   abbrev pub GoesTo : T → Type 0
-  GoesTo next = (next ≡ tree) ⊎ ((doubt : Doubt) × (c.doubts gone ≡ Some doubt) × (opens (c.slots slot).activity ≡ true) × StepOf Stands Step_is doubt.act tree next)
+  GoesTo next = (next ≡ tree) ⊎ ((doubt : Unacknowledged) × (c.doubts gone ≡ Some doubt) × (opens (c.slots slot).activity ≡ true) × StepOf Stands Step_is doubt.act tree next)
 
   -- Where gate 0 is open, and settled, the first body begins with a record.
   pub has_first : (opened : ℕ) (bytes : List ℕ) → step.arrived ≡ Some bytes → st.asked old node ≡ None → (was : Before (Bodies opened))

@@ -19,7 +19,7 @@ use Rattle.bx_node_recovers.proofs.Read.{recovery_of}
 use Rattle.bx_node_recovers.proofs.Told as tells
 use Rattle.bx_places.specs.Places.{gate_place}
 use Rattle.bx_recover.specs.Bodies.{HasNoRecord, IsRecordIn}
-use Rattle.bx_recover.specs.Done.{HasRun, HasSettled, Step}
+use Rattle.bx_recover.specs.Done.{HasRun, HasSettled, RecoveryStep}
 use Rattle.bx_recover.specs.Reading.{AreGates}
 use Rattle.bx_recover.specs.declared.moves.Move.TheVariants.{Acked}
 use Rattle.bx_recover.specs.declared.stage.Stage.{Stage}
@@ -33,7 +33,7 @@ use Rattle.bx_world_chains.specs.Entitled.{IsEntitled}
 use Rattle.bx_world_images.proofs.Settling.{found_slot}
 use Rattle.bx_world_logs.specs.Logs.{Found, Slot, opens}
 use Rattle.bx_world_logs.proofs.Moving.{slot_here}
-use Rattle.bx_world_views.specs.Views.{Doubt, StepOf}
+use Rattle.bx_world_views.specs.Views.{Unacknowledged, StepOf}
 use Rattle.bx_world_standing.specs.Standing.{Course, Known, StandsAt, SureOf}
 
 module _ {G O S T : Type 0} (g : register.Ghosts G) (o : owners.Ghosts O) (st : store.Ghosts S) (Stands : Truth → Hints → T → Type 0) (Step_is : T → Deed → T → Type 0)
@@ -53,11 +53,11 @@ module _ {G O S T : Type 0} (g : register.Ghosts G) (o : owners.Ghosts O) (st : 
 
   -- The tree is as it was, or that after the record in doubt, whose gate was being opened.
   abbrev pub GoesTo : T → Type 0
-  GoesTo next = (next ≡ tree) ⊎ ((doubt : Doubt) × (c.doubts gone ≡ Some doubt) × (opens (c.slots slot).activity ≡ true) × StepOf Stands Step_is doubt.act tree next)
+  GoesTo next = (next ≡ tree) ⊎ ((doubt : Unacknowledged) × (c.doubts gone ≡ Some doubt) × (opens (c.slots slot).activity ≡ true) × StepOf Stands Step_is doubt.act tree next)
 
   -- ---- by a run that was read
 
-  module _ (stage : Stage) (read : List Logged) (steps : List Step) (has : HasRun (recovery_of slot devices areas stage read) steps)
+  module _ (stage : Stage) (read : List Logged) (steps : List RecoveryStep) (has : HasRun (recovery_of slot devices areas stage read) steps)
       (sure : AreSettled devices Sure slot has.settled.gates)
       (bodies : AreBodiesAsRead devices (around g o st Stands Step_is register_is owners_are store_is x known c node) slot steps) where
     pub as_read : (gate : ℕ) (content : List ℕ) → gate < 8 → Sure (gate_place slot gate devices).0 (gate_place slot gate devices).1 content → sector_of has.settled.gates gate ≡ content
@@ -100,7 +100,7 @@ module _ {G O S T : Type 0} (g : register.Ghosts G) (o : owners.Ghosts O) (st : 
 
   -- ---- where a body comes
 
-  module _ (opened : ℕ) (records : List Logged) (step : Step) (bytes : List ℕ) (came : step.arrived ≡ Some bytes) (asked : st.asked store_is node ≡ None)
+  module _ (opened : ℕ) (records : List Logged) (step : RecoveryStep) (bytes : List ℕ) (came : step.arrived ≡ Some bytes) (asked : st.asked store_is node ≡ None)
       (was : Recovers g o st Stands Step_is register_is owners_are store_is x known c node session gone slot (Bodies opened) records)
       (reads : IsBodyAsRead devices (around g o st Stands Step_is register_is owners_are store_is x known c node) slot (length records) bytes) where
     pub then_bodies : AreBodiesAsRead devices (around g o st Stands Step_is register_is owners_are store_is x known c node) slot (step ∷ was.steps)

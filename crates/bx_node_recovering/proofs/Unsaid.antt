@@ -8,10 +8,10 @@ use Rattle.bx_world_chains.proofs.Rows.{one_slot}
 use Rattle.bx_world_images.proofs.Settling.{found_slot}
 use Rattle.bx_world_logs.specs.Logs.{Slot, opens}
 use Rattle.bx_world_logs.proofs.Moving.{slot_here, slot_there, with_slot}
-use Rattle.bx_world_views.specs.Views.{Doubt}
+use Rattle.bx_world_views.specs.Views.{Unacknowledged}
 use Rattle.bx_world_views.proofs.Doubts.{without_doubt, without_only}
 
-module _ (rows : List SessionRow) (slots : ℕ → Slot) (doubts : ℕ → Option Doubt) (gone slot : ℕ) (row : SessionRow) (own : HaveOwnSlots rows) (is : row_in rows gone ≡ Some row) (at : row.slot ≡ slot) where
+module _ (rows : List SessionRow) (slots : ℕ → Slot) (doubts : ℕ → Option Unacknowledged) (gone slot : ℕ) (row : SessionRow) (own : HaveOwnSlots rows) (is : row_in rows gone ≡ Some row) (at : row.slot ≡ slot) where
   abbrev slots_then : ℕ → Slot
   slots_then = with_slot slots slot (found_slot (slots slot))
 

@@ -13,7 +13,7 @@ use Rattle.bx_global.specs.declared.state.GlobalState.{GlobalState}
 use Rattle.bx_node_machines.specs.Machines.{IsWriting}
 use Rattle.bx_places.specs.Places.{body_place, gate_place}
 use Rattle.bx_records.specs.declared.runs.Run.{Run}
-use Rattle.bx_recover.specs.Done.{HasDone, Step, WasRead}
+use Rattle.bx_recover.specs.Done.{HasDone, RecoveryStep, WasRead}
 use Rattle.bx_recover.specs.HomesOf.{home_runs}
 use Rattle.bx_recover.specs.declared.moves.Move.{Move}
 use Rattle.bx_recover.specs.declared.moves.Move.TheVariants.{Read}
@@ -98,17 +98,17 @@ abbrev pub AreSettled : ℕ → (ℕ → ℕ → List ℕ → Type 0) → ℕ �
 AreSettled devices Sure slot gates = (gate : ℕ) → gate < 8 → Sure (gate_place slot gate devices).0 (gate_place slot gate devices).1 (sector_of gates gate)
 
 -- no body was read; whatever was read of bodies is as it stands
-abbrev pub HasReadNone : ℕ → ℕ → List Step → Type 0
+abbrev pub HasReadNone : ℕ → ℕ → List RecoveryStep → Type 0
 HasReadNone devices slot steps = (body : ℕ) (bytes : List ℕ) → WasRead steps (body_read devices slot body) bytes → ⊥
 
-abbrev pub AreBodiesAsRead : ℕ → Around → ℕ → List Step → Type 0
+abbrev pub AreBodiesAsRead : ℕ → Around → ℕ → List RecoveryStep → Type 0
 AreBodiesAsRead devices a slot steps = (body : ℕ) (bytes : List ℕ) → WasRead steps (body_read devices slot body) bytes → IsBodyAsRead devices a slot body bytes
 
 -- the log is found, and has the records that were read
 abbrev pub IsFound : Around → ℕ → List Logged → Type 0
 IsFound a slot records = ((a.slots slot).activity ≡ Found) × (records ≡ reverse (a.logs slot))
 
-module _ (devices areas : ℕ) (Sure : ℕ → ℕ → List ℕ → Type 0) (Reads : ℕ → List ℕ → Type 0) (a : Around) (session slot : ℕ) (records : List Logged) (steps : List Step) where
+module _ (devices areas : ℕ) (Sure : ℕ → ℕ → List ℕ → Type 0) (Reads : ℕ → List ℕ → Type 0) (a : Around) (session slot : ℕ) (records : List Logged) (steps : List RecoveryStep) where
   -- What goes with each stage, by what was done before it.
   abbrev pub IsAtStage : (stage : Stage) → HasDone (recovery_of slot devices areas stage records) steps stage → Type 0
   IsAtStage Begins done = (a.out ≡ None) × (a.asked ≡ None) × (steps ≡ [])
@@ -143,7 +143,7 @@ pub record IsRecovering (devices areas : ℕ) (Sure : ℕ → ℕ → List ℕ �
   pub known : (s : GlobalState) → IsPlace chain s → knew ≤ s.index → IsEntitled s gone slot session
   pub other : gone ≢ session
   pub unproposed : (HasEnded stage → ⊥) → Contains proposed (Close gone session) → ⊥
-  pub steps : List Step
+  pub steps : List RecoveryStep
   pub done : HasDone (recovery_of slot devices areas stage records) steps stage
   pub at : IsAtStage devices areas Sure Reads a session slot records steps stage done
 

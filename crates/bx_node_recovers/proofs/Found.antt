@@ -8,7 +8,7 @@ use Rattle.bx_redo.specs.declared.work.Work.TheVariants as works
 use Rattle.bx_rows.specs.declared.session.SessionRow.{SessionRow}
 use Rattle.bx_rows.specs.Words.{is_taken}
 use Rattle.bx_views.specs.Truths.{Truth}
-use Rattle.bx_volume.specs.Overlay.{Logs, IsTruth}
+use Rattle.bx_volume.specs.Overlay.{Logs, IsOverlaidTruth}
 use Rattle.bx_volume.specs.Records.{Logged, LogWhere, newest_in}
 use Rattle.bx_world_standing.specs.bx_world_logs.specs.Logs.{AreHomed, Activity, Found, IsInLog, IsLogOf, LogsStand, OfLog, Slot, SlotStands, begins, writes_in}
 use Rattle.bx_world_standing.specs.bx_world_logs.proofs.Moving.{slot_here, slot_there, with_slot}
@@ -28,7 +28,7 @@ module _ (Sure : ℕ → ℕ → List ℕ → Type 0) (devices areas : ℕ) (row
   pub homes_land : (next : Logged) → (slots slot).activity ≡ Found → 0 < length (logs slot)
       → ((s d x : ℕ) → s < 8 → IsIn s x → now d x ≡ before d x)
       → ((at i : ℕ) → IsBlock areas at → newest_in (logs slot) at ≡ None → i < 9 → now (block_place at devices).0 ((block_place at devices).1 + i) ≡ before (block_place at devices).0 ((block_place at devices).1 + i))
-      → IsTruth now devices areas rows logs truth → AreHomed Sure devices areas now logs slot
+      → IsOverlaidTruth now devices areas rows logs truth → AreHomed Sure devices areas now logs slot
       → LogsStand Sure devices areas rows now logs (with_slot slots slot (record { activity = OfLog works.Closes; more = next })) truth
   homes_land next was some in_slots in_homes is_truth homed =
       moved Sure devices areas rows before now logs logs slots (with_slot slots slot then_is) truth truth slot less st

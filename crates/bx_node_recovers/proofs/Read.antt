@@ -13,7 +13,7 @@ use Rattle.bx_volume.proofs.Sizes.{filled_below, filled_there}
 use Rattle.bx_world_standing.specs.bx_world_logs.specs.Logs.{Activity, Finds, Found, IsLogOf, LogsStand, OfLog, Slot, SlotStands, opens, writes_in}
 use Rattle.bx_world_standing.specs.bx_world_logs.specs.Shown.{IsRun}
 use Rattle.bx_node_logs.proofs.Moved.{fills_few}
-use Rattle.bx_recover.specs.Done.{HasRun, Step, WasRead}
+use Rattle.bx_recover.specs.Done.{HasRun, RecoveryStep, WasRead}
 use Rattle.bx_recover.specs.Reading.{AreGates}
 use Rattle.bx_recover.specs.Recovering.{RecoveryView, reads_body}
 use Rattle.bx_recover.specs.declared.stage.Stage.{Stage}
@@ -70,7 +70,7 @@ module _ (Sure : ℕ → ℕ → List ℕ → Type 0) (devices areas : ℕ) (row
       (body_out (slots slot).activity its.finds body i (in_run body low).0 (fills_few now devices areas slot run body i log.stand low fills))
 
   -- Where bodies were read as they stand, as far as their records fill them, the records that were read are those of the run.
-  pub read_run : (stage : Stage) (records : List Logged) (steps : List Step) (has : HasRun (recovery_of slot devices areas stage records) steps) → AreGates now devices slot has.settled.gates
+  pub read_run : (stage : Stage) (records : List Logged) (steps : List RecoveryStep) (has : HasRun (recovery_of slot devices areas stage records) steps) → AreGates now devices slot has.settled.gates
       → ((body i : ℕ) (bytes : List ℕ) → WasRead steps (reads_body (recovery_of slot devices areas stage records) body) bytes → i < 145
       → (body < length (logs slot)) ⊎ ((body ≡ length (logs slot)) × (opens (slots slot).activity ≡ true)) → i < filled_of ((slots slot).more ∷ logs slot) body
       → sector_of bytes i ≡ before (body_place slot body devices).0 ((body_place slot body devices).1 + i))

@@ -23,7 +23,7 @@ use Rattle.bx_world_standing.specs.bx_world_logs.specs.Logs.{IsLogOf, Slot, Slot
 use Rattle.bx_world_standing.specs.bx_world_logs.specs.Shown.{IsRun, ShowsSlot}
 use Rattle.bx_world_standing.specs.Standing.{Course, Known, StandsAt, SureOf}
 use Rattle.bx_world_volumes.proofs.Recovered.{IsSettledTo, after, recovered, settled}
-use Rattle.bx_recover.specs.Done.{HasRun, Step, WasRead}
+use Rattle.bx_recover.specs.Done.{HasRun, RecoveryStep, WasRead}
 use Rattle.bx_recover.specs.Reading.{AreGates}
 use Rattle.bx_recover.specs.Recovering.{reads_body}
 use Rattle.bx_recover.specs.declared.stage.Stage.{Stage}
@@ -50,7 +50,7 @@ module _ {G O S T : Type 0} (g : register.Ghosts G) (o : owners.Ghosts O) (st : 
     (entitled : IsEntitled (last c.register.chain) gone slot session) (other : gone ≢ session)
     (none_out : (write : Sent) → Contains c.store.writes write → write.session ≢ session)
     (unproposed : Contains c.register.proposed (Close gone session) → ⊥)
-    (stage : Stage) (records : List Logged) (steps : List Step)
+    (stage : Stage) (records : List Logged) (steps : List RecoveryStep)
     (has : HasRun (recovery_of slot (st.made store_is).devices (st.made store_is).areas stage records) steps)
     (as_read : (gate : ℕ) (content : List ℕ) → gate < 8 → SureOf g o st Stands Step_is register_is owners_are store_is x known c (gate_place slot gate (st.made store_is).devices).0 (gate_place slot gate (st.made store_is).devices).1 content
     → sector_of has.settled.gates gate ≡ content)

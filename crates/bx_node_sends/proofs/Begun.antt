@@ -23,7 +23,7 @@ use Rattle.bx_global.specs.Allowed.{IsAllowed, IsSession}
 use Rattle.bx_world_chains.proofs.Rows.{all_row, one_slot, taken_of}
 use Rattle.bx_node_views.specs.bx_world_logs.specs.Logs.{IsInLog, Slot, OfLog, begins, idle, point_in}
 use Rattle.bx_world_views.specs.Views as views
-use Rattle.bx_world_views.specs.Views.{Act, Allows, Doubt, IsOwned}
+use Rattle.bx_world_views.specs.Views.{Act, Allows, Unacknowledged, IsDraftHeld}
 use Rattle.bx_node_views.specs.bx_world_standing.specs.Rights.{HasBlock, MayTouch}
 use Rattle.bx_node_views.specs.bx_world_standing.specs.Rights.MayTouch.{OfSlot, OfHeld, OfLogged}
 use Rattle.bx_node_views.specs.bx_world_standing.specs.Doubts.{IsRecordOf}
@@ -33,14 +33,14 @@ use Rattle.bx_node_views.specs.bx_world_logs.proofs.Moving.{slot_here, slot_ther
 use Rattle.bx_node_views.proofs.Views.{began, owned}
 
 -- the doubts with one more
-abbrev pub with_doubt : (ℕ → Option Doubt) → ℕ → Doubt → ℕ → Option Doubt
+abbrev pub with_doubt : (ℕ → Option Unacknowledged) → ℕ → Unacknowledged → ℕ → Option Unacknowledged
 with_doubt doubts session doubt other = if other == session then Some doubt else doubts other
 
 -- the slot where the body of a record is written
 abbrev pub body_slot : Logged → Slot
 body_slot more = record { activity = OfLog (works.Body (logged_text more) (point_in more)); more = more }
 
-abbrev pub with_record : Course → ℕ → ℕ → Logged → Doubt → Course
+abbrev pub with_record : Course → ℕ → ℕ → Logged → Unacknowledged → Course
 with_record c slot session more doubt = record c { slots = with_slot c.slots slot (body_slot more); doubts = with_doubt c.doubts session doubt }
 
 allows_it : (hold : Option Hold) → Allows hold Exclusive → is_exclusive hold ≡ true
@@ -95,7 +95,7 @@ module _ {G O S T : Type 0} (g : register.Ghosts G) (o : owners.Ghosts O) (st : 
       unclosed : (by : ℕ) → Contains c.register.proposed (Close session by) → ⊥
       unclosed by there = (at.closings session by there).dead lives
 
-      its_doubt : Doubt
+      its_doubt : Unacknowledged
       its_doubt = record { call = call; act = act; draft = more.changed; held = known.held node; hints = known.hints node }
 
       up_own : own_up known.clocks.down (o.own owners_are) node ≡ Some session
@@ -107,7 +107,7 @@ module _ {G O S T : Type 0} (g : register.Ghosts G) (o : owners.Ghosts O) (st : 
       doubt_there : (other : ℕ) → other ≢ session → with_doubt c.doubts session its_doubt other ≡ c.doubts other
       doubt_there other ne = let t : (other == session) ≡ false = grind (arith, nat_tests, ne) in ap (λ (b : Bool). if b then Some its_doubt else c.doubts other) t
 
-      its : IsOwned c.owners.holding session more.changed
+      its : IsDraftHeld c.owners.holding session more.changed
       its = owned c.owners.holding c.truth session (known.held node) more.changed (at.volume.views node session up_own lives) fair
 
       same_slot : (slot : ℕ) → eqb slot row.slot ≡ true → slot ≡ row.slot
@@ -156,19 +156,19 @@ module _ {G O S T : Type 0} (g : register.Ghosts G) (o : owners.Ghosts O) (st : 
           let e = same_slot its_row.slot same in
           subst (λ (n : ℕ). IsSomeAnd (with_doubt c.doubts session its_doubt n) (IsRecordOf (with_slot c.slots row.slot (body_slot more) its_row.slot).more)) (sym (own_slot other its_row has e))
           (subst (λ (l : Slot). IsSomeAnd (with_doubt c.doubts session its_doubt session) (IsRecordOf l.more)) (sym (ap (λ (n : ℕ). with_slot c.slots row.slot (body_slot more) n) e ∙ slot_here c.slots row.slot (body_slot more)))
-          (subst (λ (found : Option Doubt). IsSomeAnd found (IsRecordOf more)) (sym doubt_here) of_doubt))
+          (subst (λ (found : Option Unacknowledged). IsSomeAnd found (IsRecordOf more)) (sym doubt_here) of_doubt))
       by_doubt other its_row has false apart is_begun =
           let ne = other_slot its_row.slot apart in
           let e = slot_there c.slots row.slot its_row.slot (body_slot more) ne in
           let other_one : other ≢ session = λ f. ne (slots_of its_row row (subst (λ (n : ℕ). row_in (last c.register.chain).sessions n ≡ Some its_row) f has) is_row) in
           subst (λ (l : Slot). IsSomeAnd (with_doubt c.doubts session its_doubt other) (IsRecordOf l.more)) (sym e)
-          (subst (λ (found : Option Doubt). IsSomeAnd found (IsRecordOf (c.slots its_row.slot).more)) (sym (doubt_there other other_one))
+          (subst (λ (found : Option Unacknowledged). IsSomeAnd found (IsRecordOf (c.slots its_row.slot).more)) (sym (doubt_there other other_one))
           (at.doubted.each other its_row has (subst (λ (l : Slot). begins l.activity ≡ true) e is_begun)))
         where
           slots_of : (a b : SessionRow) → row_in (last c.register.chain).sessions session ≡ Some a → row_in (last c.register.chain).sessions session ≡ Some b → a.slot ≡ b.slot
           slots_of a b one two = let e : a ≡ b = cc in ap (λ (r : SessionRow). r.slot) e
 
-      by_only : (other : ℕ) (found : Doubt) (b : Bool) → eqb other session ≡ b → with_doubt c.doubts session its_doubt other ≡ Some found
+      by_only : (other : ℕ) (found : Unacknowledged) (b : Bool) → eqb other session ≡ b → with_doubt c.doubts session its_doubt other ≡ Some found
           → (its_row : SessionRow) × (row_in (last c.register.chain).sessions other ≡ Some its_row) × (begins (with_slot c.slots row.slot (body_slot more) its_row.slot).activity ≡ true)
       by_only other found true same has =
           let e : other ≡ session = grind (arith, nat_tests, same) in

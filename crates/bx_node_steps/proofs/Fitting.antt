@@ -31,7 +31,7 @@ use Rattle.bx_records.specs.Runs.{KindAndRuns}
 use Rattle.bx_records.specs.declared.runs.Run.{Run}
 use Rattle.bx_redo.specs.Homes.{home_run}
 use Rattle.bx_redo.specs.Steps.{record_of, shut_text}
-use Rattle.bx_redo.specs.View.{HasRoom, LogView}
+use Rattle.bx_redo.specs.View.{HasRecordRoom, LogView}
 use Rattle.bx_redo.specs.declared.work.Work.{Work}
 use Rattle.bx_redo.specs.declared.work.Work.TheVariants as works
 use Rattle.bx_volume.specs.Records.{IsLogged, Logged, logged_text}
@@ -144,8 +144,8 @@ module _ (made : Made) (areas : ℕ) (asked : Option Asked) (old new : Machine) 
   fits_as : (stage : Stage) → old.stage ≡ stage → FitsStage old.cache.areas old.log stage
   fits_as stage same = subst (λ (s : Stage). FitsStage old.cache.areas old.log s) same is.fits
 
-  room_as : (work : Work) → old.log.work ≡ work → HasRoom work old.log.count
-  room_as work same = subst (λ (w : Work). HasRoom w old.log.count) same is.room
+  room_as : (work : Work) → old.log.work ≡ work → HasRecordRoom work old.log.count
+  room_as work same = subst (λ (w : Work). HasRecordRoom w old.log.count) same is.room
 
   -- what it asks for may be written
   pub step_fits : (runs : KindAndRuns) (said : Option Said) → LogGoes old new (Some runs) said → AreRuns made runs.1
@@ -258,7 +258,7 @@ module _ (made : Made) (areas : ℕ) (asked : Option Asked) (old new : Machine) 
     areas = areas_same ∙ is.areas;
     is_slot = subst (λ (l : LogView). l.slot < 8) (sym log) is.is_slot;
     device = subst (λ (l : LogView). l.device ≡ log_device l.slot made.devices) (sym log) is.device;
-    room = subst (λ (l : LogView). HasRoom l.work l.count) (sym log) is.room;
+    room = subst (λ (l : LogView). HasRecordRoom l.work l.count) (sym log) is.room;
     fits = subst (λ (n : ℕ). FitsStage n new.log new.stage) (sym areas_same) (subst (λ (l : LogView). FitsStage old.cache.areas l new.stage) (sym log) (subst (λ (s : Stage). FitsStage old.cache.areas old.log s) (sym stage) is.fits));
     fetch = fits;
   }

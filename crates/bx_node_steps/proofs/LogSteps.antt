@@ -10,7 +10,7 @@ use Rattle.bx_node_steps.specs.declared.machine.Machine.{Machine}
 use Rattle.bx_node_steps.specs.declared.machine.Pending.{Pending}
 use Rattle.bx_node_steps.specs.declared.machine.Stage.TheVariants as stages
 use Rattle.bx_records.specs.Runs.{KindAndRuns}
-use Rattle.bx_redo.specs.Steps.{Goes, Steps, with_work, writes}
+use Rattle.bx_redo.specs.Steps.{WorkGoes, Steps, with_work, writes}
 use Rattle.bx_redo.specs.View.{LogView}
 use Rattle.bx_redo.specs.declared.work.Move.{Move}
 use Rattle.bx_redo.specs.declared.work.Move.TheVariants as moves
@@ -21,14 +21,14 @@ one_point : (a b : Point) → moves.Acked a ≡ moves.Acked b → a ≡ b
 one_point a b e = cc
 
 module _ (old : Machine) (log : LogView) (move : Move) (out : old.log.out ≡ true) (steps : Steps old.log.out true old.log log move) where
-  going : Goes old.log log move old.log.work
+  going : WorkGoes old.log log move old.log.work
   going = subst (λ (b : Bool). Steps b true old.log log move) out steps
 
   -- Behind a body its gate is sent.
   pub gate_sent : (pending : Pending) (runs : KindAndRuns) → old.stage ≡ stages.Records pending → IsOfRecord old.log.work → move ≡ moves.Write runs → LogGoes old (record old { log = log }) (Some runs) None
   gate_sent pending runs stage is wrote = by old.log.work refl is going
     where
-      by : (work : Work) → old.log.work ≡ work → IsOfRecord work → Goes old.log log move work → LogGoes old (record old { log = log }) (Some runs) None
+      by : (work : Work) → old.log.work ≡ work → IsOfRecord work → WorkGoes old.log log move work → LogGoes old (record old { log = log }) (Some runs) None
       by works.Idle e none goes = absurd none
       by (works.Body text point) e one goes =
           subst (λ (r : KindAndRuns). LogGoes old (record old { log = log }) (Some r) None) (one_write (writes old.log (works.Opens point)) runs (sym goes.asks ∙ wrote))
@@ -42,7 +42,7 @@ module _ (old : Machine) (log : LogView) (move : Move) (out : old.log.out ≡ tr
       → Opened pending point (record old { log = log }) new runs said → LogGoes old new runs said
   homes_sent pending point new runs said stage is acked opened = by old.log.work refl is going
     where
-      by : (work : Work) → old.log.work ≡ work → IsOfRecord work → Goes old.log log move work → LogGoes old new runs said
+      by : (work : Work) → old.log.work ≡ work → IsOfRecord work → WorkGoes old.log log move work → LogGoes old new runs said
       by works.Idle e none goes = absurd none
       by (works.Body text other) e one goes = let wrong = sym goes.asks ∙ acked in absurd cc
       by (works.Opens other) e one goes =
@@ -59,7 +59,7 @@ module _ (old : Machine) (log : LogView) (move : Move) (out : old.log.out ≡ tr
   pub shut_sent : (runs : KindAndRuns) → old.stage ≡ stages.Closes → IsOfClosing old.log.work → move ≡ moves.Write runs → LogGoes old (record old { log = log }) (Some runs) None
   shut_sent runs stage is wrote = by old.log.work refl is going
     where
-      by : (work : Work) → old.log.work ≡ work → IsOfClosing work → Goes old.log log move work → LogGoes old (record old { log = log }) (Some runs) None
+      by : (work : Work) → old.log.work ≡ work → IsOfClosing work → WorkGoes old.log log move work → LogGoes old (record old { log = log }) (Some runs) None
       by works.Idle e none goes = absurd none
       by (works.Body text point) e none goes = absurd none
       by (works.Opens point) e none goes = absurd none
@@ -72,7 +72,7 @@ module _ (old : Machine) (log : LogView) (move : Move) (out : old.log.out ≡ tr
   pub is_closed : old.stage ≡ stages.Closes → IsOfClosing old.log.work → move ≡ moves.Closed → LogGoes old (record old { log = log; stage = stages.Idle }) None None
   is_closed stage is said = by old.log.work refl is going
     where
-      by : (work : Work) → old.log.work ≡ work → IsOfClosing work → Goes old.log log move work → LogGoes old (record old { log = log; stage = stages.Idle }) None None
+      by : (work : Work) → old.log.work ≡ work → IsOfClosing work → WorkGoes old.log log move work → LogGoes old (record old { log = log; stage = stages.Idle }) None None
       by works.Idle e none goes = absurd none
       by (works.Body text point) e none goes = absurd none
       by (works.Opens point) e none goes = absurd none

@@ -11,7 +11,7 @@ use Rattle.bx_node_steps.specs.declared.machine.Stage.TheVariants as stages
 use Rattle.bx_node_steps.specs.declared.recording.Recording.{Recording}
 use Rattle.bx_node_steps.proofs.Answering.{AnswersFrom, AreNumbered, IsOther, answers_on, begins_one, others_append, then_as}
 use Rattle.bx_node_steps.proofs.Order.{among_put, behind_all, may_put, order_front, order_last, put_among, put_in_order}
-use Rattle.bx_node_tries.specs.Tries.{AllGo, AreNone, Goes, IsAnswerTo, is_attempted}
+use Rattle.bx_node_tries.specs.Tries.{AllGo, AreNone, CallGoes, IsAnswerTo, is_attempted}
 use Rattle.bx_node_tries.specs.Tries.AllGo.{MoreGo, NoneGo}
 use Rattle.bx_node_tries.specs.Tries.Goes.{Answered, Begins, Needs, Stays}
 use Rattle.bx_node_tries.specs.declared.round.Begun.{Begun}
@@ -144,7 +144,7 @@ not_over call is = by call.is_over refl is
     by false same more = same
     by true same more = cc
 
-one_goes : {newest : Option ℕ} (moment : ℕ) (calls : List Waiting) (call : Waiting) (old new : Round) → ((one : Waiting) → Contains calls one → one.number < call.number) → Went moment calls old.waiting.items old.said.items old.begun → Goes newest moment call old new
+one_goes : {newest : Option ℕ} (moment : ℕ) (calls : List Waiting) (call : Waiting) (old new : Round) → ((one : Waiting) → Contains calls one → one.number < call.number) → Went moment calls old.waiting.items old.said.items old.begun → CallGoes newest moment call old new
     → Went moment (calls ++ call ∷ []) new.waiting.items new.said.items new.begun
 one_goes moment calls call old new below went (Stays waits said begun needs) = went_as moment _ _ _ _ _ _ _ waits said begun (stays moment calls old.waiting.items old.said.items call below old.begun went)
 one_goes moment calls call old new below went (Needs wants waits said begun needs older) = went_as moment _ _ _ _ _ _ _ waits said begun (stays moment calls old.waiting.items old.said.items call below old.begun went)

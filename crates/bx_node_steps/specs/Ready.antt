@@ -6,7 +6,7 @@ use Rattle.bx_node_steps.specs.declared.machine.Fetch.{Fetch}
 use Rattle.bx_node_steps.specs.declared.machine.Fetch.TheVariants as fetches
 use Rattle.bx_node_steps.specs.declared.machine.Machine.{Machine}
 use Rattle.bx_places.specs.Places.{IsBlock, IsVolume, log_device}
-use Rattle.bx_redo.specs.View.{HasRoom}
+use Rattle.bx_redo.specs.View.{HasRecordRoom}
 
 -- A read is out exactly where a node reads something, and what it reads is a block of the volume, or counts for nothing.
 abbrev pub FitsFetch : ℕ → Option Asked → Fetch → Type 0
@@ -23,7 +23,7 @@ pub record IsReady (made : Made) (engine_areas : ℕ) (asked : Option Asked) (ma
   pub areas : machine.cache.areas ≡ made.areas
   pub is_slot : machine.log.slot < 8
   pub device : machine.log.device ≡ log_device machine.log.slot made.devices
-  pub room : HasRoom machine.log.work machine.log.count
+  pub room : HasRecordRoom machine.log.work machine.log.count
   pub fits : FitsStage machine.cache.areas machine.log machine.stage
   pub fetch : FitsFetch made.areas asked machine.fetch
 

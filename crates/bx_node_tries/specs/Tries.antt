@@ -79,19 +79,19 @@ pub record IsAnswerTo (moment : ℕ) (call : Waiting) (said : Said) : Type 0 whe
 
 -- A call still waits, as it isn't to act now, or as it needs blocks; or it is answered; or it begins a record. All else is as it was. Only a call that isn't newer than a number, where
 -- one is told, is attempted, and none is answered or begins a record that is attempted no more.
-pub data Goes (newest : Option ℕ) (moment : ℕ) (call : Waiting) (old new : Round) : Type 0 where
-  Stays : new.waiting.items ≡ old.waiting.items ++ call ∷ [] → new.said.items ≡ old.said.items → new.begun ≡ old.begun → new.needs.items ≡ old.needs.items → Goes newest moment call old new
+pub data CallGoes (newest : Option ℕ) (moment : ℕ) (call : Waiting) (old new : Round) : Type 0 where
+  Stays : new.waiting.items ≡ old.waiting.items ++ call ∷ [] → new.said.items ≡ old.said.items → new.begun ≡ old.begun → new.needs.items ≡ old.needs.items → CallGoes newest moment call old new
   Needs : (wants : List (ℕ × Mode)) → new.waiting.items ≡ old.waiting.items ++ call ∷ [] → new.said.items ≡ old.said.items → new.begun ≡ old.begun → new.needs.items ≡ old.needs.items ++ wants ∷ []
-      → is_newer newest call.number ≡ false → Goes newest moment call old new
+      → is_newer newest call.number ≡ false → CallGoes newest moment call old new
   Answered : (said : Said) → IsAnswerTo moment call said → new.said.items ≡ old.said.items ++ said ∷ [] → new.waiting.items ≡ old.waiting.items → new.begun ≡ old.begun → new.needs.items ≡ old.needs.items
-      → is_newer newest call.number ≡ false → is_attempted call ≡ true → Goes newest moment call old new
+      → is_newer newest call.number ≡ false → is_attempted call ≡ true → CallGoes newest moment call old new
   Begins : old.begun ≡ None → IsSomeAnd new.begun (λ begun. begun.call ≡ call) → new.said.items ≡ old.said.items → new.waiting.items ≡ old.waiting.items → new.needs.items ≡ old.needs.items
-      → is_newer newest call.number ≡ false → is_attempted call ≡ true → Goes newest moment call old new
+      → is_newer newest call.number ≡ false → is_attempted call ≡ true → CallGoes newest moment call old new
 
 -- So each of these calls, in their order.
 pub data AllGo (newest : Option ℕ) (moment : ℕ) : List Waiting → Round → Round → Type 0 where
   NoneGo : (round : Round) → AllGo newest moment [] round round
-  MoreGo : (calls : List Waiting) (call : Waiting) (old middle new : Round) → AllGo newest moment calls old middle → Goes newest moment call middle new → AllGo newest moment (calls ++ call ∷ []) old new
+  MoreGo : (calls : List Waiting) (call : Waiting) (old middle new : Round) → AllGo newest moment calls old middle → CallGoes newest moment call middle new → AllGo newest moment (calls ++ call ∷ []) old new
 
 -- nothing was put together yet
 pub record AreNone (round : Round) : Type 0 where

@@ -1,7 +1,7 @@
 //! The attempts.
 
 ghost use Rattle.std.specs.Prelude.{◌≡◌, ℕ, ◌≤◌, [], All, IfOk, IfSome, None, OnOk, true, false};
-ghost use Rattle.bx_node_tries.specs.Tries.{AllGo, AreNeeded, AreNone, Goes, IsToBegin, LedTo, MayWait, is_newer};
+ghost use Rattle.bx_node_tries.specs.Tries.{AllGo, AreNeeded, AreNone, CallGoes, IsToBegin, LedTo, MayWait, is_newer};
 ghost use Rattle.bx_views.specs.Truths.{IsTruth, Truth};
 
 use crate::round::{Begun, Round, Said, Waiting};
@@ -64,7 +64,7 @@ fn try_one<E: Engine, V: View>(
         → OnOk result (LedTo (E.stands engine.now) (E.step engine.now) (E.free engine.now truth) truth first round.new.said.items) }
     ensures waits { All (MayWait E.Engine engine.now (V.held view.now) (V.hints view.now) moment newest may_begin round.old.needs.items) round.old.waiting.items → OnOk result (All (MayWait E.Engine engine.now (V.held view.now) (V.hints view.now) moment newest may_begin round.new.needs.items) round.new.waiting.items) }
     ensures needs { All (AreNeeded E.Engine engine.now (V.held view.now) (V.hints view.now) moment round.old.waiting.items) round.old.needs.items → OnOk result (All (AreNeeded E.Engine engine.now (V.held view.now) (V.hints view.now) moment round.new.waiting.items) round.new.needs.items) }
-    ensures goes { OnOk result (Goes newest moment call round.old round.new) }
+    ensures goes { OnOk result (CallGoes newest moment call round.old round.new) }
     ensures begun { OnOk result (IfSome round.new.begun (IsToBegin E.Engine engine.now (V.held view.now) (V.hints view.now) moment)) }
     ensures may { may_begin ≡ false → OnOk result (round.new.begun ≡ None) }
 {

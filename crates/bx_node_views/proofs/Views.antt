@@ -8,7 +8,7 @@ use Rattle.bx_views.specs.Truths.{Truth, Held, Hints, IsTruth}
 use Rattle.bx_views.specs.Attempts.{Deed, IsHeldDraft}
 use Rattle.bx_facts.specs.Holds.{Hold, Holds, KeepsOthers}
 use Rattle.bx_node_views.specs.Changes.{Hides, ShowsOne}
-use Rattle.bx_world_standing.specs.bx_world_views.specs.Views.{Allows, AreApart, ViewStands, IsOwned, OnlyOf, Act, Doubt, DoubtStands, VolumeStands, Works}
+use Rattle.bx_world_standing.specs.bx_world_views.specs.Views.{Allows, AreApart, ViewStands, IsDraftHeld, OnlyOf, Act, Unacknowledged, DoubtStands, VolumeStands, Works}
 
 some_of : {X : Type 0} (found : Option X) (x : X) → found ≡ Some x → IsSome found
 some_of found x is = cc
@@ -17,7 +17,7 @@ some_is : {X : Type 0} (x y : X) (found : Option X) → found ≡ Some x → fou
 some_is x y found a b = cc
 
 -- The blocks of a draft that a session shows exclusively, it holds exclusively.
-pub owned : (holding : Holds) (truth : Truth) (session : ℕ) (held : Held) (draft : List Changed) → ViewStands holding truth session held → IsHeldDraft held draft → IsOwned holding session draft
+pub owned : (holding : Holds) (truth : Truth) (session : ℕ) (held : Held) (draft : List Changed) → ViewStands holding truth session held → IsHeldDraft held draft → IsDraftHeld holding session draft
 owned holding truth session held draft view own = record { each = λ at block is. by_shown at (held at Exclusive) refl (own.each at (some_of (block_in draft at) block is)) }
   where
     by_shown : (at : ℕ) (shown : Option Block) → held at Exclusive ≡ shown → IsSome shown → Allows (holding session at) Exclusive
@@ -88,7 +88,7 @@ lets_go old new truth session at before after keeps hides view = record {
 
 module _ {T : Type 0} (Stands : Truth → Hints → T → Type 0) (Step : T → Deed → T → Type 0) where
   -- One node's view changes.
-  pub shown : (holding : Holds) (HasRow Lives : ℕ → Type 0) (own : ℕ → Option ℕ) (old new : ℕ → Held) (before after : ℕ → Hints) (doubts : ℕ → Option Doubt) (truth : Truth) (t : T) (node : ℕ)
+  pub shown : (holding : Holds) (HasRow Lives : ℕ → Type 0) (own : ℕ → Option ℕ) (old new : ℕ → Held) (before after : ℕ → Hints) (doubts : ℕ → Option Unacknowledged) (truth : Truth) (t : T) (node : ℕ)
       → VolumeStands Stands Step holding HasRow Lives own old before doubts truth t
       → ((other : ℕ) → other ≢ node → (new other ≡ old other) × (after other ≡ before other))
       → ((session : ℕ) → own node ≡ Some session → Lives session → ViewStands holding truth session (new node)) → Stands truth (after node) t
@@ -115,7 +115,7 @@ module _ {T : Type 0} (Stands : Truth → Hints → T → Type 0) (Step : T → 
       by_hint other false apart = subst (λ (h : Hints). Stands truth h t) (sym (others other (λ same. grind (arith, nat_tests, apart, same))).1) (stands.hinted other)
 
   -- A node with a live session that has no record in doubt begins one.
-  pub began : (holding : Holds) (HasRow Lives : ℕ → Type 0) (own : ℕ → Option ℕ) (held : ℕ → Held) (hints : ℕ → Hints) (old new : ℕ → Option Doubt) (truth : Truth) (t : T) (node session : ℕ) (call : ℕ) (act : Act) (draft : List Changed)
+  pub began : (holding : Holds) (HasRow Lives : ℕ → Type 0) (own : ℕ → Option ℕ) (held : ℕ → Held) (hints : ℕ → Hints) (old new : ℕ → Option Unacknowledged) (truth : Truth) (t : T) (node session : ℕ) (call : ℕ) (act : Act) (draft : List Changed)
       → VolumeStands Stands Step holding HasRow Lives own held hints old truth t → own node ≡ Some session → Lives session
       → OnlyOf session (Some (record { call = call; act = act; draft = draft; held = held node; hints = hints node })) old new
       → IsHeldDraft (held node) draft
@@ -131,7 +131,7 @@ module _ {T : Type 0} (Stands : Truth → Hints → T → Type 0) (Step : T → 
     in_doubt = λ other. by_test other (eqb other session) refl;
   }
     where
-      Kept : ℕ → Option Doubt → Type 0
+      Kept : ℕ → Option Unacknowledged → Type 0
       Kept other found = IfSome found (λ doubt. HasRow other × DoubtStands Stands Step holding truth t other doubt)
 
       by_test : (other : ℕ) (b : Bool) → eqb other session ≡ b → Kept other (new other)
@@ -139,12 +139,12 @@ module _ {T : Type 0} (Stands : Truth → Hints → T → Type 0) (Step : T → 
           let e : other ≡ session = grind (arith, nat_tests, same) in
           let view = stands.views node session is_own lives in
           subst (λ (n : ℕ). Kept n (new n)) (sym e)
-          (subst (λ (o : Option Doubt). Kept session o) (sym only.here)
+          (subst (λ (o : Option Unacknowledged). Kept session o) (sym only.here)
           (stands.rows session lives, record { view = view; hinted = stands.hinted node; own = owned holding truth session (held node) draft view fair; works = works }))
-      by_test other false apart = subst (λ (o : Option Doubt). Kept other o) (sym (only.others other (λ same. grind (arith, nat_tests, apart, same)))) (stands.in_doubt other)
+      by_test other false apart = subst (λ (o : Option Unacknowledged). Kept other o) (sym (only.others other (λ same. grind (arith, nat_tests, apart, same)))) (stands.in_doubt other)
 
   -- A node lets a block go, and its session gives it up or wants it otherwise: no record of that session is in doubt.
-  pub gave_up : (old new : Holds) (HasRow Lives : ℕ → Type 0) (own : ℕ → Option ℕ) (before after : ℕ → Held) (hints later : ℕ → Hints) (doubts : ℕ → Option Doubt) (truth : Truth) (t : T) (node session at : ℕ)
+  pub gave_up : (old new : Holds) (HasRow Lives : ℕ → Type 0) (own : ℕ → Option ℕ) (before after : ℕ → Held) (hints later : ℕ → Hints) (doubts : ℕ → Option Unacknowledged) (truth : Truth) (t : T) (node session at : ℕ)
       → VolumeStands Stands Step old HasRow Lives own before hints doubts truth t → own node ≡ Some session → Lives session → doubts session ≡ None
       → KeepsOthers session at old new → AreApart new HasRow → Hides at (before node) (after node)
       → Stands truth (later node) t
@@ -185,10 +185,10 @@ module _ {T : Type 0} (Stands : Truth → Hints → T → Type 0) (Step : T → 
       by_hint other true same = let e : other ≡ node = grind (arith, nat_tests, same) in subst (λ (n : ℕ). Stands truth (later n) t) (sym e) hinted
       by_hint other false differ = subst (λ (h : Hints). Stands truth h t) (sym (others other (λ same. grind (arith, nat_tests, differ, same))).1) (stands.hinted other)
 
-      Kept : Holds → ℕ → Option Doubt → Type 0
+      Kept : Holds → ℕ → Option Unacknowledged → Type 0
       Kept holding other found = IfSome found (λ doubt. HasRow other × DoubtStands Stands Step holding truth t other doubt)
 
-      by_one : (other : ℕ) → other ≢ session → (found : Option Doubt) → Kept old other found → Kept new other found
+      by_one : (other : ℕ) → other ≢ session → (found : Option Unacknowledged) → Kept old other found → Kept new other found
       by_one other ne None is = is
       by_one other ne (Some doubt) is = (
         is.0,
@@ -203,5 +203,5 @@ module _ {T : Type 0} (Stands : Truth → Hints → T → Type 0) (Step : T → 
       by_doubt : (other : ℕ) → (b : Bool) → eqb other session ≡ b → Kept new other (doubts other)
       by_doubt other true same =
           let e : other ≡ session = grind (arith, nat_tests, same) in
-          subst (λ (o : Option Doubt). Kept new other o) (sym (ap (λ (n : ℕ). doubts n) e ∙ none)) tt
+          subst (λ (o : Option Unacknowledged). Kept new other o) (sym (ap (λ (n : ℕ). doubts n) e ∙ none)) tt
       by_doubt other false differ = by_one other (λ same. grind (arith, nat_tests, differ, same)) (doubts other) (stands.in_doubt other)

@@ -16,7 +16,7 @@ use Rattle.bx_nodes.specs.Stopping.{HasNothing}
 use Rattle.bx_nodes.specs.declared.nodes.Nodes.{Nodes}
 use Rattle.bx_nodes.proofs.Machines.{if_some}
 use Rattle.bx_places.specs.Places.{IsVolume, log_device}
-use Rattle.bx_redo.specs.View.{HasRoom, LogView}
+use Rattle.bx_redo.specs.View.{HasRecordRoom, LogView}
 use Rattle.bx_redo.specs.declared.work.Work.TheVariants as works
 use Rattle.bx_rows.specs.declared.session.SessionRow.{SessionRow}
 use Rattle.bx_views.specs.declared.engine.Engine as engine
@@ -34,7 +34,7 @@ module _ (made : Made) (areas : ℕ) (own : Option ℕ) (asked : Option Asked) (
       areas = ap (λ (m : Machine). m.cache.areas) begins.only ∙ stood.areas;
       is_slot = subst (λ (l : LogView). l.slot < 8) (sym log_is) (slot_low row low);
       device = subst (λ (l : LogView). l.device ≡ log_device l.slot made.devices) (sym log_is) (device_is row);
-      room = subst (λ (l : LogView). HasRoom l.work l.count) (sym log_is) (has_room row);
+      room = subst (λ (l : LogView). HasRecordRoom l.work l.count) (sym log_is) (has_room row);
       fits = subst (λ (s : Stage). FitsStage after.cache.areas after.log s) (sym (ap (λ (m : Machine). m.stage) begins.only)) rests;
       fetch = subst (λ (f : Fetch). FitsFetch made.areas asked f) (sym (ap (λ (m : Machine). m.fetch) begins.only)) (left asked);
     };
@@ -55,7 +55,7 @@ module _ (made : Made) (areas : ℕ) (own : Option ℕ) (asked : Option Asked) (
       device_is None = refl
       device_is (Some r) = refl
 
-      has_room : (found : Option SessionRow) → HasRoom (first_log made.devices found).work (first_log made.devices found).count
+      has_room : (found : Option SessionRow) → HasRecordRoom (first_log made.devices found).work (first_log made.devices found).count
       has_room None = tt
       has_room (Some r) = tt
 
@@ -119,7 +119,7 @@ first_ready made areas asked machine volume same none has = record {
     areas = ap (λ c. c.areas) has.cache;
     is_slot = subst (λ (l : LogView). l.slot < 8) (sym has.log) (omega arith);
     device = subst (λ (l : LogView). l.device ≡ log_device l.slot made.devices) (sym has.log) (sym (zero_rem made.devices));
-    room = subst (λ (l : LogView). HasRoom l.work l.count) (sym has.log) tt;
+    room = subst (λ (l : LogView). HasRecordRoom l.work l.count) (sym has.log) tt;
     fits = subst (λ (s : Stage). FitsStage machine.cache.areas machine.log s) (sym has.idle) (ap (λ (l : LogView). l.work) has.log, ap (λ (l : LogView). l.count) has.log);
     fetch = subst (λ (f : Fetch). FitsFetch made.areas asked f) (sym has.reads) none;
   };

@@ -17,7 +17,7 @@ use Rattle.bx_node_steps.specs.declared.machine.Stage.{Stage}
 use Rattle.bx_node_steps.specs.declared.machine.Stage.TheVariants.{Idle}
 use Rattle.bx_node_tries.specs.declared.round.Said.{Said}
 use Rattle.bx_node_steps.specs.declared.machine.Machine.{Machine}
-use Rattle.bx_node_tries.specs.Tries.{AllGo, AreNeeded, Goes, MayWait, is_newer}
+use Rattle.bx_node_tries.specs.Tries.{AllGo, AreNeeded, CallGoes, MayWait, is_newer}
 use Rattle.bx_node_tries.specs.Tries.AllGo.{MoreGo, NoneGo}
 use Rattle.bx_node_tries.specs.Tries.Goes.{Answered, Begins, Needs as Needing, Stays}
 use Rattle.bx_node_tries.specs.Tries.MayWait.{Changes, Newer, Over as IsOver, Wants}
@@ -46,7 +46,7 @@ use Rattle.bx_views.specs.declared.engine.Engine as engine
 pushed : {A : Type 0} (items later : List A) (item : A) → later ≡ items ++ item ∷ [] → length later ≡ length items + 1
 pushed items later item is = ap length is ∙ length-append items (item ∷ [])
 
-one_goes : {newest : Option ℕ} (moment : ℕ) (call : Waiting) (old new : Round) → Goes newest moment call old new → length new.waiting.items + length new.said.items ≤ length old.waiting.items + length old.said.items + 1
+one_goes : {newest : Option ℕ} (moment : ℕ) (call : Waiting) (old new : Round) → CallGoes newest moment call old new → length new.waiting.items + length new.said.items ≤ length old.waiting.items + length old.said.items + 1
 one_goes moment call old new (Stays waits said begun needs) = let w = pushed old.waiting.items new.waiting.items call waits in let s = ap length said in omega (arith, w, s)
 one_goes moment call old new (Needing wants waits said begun needs older) = let w = pushed old.waiting.items new.waiting.items call waits in let s = ap length said in omega (arith, w, s)
 one_goes moment call old new (Answered one is said waits begun needs older attempted) = let s = pushed old.said.items new.said.items one said in let w = ap length waits in omega (arith, w, s)
@@ -88,7 +88,7 @@ settled_from {newest = newest} moment calls old new (MoreGo before one first mid
     pushed_on : last.waiting.items ≡ middle.waiting.items ++ one ∷ [] → Contains middle.waiting.items call ⊎ (one ≡ call)
     pushed_on is = Contains-push_cases middle.waiting.items one call (subst (λ (l : List Waiting). Contains l call) is has)
 
-    by : Goes newest moment one middle last → Contains middle.waiting.items call ⊎ (one ≡ call)
+    by : CallGoes newest moment one middle last → Contains middle.waiting.items call ⊎ (one ≡ call)
     by (Stays waits said begun needs) = pushed_on waits
     by (Needing wants waits said begun needs older) = pushed_on waits
     by (Answered answer is said waits begun needs older attempted) = inl (subst (λ (l : List Waiting). Contains l call) waits has)
@@ -103,7 +103,7 @@ settled_all {newest = newest} moment calls old new (MoreGo before one first midd
         → last.waiting.items ≡ first.waiting.items ++ (before ++ one ∷ [])
     on earlier waits said begun = waits ∙ ap (λ (l : List Waiting). l ++ one ∷ []) (earlier (sym said ∙ none_said) (sym begun ∙ none_begun)) ∙ append_assoc first.waiting.items before (one ∷ [])
 
-    by : (middle.said.items ≡ [] → middle.begun ≡ None → middle.waiting.items ≡ first.waiting.items ++ before) → Goes newest moment one middle last → last.waiting.items ≡ first.waiting.items ++ (before ++ one ∷ [])
+    by : (middle.said.items ≡ [] → middle.begun ≡ None → middle.waiting.items ≡ first.waiting.items ++ before) → CallGoes newest moment one middle last → last.waiting.items ≡ first.waiting.items ++ (before ++ one ∷ [])
     by earlier (Stays waits said begun needs) = on earlier waits said begun
     by earlier (Needing wants waits said begun needs older) = on earlier waits said begun
     by earlier (Answered answer is said waits begun needs older attempted) = absurd (let e = ap (λ (l : List Said). length l) (sym said ∙ none_said) in let n = length-append middle.said.items (answer ∷ []) in omega (arith, e, n))
@@ -124,7 +124,7 @@ settled_each {newest = newest} moment calls old new (MoreGo before one first mid
         (λ is. inl (subst (λ (l : List Waiting). Contains l call) (sym waits) (subst (Contains (middle.waiting.items ++ one ∷ [])) is (Contains-push middle.waiting.items one))))
         (Contains-push_cases before one call has)
 
-    by : Earlier → Goes newest moment one middle last → Contains last.waiting.items call ⊎ IsAnswered last.said.items call.number
+    by : Earlier → CallGoes newest moment one middle last → Contains last.waiting.items call ⊎ IsAnswered last.said.items call.number
     by earlier (Stays waits said begun needs) = on earlier waits said begun
     by earlier (Needing wants waits said begun needs older) = on earlier waits said begun
     by earlier (Answered answer is said waits begun needs older attempted) = ⊎_elim
@@ -152,7 +152,7 @@ settled_newer {newest = newest} moment calls old new (MoreGo before one first mi
     is_older earlier waits older = subst (λ (l : List Waiting). Contains l call) (sym waits) (⊎_elim earlier
         (λ is. absurd (let wrong = sym newer ∙ sym (ap (λ (w : Waiting). is_newer newest w.number) is) ∙ older in cc)) (Contains-push_cases before one call has))
 
-    by : Earlier → Goes newest moment one middle last → Contains last.waiting.items call
+    by : Earlier → CallGoes newest moment one middle last → Contains last.waiting.items call
     by earlier (Stays waits said begun needs) = pushed_on earlier waits
     by earlier (Needing wants waits said begun needs older) = pushed_on earlier waits
     by earlier (Answered answer is said waits begun needs older attempted) = is_older earlier waits older

@@ -12,7 +12,7 @@ ghost use Rattle.bx_model.specs.declared.tree.Tree.{Tree};
 ghost use Rattle.bx_opens.specs.Opening.{AreOpenAlone, IsNew, IsShape, first_tree};
 ghost use Rattle.bx_rack_audit.specs.Alone.{StandAlone};
 ghost use Rattle.bx_opens.specs.AtOnce.{IsAtOnce};
-ghost use Rattle.bx_steps.specs.Steps.{Step};
+ghost use Rattle.bx_steps.specs.Steps.{StepOfTree};
 
 use bx_cluster::Cluster;
 use bx_disk::{Rack, RackError};
@@ -54,7 +54,7 @@ pub trait Opens {
         ensures keeps_telling { R.tells rack.old → R.tells rack.new };
 
     /// A step of their trees is one of a file tree.
-    ghost acts: { (made : Self.Made) (tree next : Tree) (entry : Entry) → Self.Made.steps made tree entry next → StepOf Step tree entry next };
+    ghost acts: { (made : Self.Made) (tree next : Tree) (entry : Entry) → Self.Made.steps made tree entry next → StepOf StepOfTree tree entry next };
 
     /// The calls that touch no block are those that they answer at once.
     ghost answers: { (made : Self.Made) (bytes : List ℕ) → IsAtOnce bytes → Self.Made.at_once made bytes };

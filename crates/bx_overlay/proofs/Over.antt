@@ -14,7 +14,7 @@ use Rattle.bx_records.specs.Drafts.{Changed, block_in}
 use Rattle.bx_views.specs.Truths.{Truth}
 use Rattle.bx_volume.specs.bx_truth.proofs.Cases.{found}
 use Rattle.bx_volume.specs.Records.{Logged, StandOpen, HasLog, LogWhere, newest_in, or_older}
-use Rattle.bx_volume.specs.Overlay.{Logs, IsTruth, IsUnlogged, IsHome}
+use Rattle.bx_volume.specs.Overlay.{Logs, IsOverlaidTruth, IsUnlogged, IsHome}
 use Rattle.bx_volume.proofs.OneLog.{one_has_log}
 use Rattle.bx_logs.specs.bx_homes.specs.Slots.{AreBlocks}
 use Rattle.bx_logs.specs.declared.members.Members.{Members}
@@ -127,7 +127,7 @@ module _ (image : Image) (members : Members) (rows : List SessionRow) (logs : Li
             let one_log : one ≡ two = some_one one two (sym there_one ∙ ap (slice_get newest) same ∙ there_two) in
             some_one a b (sym has_one ∙ ap (λ (l : Newest). newest_at l at) one_log ∙ has_two)
 
-    pub is_truth : AreAgreed newest 8 → AreBlocks members.areas (StandsOver held members.devices newest) truth → IsTruth held members.devices members.areas rows (λ slot. reverse (log_in logs slot)) truth
+    pub is_truth : AreAgreed newest 8 → AreBlocks members.areas (StandsOver held members.devices newest) truth → IsOverlaidTruth held members.devices members.areas rows (λ slot. reverse (log_in logs slot)) truth
     is_truth agreed blocks = record {
       has_logs = are.each;
       logged = logged;
@@ -156,7 +156,7 @@ module _ (image : Image) (members : Members) (rows : List SessionRow) (logs : Li
             let one = first_has newest at first some in
             absurd (not_both (newest_at one.log at) first (same_newest one.slot at one.log one.there ∙ unlogged one.slot (slot_less one.slot one.log one.there)) one.has)
 
-    module _ (others : Logs) (truth_is : IsTruth held members.devices members.areas rows others truth) where
+    module _ (others : Logs) (truth_is : IsOverlaidTruth held members.devices members.areas rows others truth) where
       -- the logs are these
       same_log : (slot : ℕ) → slot < 8 → reverse (log_in logs slot) ≡ others slot
       same_log slot less = one_has_log rows held members.devices members.areas slot (reverse (log_in logs slot)) (others slot) (are.each slot less) (truth_is.has_logs slot less)

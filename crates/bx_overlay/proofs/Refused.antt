@@ -6,7 +6,7 @@ use Rattle.bx_global.specs.declared.state.GlobalState.{GlobalState}
 use Rattle.bx_layout.specs.declared.label.Label.{Label}
 use Rattle.bx_model.specs.declared.tree.Tree.{Tree}
 use Rattle.bx_volume.specs.Images.{IsFirstLabel, AreReadFrom, ShowsTree, by_device}
-use Rattle.bx_volume.specs.Overlay.{IsTruth}
+use Rattle.bx_volume.specs.Overlay.{IsOverlaidTruth}
 use Rattle.bx_overlay.specs.declared.error.AuditError.{AuditError}
 use Rattle.bx_overlay.specs.declared.error.AuditError.TheVariants.{DiskFault, NoLabel, NoMajority, NoSource, Torn, OutOfMemory}
 use Rattle.bx_logs.specs.Members.{held_by}
@@ -25,7 +25,7 @@ module _ (disks : Disks) (state : GlobalState) (second : ℕ → Bool) (tree : T
   by_members OutOfMemory first same never = never
 
   module _ (error : AuditError) (wrong : HasWrongLogs disks state error) (same : shows.first ≡ wrong.first) where
-    truth_is : IsTruth (held_by disks.reads wrong.members) wrong.members.devices wrong.members.areas state.sessions shows.logs shows.truth
+    truth_is : IsOverlaidTruth (held_by disks.reads wrong.members) wrong.members.devices wrong.members.areas state.sessions shows.logs shows.truth
     truth_is = shown_truth disks state second tree from shows wrong.first same wrong.members wrong.are wrong.there.volume.least_devices
 
     by_gap : (block found wanted : ℕ) → IsLogGap disks.reads wrong.members state.sessions block found wanted → ⊥

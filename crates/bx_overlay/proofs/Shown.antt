@@ -13,7 +13,7 @@ use Rattle.bx_places.specs.Places.{block_place, log_device}
 use Rattle.bx_model.specs.declared.tree.Tree.{Tree}
 use Rattle.bx_views.specs.Truths.{Truth}
 use Rattle.bx_volume.specs.Images.{IsLabelled, AreReadFrom, ShowsTree, by_device, devices_of, member_disk}
-use Rattle.bx_volume.specs.Overlay.{Logs, IsTruth}
+use Rattle.bx_volume.specs.Overlay.{Logs, IsOverlaidTruth}
 use Rattle.bx_volume.proofs.Kept.{has_log}
 use Rattle.bx_logs.specs.bx_homes.specs.Sources.{HasSource, IsFirstAbsent, IsFirstUnlabelled}
 use Rattle.bx_logs.specs.declared.members.Members.{Members}
@@ -25,7 +25,7 @@ use Rattle.bx_overlay.proofs.There.{is_source, long_as, row_of}
 -- ---- the truth depends on what the devices hold
 
 truth_same : (held now : Image) (devices areas : ℕ) (rows : List SessionRow) (logs : Logs) (truth : Truth) → 1 ≤ devices → ((d s : ℕ) → d < devices → now d s ≡ held d s)
-    → IsTruth held devices areas rows logs truth → IsTruth now devices areas rows logs truth
+    → IsOverlaidTruth held devices areas rows logs truth → IsOverlaidTruth now devices areas rows logs truth
 truth_same held now devices areas rows logs truth some same is = record {
   has_logs = λ slot less. has_log rows held now devices areas slot (logs slot) (log_same held now devices areas slot (λ s. same (log_device slot devices) s (mod_less slot)) (logs slot)) (is.has_logs slot less);
   logged = is.logged;
@@ -73,15 +73,15 @@ module _ (disks : Disks) (state : GlobalState) (second : ℕ → Bool) (tree : T
   not_unlabelled disk lacks = lacks.without (subst (IsLabelled disks.sizes disks.reads first) (sym lacks.disk_is) (labelled lacks.device lacks.row lacks.member lacks.there lacks.source))
 
   module _ (members : Members) (are : AreMembers first state.devices members) (some : 1 ≤ members.devices) where
-    pub shown_truth : IsTruth (held_by disks.reads members) members.devices members.areas state.sessions shows.logs shows.truth
+    pub shown_truth : IsOverlaidTruth (held_by disks.reads members) members.devices members.areas state.sessions shows.logs shows.truth
     shown_truth = truth_same (devices_of disks.reads (by_device second)) (held_by disks.reads members) members.devices members.areas state.sessions shows.logs shows.truth some same here
       where
-        here : IsTruth (devices_of disks.reads (by_device second)) members.devices members.areas state.sessions shows.logs shows.truth
+        here : IsOverlaidTruth (devices_of disks.reads (by_device second)) members.devices members.areas state.sessions shows.logs shows.truth
         here =
             let devices : shows.first.devices ≡ members.devices = ap (λ (l : Label). l.devices) same_first ∙ sym are.devices in
             let areas : shows.first.areas ≡ members.areas = ap (λ (l : Label). l.areas) same_first ∙ sym are.areas in
-            subst (λ (n : ℕ). IsTruth (devices_of disks.reads (by_device second)) members.devices n state.sessions shows.logs shows.truth) areas
-            (subst (λ (n : ℕ). IsTruth (devices_of disks.reads (by_device second)) n shows.first.areas state.sessions shows.logs shows.truth) devices shows.shows.is_truth)
+            subst (λ (n : ℕ). IsOverlaidTruth (devices_of disks.reads (by_device second)) members.devices n state.sessions shows.logs shows.truth) areas
+            (subst (λ (n : ℕ). IsOverlaidTruth (devices_of disks.reads (by_device second)) n shows.first.areas state.sessions shows.logs shows.truth) devices shows.shows.is_truth)
 
         same : (d s : ℕ) → d < members.devices → held_by disks.reads members d s ≡ devices_of disks.reads (by_device second) d s
         same d s less =

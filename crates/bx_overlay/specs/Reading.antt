@@ -9,7 +9,7 @@ use Rattle.bx_global.specs.declared.state.GlobalState.{GlobalState}
 use Rattle.bx_layout.specs.declared.label.Label.{Label}
 use Rattle.bx_views.specs.Truths.{Truth}
 use Rattle.bx_volume.specs.Images.{IsFirstLabel}
-use Rattle.bx_volume.specs.Overlay.{Logs, IsTruth}
+use Rattle.bx_volume.specs.Overlay.{Logs, IsOverlaidTruth}
 use Rattle.bx_volume.specs.Records.{Logged}
 use Rattle.bx_overlay.specs.declared.error.AuditError.{AuditError}
 use Rattle.bx_overlay.specs.declared.error.AuditError.TheVariants.{NoLabel}
@@ -66,4 +66,4 @@ IsRefused disks state error = ((error ≡ NoLabel 0) × HasNoLabel disks) ⊎ (I
 -- the members that were read hold this truth, by some logs
 pub record HoldsTruth (image : Image) (state : GlobalState) (read : VolumeDisks) (truth : Truth) : Type 0 where
   pub logs : Logs
-  pub is_truth : IsTruth (held_by image read.members) read.first.devices read.first.areas state.sessions logs truth
+  pub is_truth : IsOverlaidTruth (held_by image read.members) read.first.devices read.first.areas state.sessions logs truth

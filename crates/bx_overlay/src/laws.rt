@@ -7,7 +7,7 @@ ghost use Rattle.bx_model.specs.declared.tree.Tree.{Tree};
 ghost use Rattle.bx_rows.specs.declared.session.SessionRow.{SessionRow};
 ghost use Rattle.bx_views.specs.Truths.{Truth};
 ghost use Rattle.bx_volume.specs.Images.{AreReadFrom, ShowsTree, by_device};
-ghost use Rattle.bx_volume.specs.Overlay.{Logs, IsTruth};
+ghost use Rattle.bx_volume.specs.Overlay.{Logs, IsOverlaidTruth};
 ghost use Rattle.bx_volume.specs.Records.{Logged};
 ghost use Rattle.bx_logs.specs.bx_homes.specs.Slots.{AreBlocks};
 ghost use Rattle.bx_overlay.specs.declared.error.AuditError.{AuditError};
@@ -26,12 +26,12 @@ use bx_volume::one_first_label;
 pub fn what_stands_is_the_truth()
     ensures truth { (image : Image) (members : Members) (rows : List SessionRow) (logs : List (List Logged)) (newest : List Newest) (truth : Truth)
         → AreLogs image members rows logs → AreNewest logs newest → AreAgreed newest 8 → AreBlocks members.areas (StandsOver (held_by image members) members.devices newest) truth
-        → IsTruth (held_by image members) members.devices members.areas rows (λ slot. reverse (log_in logs slot)) truth }
+        → IsOverlaidTruth (held_by image members) members.devices members.areas rows (λ slot. reverse (log_in logs slot)) truth }
     ensures stands { (image : Image) (members : Members) (rows : List SessionRow) (logs : List (List Logged)) (newest : List Newest) (others : Logs) (truth : Truth)
-        → AreLogs image members rows logs → AreNewest logs newest → IsTruth (held_by image members) members.devices members.areas rows others truth
+        → AreLogs image members rows logs → AreNewest logs newest → IsOverlaidTruth (held_by image members) members.devices members.areas rows others truth
         → AreBlocks members.areas (StandsOver (held_by image members) members.devices newest) truth }
     ensures agreed { (image : Image) (members : Members) (rows : List SessionRow) (logs : List (List Logged)) (newest : List Newest) (others : Logs) (truth : Truth)
-        → AreLogs image members rows logs → AreNewest logs newest → IsTruth (held_by image members) members.devices members.areas rows others truth
+        → AreLogs image members rows logs → AreNewest logs newest → IsOverlaidTruth (held_by image members) members.devices members.areas rows others truth
         → AreAgreed newest 8 }
 {}
 

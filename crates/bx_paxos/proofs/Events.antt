@@ -3,7 +3,7 @@ use Rattle.std.proofs.Common.{◌≡◌, ℕ, ◌^◌, ◌<◌, ◌≤◌, ◌�
 use Rattle.std.proofs.lemmas.Bool.Decides.{eqb_tells}
 use Rattle.bx_answers.specs.Handling.{Handles, Promises, caught_up, promise_of, raised}
 use Rattle.bx_answers.specs.Replies.{letters_of as answers_of}
-use Rattle.bx_agreement.specs.Events.{Stands, Turns}
+use Rattle.bx_agreement.specs.Events.{HistoryStands, Turns}
 use Rattle.bx_agreement.specs.History.{ComesNext, History}
 use Rattle.bx_agreement.specs.Passing.{MayCome, MayPass, answered}
 use Rattle.bx_agreement.specs.Round.{IsLater}
@@ -46,7 +46,7 @@ use Rattle.bx_rounds.specs.declared.course.Course.{Course}
 use Rattle.bx_rounds.specs.declared.course.Move.{Move}
 use Rattle.bx_rounds.specs.declared.course.Proposal.{Proposal}
 use Rattle.bx_paxos.specs.Counted.{IsCounted, IsHeldSound}
-use Rattle.bx_paxos.specs.Fits.{AllPass, Fits, Goes, IsPutOn, KnowsCell, Turned, Voters, devices_of, going, machines_of}
+use Rattle.bx_paxos.specs.Fits.{AllPass, Fits, RegisterGoes, IsPutOn, KnowsCell, Turned, Voters, devices_of, going, machines_of}
 use Rattle.bx_paxos.proofs.Shown.{AreAsLong, as_long, shown_either, shown_elsewhere, shown_fewer, shown_then}
 use Rattle.bx_paxos.proofs.Images.{at_moment, at_replica, counted_either, counted_of, crash_has, elsewhere, fewer, sound_with, synced_has, the_cell}
 use Rattle.bx_paxos.proofs.Letters.{all_more, all_none, all_on, all_to, first_stays, longer_later, longer_on, places_on, sent_pass}
@@ -57,7 +57,7 @@ use Rattle.bx_paxos.proofs.Letters.{all_more, all_none, all_on, all_to, first_st
 pub here : (v : Voters) (x : Disks) (past : RegisterPast) (f : Fits v x past) → IsHeldSound v.first v.origins f.history x.reads
 here v x past f = f.images.each x.reads (record { sure = λ d s sure. refl })
 
-stands : (v : Voters) (x : Disks) (past : RegisterPast) (f : Fits v x past) → Stands f.history (here v x past f).cells (machines_of v.courses)
+stands : (v : Voters) (x : Disks) (past : RegisterPast) (f : Fits v x past) → HistoryStands f.history (here v x past f).cells (machines_of v.courses)
 stands v x past f = record { sound = (here v x past f).sound; each = λ me. (f.proposing me).is }
 
 pub is_place : (v : Voters) (x : Disks) (past : RegisterPast) (me : ℕ) → Fits v x past → IsPlace past.chain (v.courses me).known
@@ -296,7 +296,7 @@ allowed_on changes old new (inr (change, has, legal, is)) numbers allowed s plac
 
 -- an event of voting: all else stays
 pub goes : (v : Voters) (x : Disks) (past : RegisterPast) (f : Fits v x past) (me : ℕ) (course : Course) (courses : ℕ → Course) (sent : List Letter) → Turned me course v.courses courses
-    → (a : Agrees f.history (here v x past f).cells (machines_of courses) me course) → IsCourse (devices_of v) course → course.boot ≡ (v.courses me).boot → AllPass (devices_of v) a.history sent → Goes (going v courses) x past course.known sent
+    → (a : Agrees f.history (here v x past f).cells (machines_of courses) me course) → IsCourse (devices_of v) course → course.boot ≡ (v.courses me).boot → AllPass (devices_of v) a.history sent → RegisterGoes (going v courses) x past course.known sent
 goes v x past f me course courses sent turned a is boot pass = record {
   chain = a.history.chain;
   grows = grew;
@@ -365,7 +365,7 @@ turns_of me course old new turned = record { at = ap machine_of turned.at; other
 -- a packet comes to it
 pub hears : (v : Voters) (x : Disks) (past : RegisterPast) (at : Actor) (others : List Actor) (letter : Letter) (message : Message) (course : Course) (courses : ℕ → Course) (move : Move) → Fits v x past → number_of at < 2 ^ 32
     → Contains past.letters letter → Spells (devices_of v) message letter.kind letter.body → Hears (number_of at) (v.courses (number_of at)) letter.from message course move → Turned (number_of at) course v.courses courses
-    → Goes (going v courses) x past course.known (letters_of at others course move)
+    → RegisterGoes (going v courses) x past course.known (letters_of at others course move)
 hears v x past at others letter message course courses move f fits has spells does turned =
     let me : ℕ = number_of at in
     let a = heard f.history (here v x past f).cells (machines_of v.courses) (machines_of courses) me (stands v x past f) course (turns_of me course v.courses courses turned) (v.courses me) letter.from message move
@@ -376,7 +376,7 @@ hears v x past at others letter message course courses move f fits has spells do
 
 -- the clock ticks
 pub ticks_at : (v : Voters) (x : Disks) (past : RegisterPast) (at : Actor) (others : List Actor) (course : Course) (courses : ℕ → Course) (move : Move) → Fits v x past → number_of at < 2 ^ 32
-    → Ticks (number_of at) (v.courses (number_of at)) course move → Turned (number_of at) course v.courses courses → Goes (going v courses) x past course.known (letters_of at others course move)
+    → Ticks (number_of at) (v.courses (number_of at)) course move → Turned (number_of at) course v.courses courses → RegisterGoes (going v courses) x past course.known (letters_of at others course move)
 ticks_at v x past at others course courses move f fits does turned =
     let me : ℕ = number_of at in
     let a = ticks f.history (here v x past f).cells (machines_of v.courses) (machines_of courses) me (stands v x past f) course (turns_of me course v.courses courses turned) (v.courses me) move (f.proposing me) does in

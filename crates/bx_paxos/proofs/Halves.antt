@@ -2,7 +2,7 @@
 use Rattle.std.proofs.Common.{◌≡◌, ℕ, ◌<◌, List, ◌++◌, length, Option, refl, sym, ap, subst, ◌∙◌, inl, inr, arith}
 use Rattle.std.proofs.lemmas.Bool.{false≢true}
 use Rattle.bx_answers.specs.Handling.{Handles, MayBecome, Promises, Votes, caught_up}
-use Rattle.bx_acceptor.specs.Standing.{BecomesBy, IsStanding as IsAcceptor, Standing as Acceptor}
+use Rattle.bx_acceptor.specs.Standing.{BecomesBy, IsAcceptorView as IsAcceptor, AcceptorView as Acceptor}
 use Rattle.bx_agreement.specs.History.{History}
 use Rattle.bx_agreement.specs.Passing.{MayCome}
 use Rattle.bx_base.specs.declared.names.Actor.TheVariants.{Replica}
@@ -20,7 +20,7 @@ use Rattle.bx_packets.specs.declared.message.Message.TheVariants.{Ask, Decided, 
 use Rattle.bx_post.specs.Posts.{letter_of}
 use Rattle.bx_post.specs.declared.packets.Letter.{Letter}
 use Rattle.bx_rounds.specs.Courses.{LeadsOn}
-use Rattle.bx_proposer.specs.Standing.{IsStanding as IsProposer, Standing as Proposer, going_on}
+use Rattle.bx_proposer.specs.Standing.{IsProposerView as IsProposer, ProposerView as Proposer, going_on}
 use Rattle.bx_rounds.specs.Steps.{Learns}
 use Rattle.bx_rounds.specs.declared.course.Course.{Course}
 use Rattle.bx_rows.specs.declared.ballot.Ballot.{Ballot}

@@ -25,7 +25,7 @@ use Rattle.bx_global.specs.Bytes.{IsHeld, held_text}
 use Rattle.bx_global.specs.declared.held.Held.{Held}
 use Rattle.bx_global.specs.declared.state.GlobalState.{GlobalState}
 use Rattle.bx_packets.specs.declared.message.Message.{Message}
-use Rattle.bx_rounds.specs.Agreement.{GoesOn}
+use Rattle.bx_rounds.specs.Agreement.{HistoryGoesOn}
 use Rattle.bx_paxos.specs.Counted.{AreCounted, IsCounted, IsHeldSound}
 
 -- ---- one replica
@@ -226,7 +226,7 @@ module _ (first : GlobalState) (origins : ℕ → Origin) where
 -- ---- a longer history
 
 -- What is sound stays so once an accept was sent, or a change came into the chain, where that is sound of any cells.
-pub sound_with : (h new : History) (cells those : ℕ → Option Held) → GoesOn h new → ((s : GlobalState) → IsPlace h.chain s → IsPlace new.chain s) → IsSound h cells → IsSound new those → IsSound new cells
+pub sound_with : (h new : History) (cells those : ℕ → Option Held) → HistoryGoesOn h new → ((s : GlobalState) → IsPlace h.chain s → IsPlace new.chain s) → IsSound h cells → IsSound new those → IsSound new cells
 sound_with h new cells those on places sound also = record {
   cell = λ n held e. let is = sound.cell n held e in record {
     index = is.index;

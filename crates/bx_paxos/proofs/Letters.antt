@@ -16,7 +16,7 @@ use Rattle.bx_packets.specs.declared.message.Message.{Message}
 use Rattle.bx_packets.specs.declared.message.Message.TheVariants.{Ask, Decided, Prepare, Promise as Promising, Accept, Accepted, Refused}
 use Rattle.bx_post.specs.declared.packets.Letter.{Letter}
 use Rattle.bx_rows.specs.declared.ballot.Ballot.{Ballot}
-use Rattle.bx_rounds.specs.Agreement.{GoesOn, MayTell}
+use Rattle.bx_rounds.specs.Agreement.{HistoryGoesOn, MayTell}
 use Rattle.bx_proposer.specs.Letters.{accept_in, accept_letters, asks_of, letters_of, letters_to, prepare_in, prepare_letters}
 use Rattle.bx_proposer.specs.Names.{replicas}
 use Rattle.bx_rounds.specs.Courses.{IsCourse, IsProposal}
@@ -42,7 +42,7 @@ pub first_stays : (changes : List Change) (old new : Chain) → GrowsBy changes 
 first_stays changes old new (inl same) = ap (λ (c : Chain). c.first) same
 first_stays changes old new (inr (change, handed, legal, e)) = ap (λ (c : Chain). c.first) e
 
-pub longer_on : (h new : History) → GoesOn h new → IsLonger h new
+pub longer_on : (h new : History) → HistoryGoesOn h new → IsLonger h new
 longer_on h new on = record {
   places = places_on h.proposed h.chain new.chain on.grows;
   proposals = on.proposals;

@@ -15,7 +15,7 @@ use Rattle.bx_cell.specs.Halves.{Found}
 use Rattle.bx_cell.specs.Images.{HasAllSure}
 use Rattle.bx_disk.specs.Disks.{Disks, Image}
 use Rattle.bx_facts.specs.Chains.{Chain, IsNext, last}
-use Rattle.bx_facts.specs.Labelled.{IsLabelled}
+use Rattle.bx_facts.specs.Labelled.{IsReplicaLabelled}
 use Rattle.bx_facts.specs.Pasts.{RegisterPast}
 use Rattle.bx_global.specs.Bytes.{IsHeld, held_text}
 use Rattle.bx_packets.specs.declared.message.Message.{Message}
@@ -24,7 +24,7 @@ use Rattle.bx_global.specs.declared.change.Change.{Change}
 use Rattle.bx_global.specs.declared.held.Held.{Held}
 use Rattle.bx_global.specs.declared.state.GlobalState.{GlobalState}
 use Rattle.bx_paxos.specs.Counted.{AreCounted, IsCounted, IsHeldSound}
-use Rattle.bx_paxos.specs.Fits.{Comes, Fits, KnowsCell, Voters, devices_of}
+use Rattle.bx_paxos.specs.Fits.{SpellsSent, Fits, KnowsCell, Voters, devices_of}
 use Rattle.bx_paxos.specs.Reading.{AreMade, AreSeen, ReadsFirst, ReadsState, Tells}
 use Rattle.bx_paxos.specs.Shown.{HasBegun, HasFound, Shows, ShowsOne}
 use Rattle.bx_paxos.proofs.Events.{moment}
@@ -64,7 +64,7 @@ module _ (first : GlobalState) (origins : ℕ → Origin) (was : ℕ → Option 
   stood_at : (cells : ℕ → Option Held) → AreCounted first origins image cells → IsSound h cells → h.chain.first ≡ first → (n : ℕ) (held : Held) → seen n ≡ Some held → Stood first was cells n held
   stood_at cells counted sound first_is n held e = let k = are.some n held e in by (origins n) refl k.0 k.1.0 k.1.1 (shown.each n k.0.whole.low)
     where
-      by : (o : Origin) → origins n ≡ o → IsLabelled devices sizes image n → (found : Found) → IsFound devices (image n) found held → ShowsOne devices o (was n) sizes image n → Stood first was cells n held
+      by : (o : Origin) → origins n ≡ o → IsReplicaLabelled devices sizes image n → (found : Found) → IsFound devices (image n) found held → ShowsOne devices o (was n) sizes image n → Stood first was cells n held
       by Made at label found is shows = absurd (begun.none_made n label.whole.low at)
       by (FoundAs number) at label found is (old, e, known) = record { old = old; was_old = e; kind = kinds (eqb_tells found.number number) }
         where
@@ -127,7 +127,7 @@ reads v x past image s f sure is = next_read v x past image s f (f.images.each i
 
 -- at any moment of a replica's put
 pub moment_reads : (v : Voters) (x : Disks) (past : RegisterPast) (n : ℕ) (held now : Held) (found : Found) (letter : Letter) (message : Message) (image : Image) (s : GlobalState) → Fits v x past → n < 3 → KnowsCell v x n held found → IsHeld (devices_of v) now
-    → Comes v past letter message → (now ≡ held) ⊎ ((answer : Option Message) × Handles held message now answer)
+    → SpellsSent v past letter message → (now ≡ held) ⊎ ((answer : Option Message) × Handles held message now answer)
     → HasEither x n 1 found (next found (held_text now)) image → ReadsState v.first x.sizes image s → IsNext past.proposed (last past.chain) s
 moment_reads v x past n held now found letter message image s f three knows is_now comes does either is =
     next_read v x past image s f (moment v x past n held now found letter message image f three knows is_now comes.sent comes.spells does either) (shown_either v f.was x x.sizes n held now found image (λ d low. refl) f.shown knows is_now either) is

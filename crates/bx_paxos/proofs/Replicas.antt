@@ -3,7 +3,7 @@ use Rattle.std.proofs.Common.{◌≡◌, ℕ, ◌^◌, ◌<◌, ◌≤◌, ◌�
 use Rattle.std.proofs.lemmas.Bool.Decides.{eqb_tells}
 use Rattle.std.proofs.lemmas.List.Elements.{Contains-append_left}
 use Rattle.bx_answers.specs.Handling.{Handles}
-use Rattle.bx_acceptor.specs.Standing.{BecomesBy, HasCell, HasContent, IsCellOf, IsStanding, IsTaken, Standing as Acceptor, Takes as TakesMessage, TakesIn, cell_with}
+use Rattle.bx_acceptor.specs.Standing.{BecomesBy, HasCell, HasContent, IsCellOf, IsAcceptorView, IsTaken, AcceptorView as Acceptor, Takes as TakesMessage, TakesIn, cell_with}
 use Rattle.bx_answers.specs.Replies.{letters_of as answers_of}
 use Rattle.bx_acceptor.specs.Starting.{StartsWith}
 use Rattle.bx_acceptor.specs.declared.origin.Origin.{Origin}
@@ -38,13 +38,13 @@ use Rattle.bx_rounds.specs.Agreement.{IsProposing}
 use Rattle.bx_proposer.specs.Letters.{asks_at, asks_of, letters_of}
 use Rattle.bx_proposer.specs.Names.{number_of}
 use Rattle.bx_rounds.specs.Courses.{IsCourse, PacketStep, Steps, started}
-use Rattle.bx_proposer.specs.Standing.{ProposesTo, Standing as Proposer, Takes, going_on}
+use Rattle.bx_proposer.specs.Standing.{ProposesTo, ProposerView as Proposer, Takes, going_on}
 use Rattle.bx_rounds.specs.Steps.{Hears, Learns, Proposes, Ticks, reading_now}
 use Rattle.bx_rounds.specs.declared.course.Course.{Course}
 use Rattle.bx_rounds.specs.declared.course.Move.{Move}
 use Rattle.bx_rounds.specs.declared.course.Move.TheVariants.{Nothing}
 use Rattle.bx_paxos.specs.Counted.{IsCounted, IsHeldSound}
-use Rattle.bx_paxos.specs.Fits.{AllPass, Fits, Goes, IsPutOn, KnowsCell, Turned, Voters, devices_of, going}
+use Rattle.bx_paxos.specs.Fits.{AllPass, Fits, RegisterGoes, IsPutOn, KnowsCell, Turned, Voters, devices_of, going}
 use Rattle.bx_paxos.specs.Reading.{ReadsNext}
 use Rattle.bx_paxos.specs.Shown.{Shows}
 use Rattle.bx_paxos.specs.Machines.{AreHalves, AreOf}
@@ -115,7 +115,7 @@ reads_clock v x past me reading courses f turned = record {
 
 -- ---- the acceptor's half
 
-knows_of : (v : Voters) (x : Disks) (a : Acceptor) (c : Known) → v.first ≡ a.first → v.origins a.replica ≡ a.origin → IsStanding a → a.cell ≡ Some c → EachSure x (HasCell a) → KnowsCell v x a.replica a.held c.found
+knows_of : (v : Voters) (x : Disks) (a : Acceptor) (c : Known) → v.first ≡ a.first → v.origins a.replica ≡ a.origin → IsAcceptorView a → a.cell ≡ Some c → EachSure x (HasCell a) → KnowsCell v x a.replica a.held c.found
 knows_of v x a c first origin is at has = record {
   content = subst (λ (o : Origin). HasContent o v.first a.held c.found) (sym origin) (subst (λ (s : GlobalState). HasContent a.origin s a.held c.found) (sym first) cell.content);
   each = record { each = λ image sure. by image ((has.each image sure)) };
@@ -139,7 +139,7 @@ cell_of a m takes = by a.cell refl takes
     by (Some c) e t = (c, e)
 
 -- it has taken what came, and what it knows is a place
-pub acceptor_takes : (v : Voters) (x y : Disks) (past : RegisterPast) (a b : Acceptor) (input : Input) (out after : List Letter) (Same : Type 0) → v.first ≡ a.first → v.origins a.replica ≡ a.origin → a.replica < 3 → IsStanding a → IsStanding b
+pub acceptor_takes : (v : Voters) (x y : Disks) (past : RegisterPast) (a b : Acceptor) (input : Input) (out after : List Letter) (Same : Type 0) → v.first ≡ a.first → v.origins a.replica ≡ a.origin → a.replica < 3 → IsAcceptorView a → IsAcceptorView b
     → b.replica ≡ a.replica → b.first ≡ a.first → b.origin ≡ a.origin → (Same → y ≡ x) → KeepsSure x y a.replica 1 20 → EachSure x (HasCell a) → EachSure y (HasCell b)
     → IfSome a.cell (λ cell. (b.cell ≡ Some (with_value cell (held_text b.held))) ⊎ ((b ≡ a) × Same)) → IsComing (past.letters ++ out) input → IsPlace past.chain a.held.decided
     → TakesIn a input b out after Same → Fits v x (register_with past out) → Fits v y (register_with past after) × IsPlace past.chain b.held.decided
@@ -167,7 +167,7 @@ acceptor_takes v x y past a b Synced out after Same first origin low is_a is_b r
 
 -- ---- the proposer's half
 
-decides_as : (v : Voters) (y : Disks) (past : RegisterPast) (known : GlobalState) (out sent after : List Letter) → past.letters ++ after ≡ (past.letters ++ out) ++ sent → Goes v y (register_with past out) known sent
+decides_as : (v : Voters) (y : Disks) (past : RegisterPast) (known : GlobalState) (out sent after : List Letter) → past.letters ++ after ≡ (past.letters ++ out) ++ sent → RegisterGoes v y (register_with past out) known sent
     → Decides (Fits v y) known (register_with past after)
 decides_as v y past known out sent after same goes = record {
   chain = goes.chain;
@@ -176,20 +176,20 @@ decides_as v y past known out sent after same goes = record {
   holds = subst (λ (l : List Letter). Fits v y (record past { chain = goes.chain; letters = l })) (sym same) goes.fits;
 }
 
-still : (v : Voters) (y : Disks) (past : RegisterPast) (known : GlobalState) (out : List Letter) → Fits v y (register_with past out) → Goes v y (register_with past out) known []
+still : (v : Voters) (y : Disks) (past : RegisterPast) (known : GlobalState) (out : List Letter) → Fits v y (register_with past out) → RegisterGoes v y (register_with past out) known []
 still v y past known out f = record { chain = past.chain; grows = inl refl; told = inl refl; fits = subst (λ (l : List Letter). Fits v y (record past { letters = l })) (sym (append-nil (past.letters ++ out))) f }
 
 -- the laws of a proposer, by its number
 hears_me : (v : Voters) (x : Disks) (past : RegisterPast) (at : Actor) (me : ℕ) (others : List Actor) (letter : Letter) (message : Message) (course : Course) (courses : ℕ → Course) (move : Move) → Fits v x past → me ≡ number_of at → me < 2 ^ 32
-    → Contains past.letters letter → Spells (devices_of v) message letter.kind letter.body → Hears me (v.courses me) letter.from message course move → Turned me course v.courses courses → Goes (going v courses) x past course.known (letters_of at others course move)
+    → Contains past.letters letter → Spells (devices_of v) message letter.kind letter.body → Hears me (v.courses me) letter.from message course move → Turned me course v.courses courses → RegisterGoes (going v courses) x past course.known (letters_of at others course move)
 hears_me v x past at me others letter message course courses move f number fits has spells =
-    subst (λ (n : ℕ). Hears n (v.courses n) letter.from message course move → Turned n course v.courses courses → Goes (going v courses) x past course.known (letters_of at others course move)) (sym number)
+    subst (λ (n : ℕ). Hears n (v.courses n) letter.from message course move → Turned n course v.courses courses → RegisterGoes (going v courses) x past course.known (letters_of at others course move)) (sym number)
     (λ does turned. hears v x past at others letter message course courses move f (subst (λ (n : ℕ). n < 2 ^ 32) number fits) has spells does turned)
 
 ticks_me : (v : Voters) (x : Disks) (past : RegisterPast) (at : Actor) (me : ℕ) (others : List Actor) (course : Course) (courses : ℕ → Course) (move : Move) → Fits v x past → me ≡ number_of at → me < 2 ^ 32
-    → Ticks me (v.courses me) course move → Turned me course v.courses courses → Goes (going v courses) x past course.known (letters_of at others course move)
+    → Ticks me (v.courses me) course move → Turned me course v.courses courses → RegisterGoes (going v courses) x past course.known (letters_of at others course move)
 ticks_me v x past at me others course courses move f number fits =
-    subst (λ (n : ℕ). Ticks n (v.courses n) course move → Turned n course v.courses courses → Goes (going v courses) x past course.known (letters_of at others course move)) (sym number)
+    subst (λ (n : ℕ). Ticks n (v.courses n) course move → Turned n course v.courses courses → RegisterGoes (going v courses) x past course.known (letters_of at others course move)) (sym number)
     (λ does turned. ticks_at v x past at others course courses move f (subst (λ (n : ℕ). n < 2 ^ 32) number fits) does turned)
 
 -- it takes what comes, of voters among which it has this course
@@ -254,7 +254,7 @@ proposer_takes v y past p q input courses out after first actor fits course come
 -- ---- both
 
 -- The acceptor has taken what comes, the proposer was told what that knows, and has taken it too.
-pub replica_takes : (v : Voters) (x y : Disks) (past : RegisterPast) (a b : Acceptor) (p m q : Proposer) (input : Input) (courses : ℕ → Course) (out mid after : List Letter) (Same : Type 0) → AreOf v a p → AreHalves a p → IsStanding a → IsStanding b
+pub replica_takes : (v : Voters) (x y : Disks) (past : RegisterPast) (a b : Acceptor) (p m q : Proposer) (input : Input) (courses : ℕ → Course) (out mid after : List Letter) (Same : Type 0) → AreOf v a p → AreHalves a p → IsAcceptorView a → IsAcceptorView b
     → b.replica ≡ a.replica → b.first ≡ a.first → b.origin ≡ a.origin → (Same → y ≡ x) → KeepsSure x y a.replica 1 20 → EachSure x (HasCell a) → EachSure y (HasCell b)
     → IfSome a.cell (λ cell. (b.cell ≡ Some (with_value cell (held_text b.held))) ⊎ ((b ≡ a) × Same)) → IsComing (past.letters ++ out) input → IsPlace past.chain a.held.decided → TakesIn a input b out mid Same
     → p.actor ≡ number_of p.at → p.actor < 2 ^ 32 → Learns p.course b.held.decided m.course → m ≡ going_on p m.course → IsComing (past.letters ++ mid) input → Takes m input q mid after → Turned p.actor q.course v.courses courses
@@ -284,7 +284,7 @@ comes_more past a b Synced out mid Same took comes = tt
 -- ---- a fault, and each moment inside the acceptor's put
 
 -- what an image has of its cell is sound by what was sent before
-sound_at : (v : Voters) (x : Disks) (past : RegisterPast) (a : Acceptor) (c : Known) (now : Held) (input : Input) (out : List Letter) (image : Image) (f : Fits v x (register_with past out)) → v.first ≡ a.first → v.origins a.replica ≡ a.origin → a.replica < 3 → IsStanding a
+sound_at : (v : Voters) (x : Disks) (past : RegisterPast) (a : Acceptor) (c : Known) (now : Held) (input : Input) (out : List Letter) (image : Image) (f : Fits v x (register_with past out)) → v.first ≡ a.first → v.origins a.replica ≡ a.origin → a.replica < 3 → IsAcceptorView a
     → a.cell ≡ Some c → EachSure x (HasCell a) → IsHeld (length a.first.devices) now → IsComing (past.letters ++ out) input → BecomesBy a input now → HasEither x a.replica 1 c.found (next c.found (held_text now)) image → IsHeldSound v.first v.origins f.history image
 sound_at v x past a c now input out image f first origin low is at has is_now comes became either = by input comes became
   where
@@ -309,13 +309,13 @@ sound_at v x past a c now input out image f first origin low is at has is_now co
     by Synced coming (inr (message, from, brings, becomes)) = absurd brings
 
 -- and it has the cells with which replicas take part
-shows_now : (v : Voters) (x : Disks) (sizes : List ℕ) (past : RegisterPast) (a : Acceptor) (c : Known) (now : Held) (out : List Letter) (image : Image) (f : Fits v x (register_with past out)) → AreAsLong x.sizes sizes → v.first ≡ a.first → v.origins a.replica ≡ a.origin → IsStanding a
+shows_now : (v : Voters) (x : Disks) (sizes : List ℕ) (past : RegisterPast) (a : Acceptor) (c : Known) (now : Held) (out : List Letter) (image : Image) (f : Fits v x (register_with past out)) → AreAsLong x.sizes sizes → v.first ≡ a.first → v.origins a.replica ≡ a.origin → IsAcceptorView a
     → a.cell ≡ Some c → EachSure x (HasCell a) → IsHeld (length a.first.devices) now → HasEither x a.replica 1 c.found (next c.found (held_text now)) image → Shows v.first v.origins f.was sizes image
 shows_now v x sizes past a c now out image f lengths first origin is at has is_now either =
     shown_either v f.was x sizes a.replica a.held now c.found image lengths f.shown (knows_of v x a c first origin is at has) (subst (λ (s : GlobalState). IsHeld (length s.devices) now) (sym first) is_now) either
 
 -- after a fault
-pub replica_faults : (v : Voters) (x y : Disks) (past : RegisterPast) (a b : Acceptor) (input : Input) (out : List Letter) (f : Fits v x (register_with past out)) → v.first ≡ a.first → v.origins a.replica ≡ a.origin → a.replica < 3 → IsStanding a → EachSure x (HasCell a)
+pub replica_faults : (v : Voters) (x y : Disks) (past : RegisterPast) (a b : Acceptor) (input : Input) (out : List Letter) (f : Fits v x (register_with past out)) → v.first ≡ a.first → v.origins a.replica ≡ a.origin → a.replica < 3 → IsAcceptorView a → EachSure x (HasCell a)
     → IsHeld (length a.first.devices) b.held → IsComing (past.letters ++ out) input → BecomesBy a input b.held → (T : Type 0) → T → IfSome a.cell (λ cell. T → EachSure x (HasCell a) → EachSure y (HasEither x a.replica 1 cell.found (next cell.found (held_text b.held)))) → (a.cell ≡ None → y ≡ x)
     → y.sizes ≡ x.sizes → Fits v y (register_with past out)
 replica_faults v x y past a b input out f first origin low is has is_now comes became T t either unmoved sizes = by a.cell refl either
@@ -343,7 +343,7 @@ leaves_none x moment since only = record {
 }
 
 -- each moment
-pub replica_moments : (v : Voters) (x : Disks) (past : RegisterPast) (a b : Acceptor) (input : Input) (out : List Letter) (before now : ℕ) (left since : ℕ → Image → Type 0) (f : Fits v x (register_with past out)) → v.first ≡ a.first → v.origins a.replica ≡ a.origin → a.replica < 3 → IsStanding a → EachSure x (HasCell a)
+pub replica_moments : (v : Voters) (x : Disks) (past : RegisterPast) (a b : Acceptor) (input : Input) (out : List Letter) (before now : ℕ) (left since : ℕ → Image → Type 0) (f : Fits v x (register_with past out)) → v.first ≡ a.first → v.origins a.replica ≡ a.origin → a.replica < 3 → IsAcceptorView a → EachSure x (HasCell a)
     → IsHeld (length a.first.devices) b.held → IsComing (past.letters ++ out) input → BecomesBy a input b.held → (T : Type 0) → T → IfSome a.cell (λ cell. T → EachSure x (HasCell a) → LeavesOnly before now left since (HasEither x a.replica 1 cell.found (next cell.found (held_text b.held))))
     → (a.cell ≡ None → LeavesOnly before now left since (IsImage x)) → LeavesOnly before now left since (ReadsNext v.first past x.sizes)
 replica_moments v x past a b input out before now left since f first origin low is has is_now comes became T t leaves unmoved = by a.cell refl leaves
@@ -356,7 +356,7 @@ replica_moments v x past a b input out before now left since f first origin low 
 -- ---- a start
 
 -- what an acceptor knows that started is a place: what its cell has, or the first state
-pub started_place : (v : Voters) (y : Disks) (past : RegisterPast) (b : Acceptor) (f : Fits v y past) → v.first ≡ b.first → v.origins b.replica ≡ b.origin → b.replica < 3 → IsStanding b → EachSure y (HasCell b) → (b.cell ≡ None → b.held.decided ≡ b.first) → IsPlace past.chain b.held.decided
+pub started_place : (v : Voters) (y : Disks) (past : RegisterPast) (b : Acceptor) (f : Fits v y past) → v.first ≡ b.first → v.origins b.replica ≡ b.origin → b.replica < 3 → IsAcceptorView b → EachSure y (HasCell b) → (b.cell ≡ None → b.held.decided ≡ b.first) → IsPlace past.chain b.held.decided
 started_place v y past b f first origin low is has none = by b.cell refl
   where
     by : (o : Option Known) → b.cell ≡ o → IsPlace past.chain b.held.decided
@@ -364,7 +364,7 @@ started_place v y past b f first origin low is has none = by b.cell refl
     by (Some c) at = subst (λ (k : Chain). IsPlace k b.held.decided) f.chain (holds_place v y past b.replica b.held c.found f low (knows_of v y b c first origin is at has))
 
 -- The acceptor has started, the proposer too, and was told what the acceptor knows.
-pub replica_starts : (v : Voters) (x y : Disks) (past : RegisterPast) (a b : Acceptor) (p m q : Proposer) (boot : ℕ) (courses : ℕ → Course) (out : List Letter) → AreOf v a p → AreHalves a p → IsStanding b
+pub replica_starts : (v : Voters) (x y : Disks) (past : RegisterPast) (a b : Acceptor) (p m q : Proposer) (boot : ℕ) (courses : ℕ → Course) (out : List Letter) → AreOf v a p → AreHalves a p → IsAcceptorView b
     → b.replica ≡ a.replica → b.first ≡ a.first → b.origin ≡ a.origin → KeepsAll x y a.replica → EachSure y (HasCell b) → (b.cell ≡ None → b.held.decided ≡ b.first)
     → v.nodes ≤ 16 → v.nodes ≡ p.nodes → past.boots (Replica a.replica) < boot → boot < 2 ^ 64 → m ≡ going_on p (started boot p.course.reading p.first) → Learns m.course b.held.decided q.course → Turned p.actor q.course v.courses courses
     → Fits v x (register_with past out) → Fits (going v courses) y (register_with (register_restarted past (Replica a.replica) boot) out)

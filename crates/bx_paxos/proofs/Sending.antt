@@ -1,7 +1,7 @@
 -- All that a register sends is of the register's kinds.
 use Rattle.std.proofs.Common.{◌≡◌, ℕ, List, [], ◌∷◌, ◌++◌, Option, Some, None, Contains, refl, sym, subst, inl, inr, lit≤}
 use Rattle.std.proofs.lemmas.List.Elements.{Contains-append_cases, Contains-append_left}
-use Rattle.bx_acceptor.specs.Standing.{Standing as Acceptor, TakesIn}
+use Rattle.bx_acceptor.specs.Standing.{AcceptorView as Acceptor, TakesIn}
 use Rattle.bx_answers.specs.Replies.{letters_of as answers_of}
 use Rattle.bx_base.specs.declared.names.Actor.{Actor}
 use Rattle.bx_base.specs.declared.names.Actor.TheVariants.{Node, Replica, Server, Member}
@@ -17,7 +17,7 @@ use Rattle.bx_packets.specs.declared.message.Message.TheVariants.{Ask, Decided, 
 use Rattle.bx_post.specs.declared.packets.Letter.{Letter}
 use Rattle.bx_proposer.specs.Letters.{accept_in, accept_letters, asks_at, asks_of, letters_of, letters_to, prepare_in, prepare_letters}
 use Rattle.bx_proposer.specs.Names.{replicas}
-use Rattle.bx_proposer.specs.Standing.{ProposesTo, Standing as Proposer, Takes}
+use Rattle.bx_proposer.specs.Standing.{ProposesTo, ProposerView as Proposer, Takes}
 use Rattle.bx_rounds.specs.declared.course.Course.{Course}
 use Rattle.bx_rounds.specs.declared.course.Move.{Move}
 use Rattle.bx_rounds.specs.declared.course.Move.TheVariants.{Nothing, Prepare as Prepares, Accept as Accepts, Decided as Decides}

@@ -14,7 +14,7 @@ use Rattle.bx_cell.specs.Images.{EachSure, HasAllSure}
 use Rattle.bx_cell.proofs.Words.{cell_sectors}
 use Rattle.bx_disk.specs.Disks.{Disks, Image}
 use Rattle.bx_facts.specs.Disks.{SameLabels, SameLengths, SameReplicas}
-use Rattle.bx_facts.specs.Labelled.{IsFirstLabel, IsLabelled, IsOwnLabel, IsWhole, label_on}
+use Rattle.bx_facts.specs.Labelled.{IsFirstLabel, IsReplicaLabelled, IsOwnLabel, IsWhole, label_on}
 use Rattle.bx_global.specs.Bytes.{IsHeld, SpellsHeld, held_text}
 use Rattle.bx_global.specs.declared.held.Held.{Held}
 use Rattle.bx_global.specs.declared.state.GlobalState.{GlobalState}
@@ -53,7 +53,7 @@ first_alike sizes more image other first lengths same is = record {
   least = λ n label before own. is.least n label before (own_alike more sizes (back sizes more lengths) other image n label (λ d whole. sym (same d (whole_alike more sizes (back sizes more lengths) d whole))) own);
 }
 
-pub label_alike : (devices : ℕ) (sizes more : List ℕ) (image other : Image) (n : ℕ) → AreAsLong sizes more → ((d : ℕ) → IsWhole sizes d → other d 0 ≡ image d 0) → IsLabelled devices sizes image n → IsLabelled devices more other n
+pub label_alike : (devices : ℕ) (sizes more : List ℕ) (image other : Image) (n : ℕ) → AreAsLong sizes more → ((d : ℕ) → IsWhole sizes d → other d 0 ≡ image d 0) → IsReplicaLabelled devices sizes image n → IsReplicaLabelled devices more other n
 label_alike devices sizes more image other n lengths same is = record {
   whole = whole_alike sizes more lengths n is.whole;
   first = is.first;

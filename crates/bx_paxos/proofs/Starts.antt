@@ -8,7 +8,7 @@ use Rattle.bx_acceptor.specs.Standing.{IsFound}
 use Rattle.bx_acceptor.specs.declared.origin.Origin.{Origin}
 use Rattle.bx_acceptor.specs.declared.origin.Origin.TheVariants.{Made, Found as FoundAs, Apart}
 use Rattle.bx_agreement.specs.Cells.{KnowsFirst, opening}
-use Rattle.bx_agreement.specs.Events.{Stands, Turns}
+use Rattle.bx_agreement.specs.Events.{HistoryStands, Turns}
 use Rattle.bx_agreement.specs.History.{ComesNext, History}
 use Rattle.bx_agreement.specs.Sound.{with_change}
 use Rattle.bx_agreement.proofs.Begins.{begins, found_knows}
@@ -81,7 +81,7 @@ turned_each P me course old new turned is each m =
 turns_of : (me : ℕ) (course : Course) (old new : ℕ → Course) → Turned me course old new → Turns me (machine_of course) (machines_of old) (machines_of new)
 turns_of me course old new turned = record { at = ap machine_of turned.at; others = λ m apart. ap machine_of (turned.others m apart) }
 
-stands : (v : Voters) (x : Disks) (past : RegisterPast) (f : Fits v x past) → Stands f.history (here v x past f).cells (machines_of v.courses)
+stands : (v : Voters) (x : Disks) (past : RegisterPast) (f : Fits v x past) → HistoryStands f.history (here v x past f).cells (machines_of v.courses)
 stands v x past f = record { sound = (here v x past f).sound; each = λ me. (f.proposing me).is }
 
 -- one machine has another course, and letters more; the history is the same
@@ -142,7 +142,7 @@ proposed v x past at others change course courses move f fits numbers legal does
     new : History
     new = with_change change f.history
 
-    both : Stands new (here v x past f).cells (machines_of courses) × IsProposing new me course
+    both : HistoryStands new (here v x past f).cells (machines_of courses) × IsProposing new me course
     both = proposes f.history (here v x past f).cells (machines_of v.courses) (machines_of courses) me (v.courses me) course change move (stands v x past f) (f.proposing me) legal does (turns_of me course v.courses courses turned)
 
     as_course : IsCourse (devices_of v) course

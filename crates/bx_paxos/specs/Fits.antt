@@ -79,7 +79,7 @@ pub record Fits (v : Voters) (x : Disks) (past : RegisterPast) : Type 0 where
 
 -- These machines and disks fit the past with these letters more, in which the chain has one change more that was handed in, or none: one only where
 -- the state that is known then is what it makes.
-pub record Goes (v : Voters) (x : Disks) (past : RegisterPast) (known : GlobalState) (sent : List Letter) : Type 0 where
+pub record RegisterGoes (v : Voters) (x : Disks) (past : RegisterPast) (known : GlobalState) (sent : List Letter) : Type 0 where
   pub chain : Chain
   pub grows : GrowsBy past.proposed past.chain chain
   pub told : (chain ≡ past.chain) ⊎ (known ≡ last chain)
@@ -96,6 +96,6 @@ pub record KnowsCell (v : Voters) (x : Disks) (n : ℕ) (held : Held) (found : F
   pub is : IsHeld (devices_of v) held
 
 -- A letter that may be under way comes to a machine, and says this.
-pub record Comes (v : Voters) (past : RegisterPast) (letter : Letter) (message : Message) : Type 0 where
+pub record SpellsSent (v : Voters) (past : RegisterPast) (letter : Letter) (message : Message) : Type 0 where
   pub sent : Contains past.letters letter
   pub spells : Spells (devices_of v) message letter.kind letter.body

@@ -1,10 +1,10 @@
 -- The machine of a replica: its acceptor and its proposer.
 use Rattle.std.specs.Prelude.{◌≡◌, ℕ, ◌<◌, ◌≤◌, List}
-use Rattle.bx_acceptor.specs.Standing.{IsStanding as IsAcceptor, Standing as Acceptor, TakesIn}
+use Rattle.bx_acceptor.specs.Standing.{IsAcceptorView as IsAcceptor, AcceptorView as Acceptor, TakesIn}
 use Rattle.bx_base.specs.declared.names.Actor.TheVariants.{Replica}
 use Rattle.bx_facts.specs.declared.input.Input.{Input}
 use Rattle.bx_post.specs.declared.packets.Letter.{Letter}
-use Rattle.bx_proposer.specs.Standing.{IsStanding as IsProposer, Standing as Proposer, Takes, going_on}
+use Rattle.bx_proposer.specs.Standing.{IsProposerView as IsProposer, ProposerView as Proposer, Takes, going_on}
 use Rattle.bx_rounds.specs.Courses.{started}
 use Rattle.bx_rounds.specs.Steps.{Learns}
 use Rattle.bx_paxos.specs.Fits.{Voters}

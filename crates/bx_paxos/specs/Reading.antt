@@ -7,15 +7,15 @@ use Rattle.bx_agreement.specs.Sound.{HasTwo, IsAhead, IsLevel}
 use Rattle.bx_cell.specs.Halves.{Found}
 use Rattle.bx_disk.specs.Disks.{Image}
 use Rattle.bx_facts.specs.Chains.{IsNext, last}
-use Rattle.bx_facts.specs.Labelled.{IsLabelled}
+use Rattle.bx_facts.specs.Labelled.{IsReplicaLabelled}
 use Rattle.bx_facts.specs.Pasts.{RegisterPast}
 use Rattle.bx_global.specs.declared.held.Held.{Held}
 use Rattle.bx_global.specs.declared.state.GlobalState.{GlobalState}
 
 -- These are the cells that can be read on the disks of replicas that are labelled.
 pub record AreSeen (devices : ℕ) (sizes : List ℕ) (image : Image) (seen : ℕ → Option Held) : Type 0 where
-  pub some : (n : ℕ) (held : Held) → seen n ≡ Some held → IsLabelled devices sizes image n × ((found : Found) × IsFound devices (image n) found held)
-  pub none : (n : ℕ) (found : Found) (held : Held) → seen n ≡ None → IsLabelled devices sizes image n → IsFound devices (image n) found held → ⊥
+  pub some : (n : ℕ) (held : Held) → seen n ≡ Some held → IsReplicaLabelled devices sizes image n × ((found : Found) × IsFound devices (image n) found held)
+  pub none : (n : ℕ) (found : Found) (held : Held) → seen n ≡ None → IsReplicaLabelled devices sizes image n → IsFound devices (image n) found held → ⊥
 
 -- The accepted state of a replica is read, or where none is above each decided one, the decided state of a replica. Among equals the lowest
 -- replica's counts.

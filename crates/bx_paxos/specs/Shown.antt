@@ -5,18 +5,18 @@ use Rattle.bx_acceptor.specs.declared.origin.Origin.{Origin}
 use Rattle.bx_acceptor.specs.declared.origin.Origin.TheVariants.{Made, Found as FoundAs, Apart}
 use Rattle.bx_cell.specs.Halves.{Found}
 use Rattle.bx_disk.specs.Disks.{Image}
-use Rattle.bx_facts.specs.Labelled.{IsLabelled}
+use Rattle.bx_facts.specs.Labelled.{IsReplicaLabelled}
 use Rattle.bx_global.specs.declared.held.Held.{Held}
 use Rattle.bx_global.specs.declared.state.GlobalState.{GlobalState}
 use Rattle.bx_paxos.specs.Reading.{AreMade, Tells}
 
 -- The replica isn't labelled, or its disk has no cell that can be read.
 pub record IsUnread (devices : ℕ) (sizes : List ℕ) (image : Image) (n : ℕ) : Type 0 where
-  pub none : (found : Found) (held : Held) → IsLabelled devices sizes image n → IsFound devices (image n) found held → ⊥
+  pub none : (found : Found) (held : Held) → IsReplicaLabelled devices sizes image n → IsFound devices (image n) found held → ⊥
 
 -- The replica is labelled, and its disk has a cell under this number, or under a later one. Under this one it has what was found.
 pub record IsKnown (devices number : ℕ) (was : Held) (sizes : List ℕ) (image : Image) (n : ℕ) : Type 0 where
-  pub label : IsLabelled devices sizes image n
+  pub label : IsReplicaLabelled devices sizes image n
   pub found : Found
   pub held : Held
   pub is : IsFound devices (image n) found held
@@ -36,7 +36,7 @@ pub record Shows (first : GlobalState) (origins : ℕ → Origin) (was : ℕ →
 -- The same of a disk that stands as it was found.
 abbrev pub IsAsItWas : ℕ → Origin → Option Held → List ℕ → Image → ℕ → Type 0
 IsAsItWas devices Made was sizes image n = ⊥
-IsAsItWas devices (FoundAs number) was sizes image n = (held : Held) × (was ≡ Some held) × IsLabelled devices sizes image n × ((found : Found) × (found.number ≡ number) × IsFound devices (image n) found held)
+IsAsItWas devices (FoundAs number) was sizes image n = (held : Held) × (was ≡ Some held) × IsReplicaLabelled devices sizes image n × ((found : Found) × (found.number ≡ number) × IsFound devices (image n) found held)
 IsAsItWas devices Apart was sizes image n = (was ≡ None) × IsUnread devices sizes image n
 
 pub record StandsAsFound (first : GlobalState) (origins : ℕ → Origin) (was : ℕ → Option Held) (sizes : List ℕ) (image : Image) : Type 0 where

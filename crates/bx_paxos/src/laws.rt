@@ -30,7 +30,7 @@ ghost use Rattle.bx_rounds.specs.Steps.{Hears, Learns, Proposes, Ticks};
 ghost use Rattle.bx_rounds.specs.declared.course.Course.{Course};
 ghost use Rattle.bx_rounds.specs.declared.course.Move.{Move};
 ghost use Rattle.bx_paxos.specs.Counted.{IsCounted};
-ghost use Rattle.bx_paxos.specs.Fits.{Comes, Fits, Goes, IsPutOn, KnowsCell, Turned, Voters, devices_of, going};
+ghost use Rattle.bx_paxos.specs.Fits.{SpellsSent, Fits, RegisterGoes, IsPutOn, KnowsCell, Turned, Voters, devices_of, going};
 ghost use Rattle.bx_paxos.specs.Reading.{AreMade, ReadsState};
 ghost use Rattle.bx_paxos.specs.Shown.{HasFound, StandsAsFound};
 
@@ -56,25 +56,25 @@ pub fn disks_and_letters_may_change()
 /// A replica takes a letter that may be under way; its cell has what it holds then, and its answer is under way.
 pub fn a_replica_answers()
     ensures { (v : Voters) (x y : Disks) (past : RegisterPast) (n : ℕ) (held now : Held) (found after : Found) (letter : Letter) (message : Message) (answer : Option Message) → Fits v x past → n < 3
-        → KnowsCell v x n held found → KnowsCell v y n now after → IsPutOn found after → KeepsSure x y n 1 20 → Comes v past letter message → Handles held message now answer
+        → KnowsCell v x n held found → KnowsCell v y n now after → IsPutOn found after → KeepsSure x y n 1 20 → SpellsSent v past letter message → Handles held message now answer
         → Fits v y (record past { letters = past.letters ++ letters_of n letter.from answer }) }
 {}
 
 /// A replica is stopped inside its put, or a fault stops it: what images have is sound by what was sent before.
 pub fn a_replica_is_stopped()
     ensures faults { (v : Voters) (x y : Disks) (past : RegisterPast) (n : ℕ) (held now : Held) (found : Found) (letter : Letter) (message : Message) → Fits v x past → n < 3 → KnowsCell v x n held found → IsHeld (devices_of v) now
-        → Comes v past letter message → (now ≡ held) ⊎ ((answer : Option Message) × Handles held message now answer) → SameLengths x y → EachSure y (HasEither x n 1 found (next found (held_text now))) → Fits v y past }
+        → SpellsSent v past letter message → (now ≡ held) ⊎ ((answer : Option Message) × Handles held message now answer) → SameLengths x y → EachSure y (HasEither x n 1 found (next found (held_text now))) → Fits v y past }
     ensures moment { (v : Voters) (x : Disks) (past : RegisterPast) (n : ℕ) (held now : Held) (found : Found) (letter : Letter) (message : Message) (image : Image) (s : GlobalState) → Fits v x past → n < 3 → KnowsCell v x n held found → IsHeld (devices_of v) now
-        → Comes v past letter message → (now ≡ held) ⊎ ((answer : Option Message) × Handles held message now answer) → HasEither x n 1 found (next found (held_text now)) image → ReadsState v.first x.sizes image s → IsNext past.proposed (last past.chain) s }
+        → SpellsSent v past letter message → (now ≡ held) ⊎ ((answer : Option Message) × Handles held message now answer) → HasEither x n 1 found (next found (held_text now)) image → ReadsState v.first x.sizes image s → IsNext past.proposed (last past.chain) s }
 {}
 
 /// A proposer takes a letter that may be under way, or a tick: the chain has one change more that was handed in, or none, and what it sends is
 /// under way. A change more only where the proposer knows what it makes then.
 pub fn a_proposer_takes()
     ensures hears { (v : Voters) (x : Disks) (past : RegisterPast) (at : Actor) (others : List Actor) (letter : Letter) (message : Message) (course : Course) (courses : ℕ → Course) (move : Move) → Fits v x past → number_of at < 2 ^ 32
-        → Comes v past letter message → Hears (number_of at) (v.courses (number_of at)) letter.from message course move → Turned (number_of at) course v.courses courses → Goes (going v courses) x past course.known (sent_of at others course move) }
+        → SpellsSent v past letter message → Hears (number_of at) (v.courses (number_of at)) letter.from message course move → Turned (number_of at) course v.courses courses → RegisterGoes (going v courses) x past course.known (sent_of at others course move) }
     ensures ticks { (v : Voters) (x : Disks) (past : RegisterPast) (at : Actor) (others : List Actor) (course : Course) (courses : ℕ → Course) (move : Move) → Fits v x past → number_of at < 2 ^ 32
-        → Ticks (number_of at) (v.courses (number_of at)) course move → Turned (number_of at) course v.courses courses → Goes (going v courses) x past course.known (sent_of at others course move) }
+        → Ticks (number_of at) (v.courses (number_of at)) course move → Turned (number_of at) course v.courses courses → RegisterGoes (going v courses) x past course.known (sent_of at others course move) }
 {}
 
 /// A legal change is handed in and proposed.

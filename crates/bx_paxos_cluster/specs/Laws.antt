@@ -7,7 +7,7 @@ use Rattle.bx_disk.specs.Disks.{Disks, Image, IsImage}
 use Rattle.bx_facts.specs.Chains.{AreLegal, IsNext, IsPlace, last}
 use Rattle.bx_facts.specs.Disks.{Crashes, SameLabels, SameLengths, SameReplicas}
 use Rattle.bx_facts.specs.Inputs.{AreAmong, IsRegisters}
-use Rattle.bx_facts.specs.Labelled.{IsLabelled}
+use Rattle.bx_facts.specs.Labelled.{IsReplicaLabelled}
 use Rattle.bx_facts.specs.Pasts.{RegisterPast}
 use Rattle.bx_global.specs.Allowed.{IsAllowed}
 use Rattle.bx_global.specs.declared.state.GlobalState.{GlobalState}
@@ -46,7 +46,7 @@ reads_one = one_reading
 pub one_boot : (made : GlobalState) (sizes : List ℕ) (image : Image) (boot other : ℕ) → IsGreatestBoot (length made.devices) sizes image boot → IsGreatestBoot (length made.devices) sizes image other → other ≡ boot
 one_boot made sizes image boot other is also = one_greatest (length made.devices) sizes image boot other is also
 
-pub reads_some : (g : Cluster) (x : Disks) (past : RegisterPast) (image : Image) (n m : ℕ) → Keeps g x past → IsImage x image → n ≢ m → IsLabelled (length g.made.devices) x.sizes image n → IsLabelled (length g.made.devices) x.sizes image m → (s : GlobalState) × ReadsState g.made x.sizes image s
+pub reads_some : (g : Cluster) (x : Disks) (past : RegisterPast) (image : Image) (n m : ℕ) → Keeps g x past → IsImage x image → n ≢ m → IsReplicaLabelled (length g.made.devices) x.sizes image n → IsReplicaLabelled (length g.made.devices) x.sizes image m → (s : GlobalState) × ReadsState g.made x.sizes image s
 reads_some = some_on
 
 pub elsewhere : (g : Cluster) (x y : Disks) (past : RegisterPast) → Keeps g x past → SameLengths x y → SameReplicas x y → SameLabels x y → Keeps g y past

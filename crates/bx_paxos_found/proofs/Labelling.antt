@@ -7,7 +7,7 @@ use Rattle.std.proofs.lemmas.Bool.Decides.{eqb_tells}
 use Rattle.std.proofs.lemmas.Slice.Eq.{bytes_eq-Decides}
 use Rattle.bx_disk.specs.Disks.{Disks, Image}
 use Rattle.bx_facts.specs.Disks.{SameDisks}
-use Rattle.bx_facts.specs.Labelled.{IsFirstLabel, IsLabelled, IsOwnLabel, IsWhole, label_on}
+use Rattle.bx_facts.specs.Labelled.{IsFirstLabel, IsReplicaLabelled, IsOwnLabel, IsWhole, label_on}
 use Rattle.bx_base.specs.Writing.{padded}
 use Rattle.bx_layout.proofs.LabelFields.{areas_in, devices_in, disk_in, same_label, volume_in}
 use Rattle.bx_layout.specs.Labels.{IsLabel, SpellsLabel, label_text}
@@ -160,29 +160,29 @@ of_some P None x same is = absurd cc
 
 module _ (devices : ℕ) (sizes : List ℕ) (image : Image) where
   -- by the first label
-  pub spells_so : (n : ℕ) (first : Label) → IsFirstLabel sizes image first → IsLabelled devices sizes image n → SpellsLabel (label_on first n) (image n 0)
+  pub spells_so : (n : ℕ) (first : Label) → IsFirstLabel sizes image first → IsReplicaLabelled devices sizes image n → SpellsLabel (label_on first n) (image n 0)
   spells_so n first is label = subst (λ (l : Label). SpellsLabel (label_on l n) (image n 0)) (one_first sizes image label.first first label.is_first is) label.spells
 
-  pub devices_so : (n : ℕ) (first : Label) → IsFirstLabel sizes image first → IsLabelled devices sizes image n → first.devices ≡ devices
+  pub devices_so : (n : ℕ) (first : Label) → IsFirstLabel sizes image first → IsReplicaLabelled devices sizes image n → first.devices ≡ devices
   devices_so n first is label = ap (λ (l : Label). l.devices) (one_first sizes image first label.first is label.is_first) ∙ label.devices_are
 
   -- a volume of other devices, or none at all
-  pub apart_devices : (first : Label) → IsFirstLabel sizes image first → (first.devices ≡ devices → ⊥) → (n : ℕ) → IsLabelled devices sizes image n → ⊥
+  pub apart_devices : (first : Label) → IsFirstLabel sizes image first → (first.devices ≡ devices → ⊥) → (n : ℕ) → IsReplicaLabelled devices sizes image n → ⊥
   apart_devices first is differ n label = differ (devices_so n first is label)
 
-  pub none_labelled : ((n : ℕ) (label : Label) → IsOwnLabel sizes image n label → ⊥) → (n : ℕ) → IsLabelled devices sizes image n → ⊥
+  pub none_labelled : ((n : ℕ) (label : Label) → IsOwnLabel sizes image n label → ⊥) → (n : ℕ) → IsReplicaLabelled devices sizes image n → ⊥
   none_labelled none n label = none label.first.disk label.first label.is_first.own
 
-  pub labelled_or : (n : ℕ) → n < 3 → IsLabelled devices sizes image n ⊎ (IsLabelled devices sizes image n → ⊥)
+  pub labelled_or : (n : ℕ) → n < 3 → IsReplicaLabelled devices sizes image n ⊎ (IsReplicaLabelled devices sizes image n → ⊥)
   labelled_or n low = by (whole_or sizes n low) (first_or sizes image)
     where
       at : IsWhole sizes n → (first : Label) → IsFirstLabel sizes image first → (((first.devices == devices) ≡ true) × (first.devices ≡ devices)) ⊎ (((first.devices == devices) ≡ false) × (first.devices ≡ devices → ⊥))
-          → SpellsLabel (label_on first n) (image n 0) ⊎ (SpellsLabel (label_on first n) (image n 0) → ⊥) → IsLabelled devices sizes image n ⊎ (IsLabelled devices sizes image n → ⊥)
+          → SpellsLabel (label_on first n) (image n 0) ⊎ (SpellsLabel (label_on first n) (image n 0) → ⊥) → IsReplicaLabelled devices sizes image n ⊎ (IsReplicaLabelled devices sizes image n → ⊥)
       at whole first is (inl same) (inl spells) = inl (record { whole = whole; first = first; is_first = is; devices_are = same.1; spells = spells })
       at whole first is (inl same) (inr never) = inr (λ label. never (spells_so n first is label))
       at whole first is (inr apart) spells = inr (λ label. apart.1 (devices_so n first is label))
 
-      by : IsWhole sizes n ⊎ (IsWhole sizes n → ⊥) → ((first : Label) × IsFirstLabel sizes image first) ⊎ ((k : ℕ) (label : Label) → IsOwnLabel sizes image k label → ⊥) → IsLabelled devices sizes image n ⊎ (IsLabelled devices sizes image n → ⊥)
+      by : IsWhole sizes n ⊎ (IsWhole sizes n → ⊥) → ((first : Label) × IsFirstLabel sizes image first) ⊎ ((k : ℕ) (label : Label) → IsOwnLabel sizes image k label → ⊥) → IsReplicaLabelled devices sizes image n ⊎ (IsReplicaLabelled devices sizes image n → ⊥)
       by (inr short) rest = inr (λ label. short label.whole)
       by (inl whole) (inl (first, is)) = at whole first is (eqb_tells first.devices devices) (spells_or (label_on first n) (image n 0))
       by (inl whole) (inr none) = inr (λ label. none label.first.disk label.first label.is_first.own)

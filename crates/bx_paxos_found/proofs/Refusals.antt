@@ -7,7 +7,7 @@ use Rattle.bx_agreement.proofs.Order.{in_common}
 use Rattle.bx_agreement.specs.History.{AreTwo}
 use Rattle.bx_disk.specs.Disks.{Disks, Image}
 use Rattle.bx_facts.specs.Disks.{TellNoState}
-use Rattle.bx_facts.specs.Labelled.{IsLabelled}
+use Rattle.bx_facts.specs.Labelled.{IsReplicaLabelled}
 use Rattle.bx_facts.specs.declared.input.OpenError.{OpenError}
 use Rattle.bx_facts.specs.declared.input.OpenError.TheVariants.{Disk as OpenFails, OutOfMemory as WantsMemory, Spent}
 use Rattle.bx_global.specs.declared.held.Held.{Held}
@@ -183,7 +183,7 @@ one_greatest devices sizes image boot other is also =
 -- ---- disks that tell no state
 
 -- no replica is labelled
-pub no_volume : (devices : ℕ) (x : Disks) → ((n : ℕ) → IsLabelled devices x.sizes x.reads n → ⊥) → LackMajority devices x.sizes x.reads
+pub no_volume : (devices : ℕ) (x : Disks) → ((n : ℕ) → IsReplicaLabelled devices x.sizes x.reads n → ⊥) → LackMajority devices x.sizes x.reads
 no_volume devices x none = record {
   one = 0;
   other = 1;

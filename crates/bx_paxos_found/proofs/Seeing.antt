@@ -4,7 +4,7 @@ use Rattle.std.specs.Prelude.{IfNone, IfSome}
 use Rattle.bx_acceptor.specs.Standing.{IsFound, IsNotFound}
 use Rattle.bx_cell.specs.Halves.{Found}
 use Rattle.bx_disk.specs.Disks.{Disks, Image}
-use Rattle.bx_facts.specs.Labelled.{IsLabelled}
+use Rattle.bx_facts.specs.Labelled.{IsReplicaLabelled}
 use Rattle.bx_global.specs.declared.state.GlobalState.{GlobalState}
 use Rattle.bx_paxos.specs.Reading.{ReadsState}
 use Rattle.bx_paxos_found.proofs.OneRead.{devices_read}
@@ -13,7 +13,7 @@ use Rattle.bx_paxos_found.specs.Choosing.{chosen_of}
 use Rattle.bx_paxos_found.specs.Finding.{IsSeen, LackMajority, count_of, held_of}
 use Rattle.bx_paxos_found.specs.declared.looking.Seen.{Seen}
 
-pub seen_of : (devices : ℕ) (sizes : List ℕ) (image : Image) (n : ℕ) (o : Option Seen) → IsLabelled devices sizes image n
+pub seen_of : (devices : ℕ) (sizes : List ℕ) (image : Image) (n : ℕ) (o : Option Seen) → IsReplicaLabelled devices sizes image n
     → IfSome o (λ x. (found : Found) × (found.number ≡ x.number) × IsFound devices (image n) found x.held) → IfNone o (IsNotFound devices (image n)) → IsSeen devices sizes image n o
 seen_of devices sizes image n None label some none = record { none = λ found held also is. none found held is }
 seen_of devices sizes image n (Some x) label some none = (label, some)

@@ -8,7 +8,7 @@ use Rattle.bx_agreement.specs.Sound.{HasTwo}
 use Rattle.bx_cell.specs.Halves.{Found}
 use Rattle.bx_cell.specs.Images.{HasAllSure}
 use Rattle.bx_disk.specs.Disks.{Disks, Image}
-use Rattle.bx_facts.specs.Labelled.{IsLabelled}
+use Rattle.bx_facts.specs.Labelled.{IsReplicaLabelled}
 use Rattle.bx_facts.specs.Pasts.{RegisterPast}
 use Rattle.bx_global.specs.declared.held.Held.{Held}
 use Rattle.bx_global.specs.declared.state.GlobalState.{GlobalState}
@@ -28,7 +28,7 @@ use Rattle.bx_paxos_found.proofs.Threes.{three_each, three_within}
 -- what is seen of a replica: its cell, where it is labelled and has a cell that can be read
 pub IsView : ℕ → List ℕ → Image → ℕ → Option Held → Type 0
 IsView devices sizes image n None = IsUnread devices sizes image n
-IsView devices sizes image n (Some held) = IsLabelled devices sizes image n × ((found : Found) × IsFound devices (image n) found held)
+IsView devices sizes image n (Some held) = IsReplicaLabelled devices sizes image n × ((found : Found) × IsFound devices (image n) found held)
 
 record View (devices : ℕ) (sizes : List ℕ) (image : Image) (n : ℕ) : Type 0 where
   pub cell : Option Held
@@ -106,7 +106,7 @@ module _ (devices : ℕ) (sizes : List ℕ) (image : Image) (a b c : Option Held
   }
 
   -- a cell that can be read, of a replica that is labelled, is seen
-  there : (n : ℕ) (found : Found) (held : Held) → IsLabelled devices sizes image n → IsFound devices (image n) found held → (k : Held) × (three a b c n ≡ Some k)
+  there : (n : ℕ) (found : Found) (held : Held) → IsReplicaLabelled devices sizes image n → IsFound devices (image n) found held → (k : Held) × (three a b c n ≡ Some k)
   unfolding IsView
   there n found held label is = by (three a b c n) refl
     where
@@ -128,7 +128,7 @@ module _ (devices : ℕ) (sizes : List ℕ) (image : Image) (a b c : Option Held
 
 -- ---- an image of a register
 
-some_read : (v : Voters) (sizes : List ℕ) (image : Image) (n m : ℕ) (was : ℕ → Option Held) → Shows v.first v.origins was sizes image → HasBegun v.first v.origins was → n ≢ m → IsLabelled (devices_of v) sizes image n → IsLabelled (devices_of v) sizes image m → (s : GlobalState) × ReadsState v.first sizes image s
+some_read : (v : Voters) (sizes : List ℕ) (image : Image) (n m : ℕ) (was : ℕ → Option Held) → Shows v.first v.origins was sizes image → HasBegun v.first v.origins was → n ≢ m → IsReplicaLabelled (devices_of v) sizes image n → IsReplicaLabelled (devices_of v) sizes image m → (s : GlobalState) × ReadsState v.first sizes image s
 some_read v sizes image n m was shown begun apart label label_m = by begun
   where
     devices : ℕ
@@ -146,7 +146,7 @@ some_read v sizes image n m was shown begun apart label label_m = by begun
     c : View devices sizes image 2
     c = view 2 (omega arith)
 
-    with : (k l : ℕ) (f g : Found) (one other : Held) → k ≢ l → IsLabelled devices sizes image k → IsLabelled devices sizes image l → IsFound devices (image k) f one → IsFound devices (image l) g other → (s : GlobalState) × ReadsState v.first sizes image s
+    with : (k l : ℕ) (f g : Found) (one other : Held) → k ≢ l → IsReplicaLabelled devices sizes image k → IsReplicaLabelled devices sizes image l → IsFound devices (image k) f one → IsFound devices (image l) g other → (s : GlobalState) × ReadsState v.first sizes image s
     with k l f g one other differ has has_l is is_l =
         let x = there devices sizes image a.cell b.cell c.cell a.is b.is c.is k f one has is in
         let y = there devices sizes image a.cell b.cell c.cell a.is b.is c.is l g other has_l is_l in
@@ -163,11 +163,11 @@ some_read v sizes image n m was shown begun apart label label_m = by begun
         let y = of t.two.other t.is_other (v.origins found.tells.other) refl (shown.each found.tells.other t.two.other) in
         with found.tells.one found.tells.other x.0 y.0 x.1 y.1 t.two.differ x.2 y.2 x.3 y.3
       where
-        of : {k : ℕ} {h : Held} → k < 3 → was k ≡ Some h → (o : Origin) → v.origins k ≡ o → ShowsOne devices o (was k) sizes image k → (f : Found) × (held : Held) × IsLabelled devices sizes image k × IsFound devices (image k) f held
+        of : {k : ℕ} {h : Held} → k < 3 → was k ≡ Some h → (o : Origin) → v.origins k ≡ o → ShowsOne devices o (was k) sizes image k → (f : Found) × (held : Held) × IsReplicaLabelled devices sizes image k × IsFound devices (image k) f held
         of {k} {h} less e Made at shows = absurd (found.none_made k less at)
         of {k} {h} less e (FoundAs number) at shows = (shows.2.found, shows.2.held, shows.2.label, shows.2.is)
         of {k} {h} less e Apart at shows = absurd (none_some h (sym shows.0 ∙ e))
 
 -- an image that has all that is sure
-pub reads_some : (v : Voters) (x : Disks) (past : RegisterPast) (image : Image) (n m : ℕ) → Fits v x past → HasAllSure x image → n ≢ m → IsLabelled (devices_of v) x.sizes image n → IsLabelled (devices_of v) x.sizes image m → (s : GlobalState) × ReadsState v.first x.sizes image s
+pub reads_some : (v : Voters) (x : Disks) (past : RegisterPast) (image : Image) (n m : ℕ) → Fits v x past → HasAllSure x image → n ≢ m → IsReplicaLabelled (devices_of v) x.sizes image n → IsReplicaLabelled (devices_of v) x.sizes image m → (s : GlobalState) × ReadsState v.first x.sizes image s
 reads_some v x past image n m f sure apart label label_m = some_read v x.sizes image n m f.was (f.shown.each image sure) f.begun apart label label_m

@@ -7,7 +7,7 @@ use Rattle.bx_agreement.specs.History.{AreTwo}
 use Rattle.bx_cell.specs.Halves.{Found}
 use Rattle.bx_disk.specs.Disks.{Image}
 use Rattle.bx_facts.specs.Chains.{most_boot}
-use Rattle.bx_facts.specs.Labelled.{IsLabelled}
+use Rattle.bx_facts.specs.Labelled.{IsReplicaLabelled}
 use Rattle.bx_global.specs.declared.held.Held.{Held}
 use Rattle.bx_global.specs.declared.state.GlobalState.{GlobalState}
 use Rattle.bx_paxos.specs.Reading.{ReadsState}
@@ -20,7 +20,7 @@ use Rattle.bx_paxos_found.specs.Choosing.{chosen_of}
 -- this is seen of a replica: nothing, where its disk isn't read; else what its cell has, and under which number
 abbrev pub IsSeen : ℕ → List ℕ → Image → ℕ → Option Seen → Type 0
 IsSeen devices sizes image n None = IsUnread devices sizes image n
-IsSeen devices sizes image n (Some x) = IsLabelled devices sizes image n × ((found : Found) × (found.number ≡ x.number) × IsFound devices (image n) found x.held)
+IsSeen devices sizes image n (Some x) = IsReplicaLabelled devices sizes image n × ((found : Found) × (found.number ≡ x.number) × IsFound devices (image n) found x.held)
 
 -- what a cell has, how it came to be, its greatest boot, and that it counts
 abbrev pub held_of : Option Seen → Option Held
@@ -66,7 +66,7 @@ pub record IsSpentAt (a b c : Option Seen) (boot : ℕ) : Type 0 where
 
 -- The replica is labelled, and its disk has a cell that can be read, which has this.
 abbrev pub Counts : ℕ → List ℕ → Image → ℕ → Held → Type 0
-Counts devices sizes image n held = IsLabelled devices sizes image n × ((found : Found) × IsFound devices (image n) found held)
+Counts devices sizes image n held = IsReplicaLabelled devices sizes image n × ((found : Found) × IsFound devices (image n) found held)
 
 -- Two replicas aren't labelled, or have no cell that can be read.
 pub record LackMajority (devices : ℕ) (sizes : List ℕ) (image : Image) : Type 0 where

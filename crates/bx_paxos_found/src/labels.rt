@@ -2,7 +2,7 @@
 
 ghost use Rattle.std.specs.Prelude.{◌≡◌, ℕ, ◌<◌, ◌≤◌, ◌↔◌, IfNone, IfOk, IfSome, IsTrue, slice_index};
 ghost use Rattle.bx_disk.specs.Kept.{Faults, FaultsOn};
-ghost use Rattle.bx_facts.specs.Labelled.{IsFirstLabel, IsLabelled, IsOwnLabel, IsWhole, label_on};
+ghost use Rattle.bx_facts.specs.Labelled.{IsFirstLabel, IsReplicaLabelled, IsOwnLabel, IsWhole, label_on};
 ghost use Rattle.bx_layout.specs.Labels.{SpellsLabel};
 ghost use Rattle.bx_layout.specs.declared.label.Label.{Label};
 
@@ -60,7 +60,7 @@ fn first_label<R: Rack>(rack: &mut R) -> Result<Option<Label>, DiskFault>
 /// The first label, if its volume has so many devices. `None` exactly where no replica is labelled for as many.
 pub(crate) fn volume_label<R: Rack>(rack: &mut R, devices: u32) -> Result<Option<Label>, DiskFault>
     ensures some { R.tells rack.old → IfOk result (λ found. IfSome found (λ first. IsFirstLabel (R.state rack.old).sizes (R.state rack.old).reads first × (first.devices ≡ devices))) }
-    ensures none { R.tells rack.old → IfOk result (λ found. IfNone found ((n : ℕ) → IsLabelled devices (R.state rack.old).sizes (R.state rack.old).reads n → ⊥)) }
+    ensures none { R.tells rack.old → IfOk result (λ found. IfNone found ((n : ℕ) → IsReplicaLabelled devices (R.state rack.old).sizes (R.state rack.old).reads n → ⊥)) }
     ensures stays { R.state rack.new ≡ R.state rack.old }
     ensures rack { Faults R.Rack rack.old rack.new result }
 {

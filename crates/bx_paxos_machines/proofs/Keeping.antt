@@ -3,7 +3,7 @@ use Rattle.std.proofs.Common.{◌≡◌, ◌≢◌, ℕ, ◌+◌, ◌<◌, ◌�
 use Rattle.std.specs.Prelude.{IsSomeAnd, nat_le, nat_lt, if◌then◌else◌, slice_index}
 use Rattle.std.proofs.lemmas.Bool.{false≢true}
 use Rattle.std.proofs.lemmas.Bool.Decides.{eqb_tells, nat_tests}
-use Rattle.bx_acceptor.specs.Standing.{HasCell, IsCellOf, IsStanding as IsAcceptor, Standing as Acceptor}
+use Rattle.bx_acceptor.specs.Standing.{HasCell, IsCellOf, IsAcceptorView as IsAcceptor, AcceptorView as Acceptor}
 use Rattle.bx_base.specs.declared.names.Actor.{Actor}
 use Rattle.bx_base.specs.declared.names.Actor.TheVariants.{Node, Replica, Server, Member}
 use Rattle.bx_cell.proofs.Words.{cell_sectors}

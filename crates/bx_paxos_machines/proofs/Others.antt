@@ -15,7 +15,7 @@ use Rattle.bx_post.specs.declared.packets.Letter.{Letter}
 use Rattle.bx_proposer.specs.Letters.{asks_of}
 use Rattle.bx_proposer.specs.Names.{number_of}
 use Rattle.bx_rounds.specs.Courses.{started}
-use Rattle.bx_proposer.specs.Standing.{IsStanding as IsProposer, Standing as Proposer, going_on}
+use Rattle.bx_proposer.specs.Standing.{IsProposerView as IsProposer, ProposerView as Proposer, going_on}
 use Rattle.bx_rounds.specs.declared.course.Course.{Course}
 use Rattle.bx_paxos.proofs.Replicas.{leaves_none}
 use Rattle.bx_paxos.proofs.Starts.{restarted}

@@ -2,7 +2,7 @@
 use Rattle.std.proofs.lemmas.Bool.{cases_lt, false≢true}
 use Rattle.std.proofs.Common.{◌≡◌, ◌≢◌, ℕ, ◌<◌, ◌≤◌, true, false, List, length, Option, Some, None, IfSome, refl, sym, ap, subst, ◌∙◌, arith, inl, inr}
 use Rattle.std.specs.Prelude.{IsSome, IsSomeAnd, slice_index_or, slice_set}
-use Rattle.bx_acceptor.specs.Standing.{HasCell, Standing as Acceptor}
+use Rattle.bx_acceptor.specs.Standing.{HasCell, AcceptorView as Acceptor}
 use Rattle.bx_base.specs.declared.names.Actor.{Actor}
 use Rattle.bx_base.specs.declared.names.Actor.TheVariants.{Replica}
 use Rattle.bx_cell.specs.Images.{EachSure}

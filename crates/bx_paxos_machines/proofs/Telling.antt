@@ -8,7 +8,7 @@ use Rattle.bx_disk.specs.Disks.{Disks, Image, IsImage}
 use Rattle.bx_facts.specs.Chains.{IsNext, IsPlace, last}
 use Rattle.bx_facts.specs.Disks.{Crashes, ReadsOnly, SameLabels, SameLengths, SameReplicas}
 use Rattle.bx_facts.specs.Inputs.{AreAmong, IsRegisters}
-use Rattle.bx_facts.specs.Labelled.{IsLabelled}
+use Rattle.bx_facts.specs.Labelled.{IsReplicaLabelled}
 use Rattle.bx_facts.specs.Machines.{IsMachine}
 use Rattle.bx_facts.specs.Pasts.{RegisterPast}
 use Rattle.bx_global.specs.declared.state.GlobalState.{GlobalState}
@@ -47,9 +47,9 @@ read_alike one other sizes image s same read = record { seen = read.seen; are = 
 pub reads_on : (g : Cluster) (x : Disks) (past : RegisterPast) (image : Image) (s : GlobalState) → Keeps g x past → IsImage x image → ReadsState g.made x.sizes image s → IsNext past.proposed (last past.chain) s
 reads_on g x past image s keeps is read = reads (voters_of g) x past image s keeps.fits (record { sure = is.sure }) (read_alike g.made g.first x.sizes image s (sym keeps.is.devices) read)
 
-pub some_on : (g : Cluster) (x : Disks) (past : RegisterPast) (image : Image) (n m : ℕ) → Keeps g x past → IsImage x image → n ≢ m → IsLabelled (length g.made.devices) x.sizes image n → IsLabelled (length g.made.devices) x.sizes image m → (s : GlobalState) × ReadsState g.made x.sizes image s
+pub some_on : (g : Cluster) (x : Disks) (past : RegisterPast) (image : Image) (n m : ℕ) → Keeps g x past → IsImage x image → n ≢ m → IsReplicaLabelled (length g.made.devices) x.sizes image n → IsReplicaLabelled (length g.made.devices) x.sizes image m → (s : GlobalState) × ReadsState g.made x.sizes image s
 some_on g x past image n m keeps is apart label label_m =
-    let at = λ (k : ℕ) (l : IsLabelled (length g.made.devices) x.sizes image k). subst (λ (d : ℕ). IsLabelled d x.sizes image k) (sym keeps.is.devices) l in
+    let at = λ (k : ℕ) (l : IsReplicaLabelled (length g.made.devices) x.sizes image k). subst (λ (d : ℕ). IsReplicaLabelled d x.sizes image k) (sym keeps.is.devices) l in
     let k = reads_some (voters_of g) x past image n m keeps.fits (record { sure = is.sure }) apart (at n label) (at m label_m) in
     (k.0, read_alike g.first g.made x.sizes image k.0 keeps.is.devices k.1)
 

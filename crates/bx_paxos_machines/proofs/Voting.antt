@@ -8,7 +8,7 @@ use Rattle.bx_facts.specs.Machines.{IsMachine}
 use Rattle.bx_global.specs.declared.state.GlobalState.{GlobalState}
 use Rattle.bx_paxos.specs.Fits.{Turned}
 use Rattle.bx_proposer.specs.Names.{number_of}
-use Rattle.bx_proposer.specs.Standing.{IsStanding as IsProposer}
+use Rattle.bx_proposer.specs.Standing.{IsProposerView as IsProposer}
 use Rattle.bx_paxos_machines.specs.declared.machine.Machine.{Machine}
 use Rattle.bx_paxos_machines.specs.declared.machine.Machine.TheVariants.{Replica as IsReplica, Other}
 use Rattle.bx_paxos_machines.specs.Cluster.{Cluster, IsCluster, course_at, named, voters_of}

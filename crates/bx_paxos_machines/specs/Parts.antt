@@ -1,6 +1,6 @@
 -- The machines of a register: what each has, and what is said of it among voters and over disks.
 use Rattle.std.specs.Prelude.{◌≡◌, ℕ, ◌+◌, ◌≤◌, List, [], ◌∷◌, ◌++◌, Option, Some, None, IfSome, IsSome, if◌then◌else◌, slice_index}
-use Rattle.bx_acceptor.specs.Standing.{HasCell, Standing as Acceptor}
+use Rattle.bx_acceptor.specs.Standing.{HasCell, AcceptorView as Acceptor}
 use Rattle.bx_base.specs.declared.names.Actor.{Actor}
 use Rattle.bx_cell.specs.Cells.{Known}
 use Rattle.bx_cell.specs.Images.{EachSure}
@@ -15,7 +15,7 @@ use Rattle.bx_places.specs.Places.{replica_sectors}
 use Rattle.bx_post.specs.declared.packets.Letter.{Letter}
 use Rattle.bx_rounds.specs.Courses.{started}
 use Rattle.bx_proposer.specs.Letters.{asks_of}
-use Rattle.bx_proposer.specs.Standing.{IsStanding as IsProposer, Standing as Proposer, Takes, going_on}
+use Rattle.bx_proposer.specs.Standing.{IsProposerView as IsProposer, ProposerView as Proposer, Takes, going_on}
 use Rattle.bx_rounds.specs.declared.course.Course.{Course}
 use Rattle.bx_paxos_found.specs.Origins.{origin_in}
 use Rattle.bx_paxos_found.specs.declared.origins.Origins.{Origins}

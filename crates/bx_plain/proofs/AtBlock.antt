@@ -3,7 +3,7 @@ use Rattle.std.proofs.Common.{◌≡◌, ◌≢◌, inl, inr, ℕ, ◌==◌, Boo
 use Rattle.std.proofs.lemmas.Bool.Decides.{nat_tests}
 use Rattle.bx_base.specs.declared.names.Mode.{Mode}
 use Rattle.bx_plain.specs.declared.rows.Row.{Row}
-use Rattle.bx_plain.specs.Rows.{AllLet, floor_in, is_row, row_in, rows_at}
+use Rattle.bx_plain.specs.Rows.{AllLet, floor_in, is_row, lock_row, rows_at}
 use Rattle.bx_plain.specs.Tables.{AreOf}
 use Rattle.bx_plain.proofs.Puts.{not_row}
 
@@ -20,15 +20,15 @@ own_at block (row ∷ rows) = (elim (row.block == block) as (λ b. (row.block ==
   | false ↦ λ other. rw other (own_at block rows)
 ]) refl
 
-pub row_at : (rows : List Row) (session block : ℕ) → row_in (rows_at block rows) session block ≡ row_in rows session block
+pub row_at : (rows : List Row) (session block : ℕ) → lock_row (rows_at block rows) session block ≡ lock_row rows session block
 row_at [] session block = refl
 row_at (row ∷ rows) session block = by_test (row.block == block) refl (row_at rows session block)
   where
-    by_test : (b : Bool) → (row.block == block) ≡ b → row_in (rows_at block rows) session block ≡ row_in rows session block → row_in (rows_at block (row ∷ rows)) session block ≡ row_in (row ∷ rows) session block
-    by_test true its more = ap (λ (xs : List Row). row_in xs session block) (first_at block row rows true its) ∙ ap (λ (r : Row). if is_row session block row then row else r) more
+    by_test : (b : Bool) → (row.block == block) ≡ b → lock_row (rows_at block rows) session block ≡ lock_row rows session block → lock_row (rows_at block (row ∷ rows)) session block ≡ lock_row (row ∷ rows) session block
+    by_test true its more = ap (λ (xs : List Row). lock_row xs session block) (first_at block row rows true its) ∙ ap (λ (r : Row). if is_row session block row then row else r) more
     by_test false other more =
         let no = not_row session block row (inr (differs block row other)) in
-        ap (λ (xs : List Row). row_in xs session block) (first_at block row rows false other) ∙ more ∙ sym (ap (λ t. if t then row else row_in rows session block) no)
+        ap (λ (xs : List Row). lock_row xs session block) (first_at block row rows false other) ∙ more ∙ sym (ap (λ t. if t then row else lock_row rows session block) no)
 
 pub floor_at : (rows : List Row) (block : ℕ) → floor_in (rows_at block rows) block ≡ floor_in rows block
 floor_at [] block = refl

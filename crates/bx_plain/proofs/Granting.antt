@@ -7,7 +7,7 @@ use Rattle.bx_facts.specs.Holds.{Hold, Holds, hold_of}
 use Rattle.bx_plain.specs.declared.rows.Row.{Row}
 use Rattle.bx_plain.specs.Fits.{own_in}
 use Rattle.bx_plain.specs.Grants.{Grants, IsAlike, IsAnswered, IsGone, IsGranted, IsLeft, NoneLeft, Passes}
-use Rattle.bx_plain.specs.Rows.{AllLet, Lets, floor_in, hold_in, is_row, row_in, rows_at, sessions_at, want_in, with_row}
+use Rattle.bx_plain.specs.Rows.{AllLet, Lets, floor_in, hold_in, is_row, lock_row, rows_at, sessions_at, want_in, with_row}
 use Rattle.bx_plain.proofs.Puts.{held_beside, not_row, row_is}
 use Rattle.bx_plain.proofs.Stands.{asked, decide, grant_floors, granted}
 use Rattle.bx_plain.proofs.Wants.{held_as, hold_of_new, its_block, its_session, not_held, not_wanted, want_beside, want_of_new, wanted_as, was_true}
@@ -15,7 +15,7 @@ use Rattle.bx_plain.proofs.Wants.{held_as, hold_of_new, its_block, its_session, 
 -- ---- what others hold
 
 -- where a row is put in the place of one that let a session hold a block where it does, what lets the session hold it let it before
-pub lets_put : (rows : List Row) (new : Row) (session block : ℕ) (mode : Mode) → (Lets session block mode new → Lets session block mode (row_in rows new.session new.block)) → AllLet session block mode (with_row rows new) → AllLet session block mode rows
+pub lets_put : (rows : List Row) (new : Row) (session block : ℕ) (mode : Mode) → (Lets session block mode new → Lets session block mode (lock_row rows new.session new.block)) → AllLet session block mode (with_row rows new) → AllLet session block mode rows
 lets_put [] new session block mode free lets = tt
 lets_put (row ∷ rows) new session block mode free lets = (elim (is_row new.session new.block row) as (λ b. is_row new.session new.block row ≡ b → AllLet session block mode (row ∷ rows)) [
   | true ↦ λ t. (
@@ -30,7 +30,7 @@ lets_put (row ∷ rows) new session block mode free lets = (elim (is_row new.ses
 
 -- ---- a want is granted
 
-module _ (rows : List Row) (session block index : ℕ) (row : Row) (its : row ≡ row_in rows session block) (free : AllLet session block row.mode rows) (unheld : row.is_held ≡ false) (is : index ≡ floor_in rows block) (wanted : row.is_wanted ≡ true) where
+module _ (rows : List Row) (session block index : ℕ) (row : Row) (its : row ≡ lock_row rows session block) (free : AllLet session block row.mode rows) (unheld : row.is_held ≡ false) (is : index ≡ floor_in rows block) (wanted : row.is_wanted ≡ true) where
   abbrev put : Row
   put = granted rows session block index row its free unheld is
 
@@ -40,10 +40,10 @@ module _ (rows : List Row) (session block index : ℕ) (row : Row) (its : row �
   key : (put.session ≡ session) × (put.block ≡ block)
   key = (its_session rows session block row its, its_block rows session block row its)
 
-  its_row : row_in rows put.session put.block ≡ row
+  its_row : lock_row rows put.session put.block ≡ row
   its_row =
-      let P : ℕ → Type 0 = λ n. row_in rows n put.block ≡ row in
-      let Q : ℕ → Type 0 = λ n. row_in rows session n ≡ row in
+      let P : ℕ → Type 0 = λ n. lock_row rows n put.block ≡ row in
+      let Q : ℕ → Type 0 = λ n. lock_row rows session n ≡ row in
       subst P (sym key.0) (subst Q (sym key.1) (sym its))
 
   -- what the granted row lets another session have, the row let it have that waited
@@ -95,13 +95,13 @@ was_false false is = refl
 was_false true is = absurd cc
 
 -- a want that isn't one, or that isn't free, isn't left
-pub none_wanted : (rows : List Row) (session block : ℕ) (row : Row) → row ≡ row_in rows session block → row.is_wanted ≡ false → IsLeft rows session block → ⊥
+pub none_wanted : (rows : List Row) (session block : ℕ) (row : Row) → row ≡ lock_row rows session block → row.is_wanted ≡ false → IsLeft rows session block → ⊥
 none_wanted rows session block row its idle left = let h = sym (not_wanted rows session block row its idle) ∙ left.wanted in absurd cc
 
-pub none_unheld : (rows : List Row) (session block : ℕ) (row : Row) → row ≡ row_in rows session block → row.is_held ≡ true → IsLeft rows session block → ⊥
+pub none_unheld : (rows : List Row) (session block : ℕ) (row : Row) → row ≡ lock_row rows session block → row.is_held ≡ true → IsLeft rows session block → ⊥
 none_unheld rows session block row its held left = let h = held_as rows session block row its held ∙ left.not_held in absurd cc
 
-pub none_free : (rows : List Row) (session block : ℕ) (row : Row) → row ≡ row_in rows session block → (not row.is_wanted) ≡ false → (AllLet session block row.mode rows → ⊥) → IsLeft rows session block → ⊥
+pub none_free : (rows : List Row) (session block : ℕ) (row : Row) → row ≡ lock_row rows session block → (not row.is_wanted) ≡ false → (AllLet session block row.mode rows → ⊥) → IsLeft rows session block → ⊥
 none_free rows session block row its wanted blocked left =
     let is : row.is_wanted ≡ true = was_true row.is_wanted wanted in
     let mode_is : left.mode ≡ row.mode = (let h = sym left.wanted ∙ sym (wanted_as rows session block row its is) in cc) in
@@ -198,7 +198,7 @@ all_places block rows new count session none long passes left =
 
 -- ---- a want is put
 
-module _ (rows : List Row) (session block index : ℕ) (mode : Mode) (row : Row) (free : Bool) (its : row ≡ row_in rows session block) (is : index ≡ floor_in rows block) (may : free ≡ true → AllLet session block mode rows) (must : AllLet session block mode rows → free ≡ true) where
+module _ (rows : List Row) (session block index : ℕ) (mode : Mode) (row : Row) (free : Bool) (its : row ≡ lock_row rows session block) (is : index ≡ floor_in rows block) (may : free ≡ true → AllLet session block mode rows) (must : AllLet session block mode rows → free ≡ true) where
   abbrev pub want : Row
   want = asked rows session block index mode row free (not free) its is may
 
@@ -219,7 +219,7 @@ module _ (rows : List Row) (session block index : ℕ) (mode : Mode) (row : Row)
       )
 
 -- what others hold and want stays where a row is put
-pub alike_beside : (rows : List Row) (session block : ℕ) (row : Row) → row ≡ row_in rows session block → (new : Row) → new.session ≡ row.session → new.block ≡ row.block → (other at : ℕ) → (other ≢ session) ⊎ (at ≢ block) → IsAlike rows (with_row rows new) other at
+pub alike_beside : (rows : List Row) (session block : ℕ) (row : Row) → row ≡ lock_row rows session block → (new : Row) → new.session ≡ row.session → new.block ≡ row.block → (other at : ℕ) → (other ≢ session) ⊎ (at ≢ block) → IsAlike rows (with_row rows new) other at
 alike_beside rows session block row its new same_session same_block other at apart =
     let unlike : is_row other at new ≡ false = not_row other at new (⊎_elim
     (λ one. inl (λ same. one (sym same ∙ same_session ∙ its_session rows session block row its)))

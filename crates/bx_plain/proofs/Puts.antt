@@ -7,7 +7,7 @@ use Rattle.bx_base.specs.declared.names.Mode.TheVariants.{Shared}
 use Rattle.bx_facts.specs.Holds.{Hold}
 use Rattle.bx_plain.specs.declared.rows.Row.{Row}
 use Rattle.bx_plain.specs.Tables.{AreOf}
-use Rattle.bx_plain.specs.Rows.{is_row, hold_of_row, hold_in, place_in, floor_in, row_in, with_row, AllLet, Lets}
+use Rattle.bx_plain.specs.Rows.{is_row, hold_of_row, hold_in, place_in, floor_in, lock_row, with_row, AllLet, Lets}
 
 mapped : (o : Option ℕ) (p : ℕ) → option_map suc o ≡ Some p → (q : ℕ) × (o ≡ Some q) × (suc q ≡ p)
 mapped None p e = absurd cc
@@ -102,14 +102,14 @@ lets (row ∷ rows) session other block mode hold all ne held = (elim (is_row ot
 
 -- ---- floors
 
-pub keys_of_row : (rows : List Row) (session block : ℕ) → ((row_in rows session block).session ≡ session) × ((row_in rows session block).block ≡ block)
+pub keys_of_row : (rows : List Row) (session block : ℕ) → ((lock_row rows session block).session ≡ session) × ((lock_row rows session block).block ≡ block)
 keys_of_row [] session block = (refl, refl)
-keys_of_row (row ∷ rows) session block = (elim (is_row session block row) as (λ b. is_row session block row ≡ b → ((row_in (row ∷ rows) session block).session ≡ session) × ((row_in (row ∷ rows) session block).block ≡ block)) [
+keys_of_row (row ∷ rows) session block = (elim (is_row session block row) as (λ b. is_row session block row ≡ b → ((lock_row (row ∷ rows) session block).session ≡ session) × ((lock_row (row ∷ rows) session block).block ≡ block)) [
   | true ↦ λ t. let e = row_is session block row t in rw t e
   | false ↦ λ t. rw t (keys_of_row rows session block)
 ]) refl
 
-pub floor_rises : (rows : List Row) (new : Row) (block : ℕ) → (row_in rows new.session new.block).given ≤ new.given → floor_in rows block ≤ floor_in (with_row rows new) block
+pub floor_rises : (rows : List Row) (new : Row) (block : ℕ) → (lock_row rows new.session new.block).given ≤ new.given → floor_in rows block ≤ floor_in (with_row rows new) block
 floor_rises [] new block le = omega arith
 floor_rises (row ∷ rows) new block le = (elim (is_row new.session new.block row) as (λ b. is_row new.session new.block row ≡ b → floor_in (row ∷ rows) block ≤ floor_in (with_row (row ∷ rows) new) block) [
   | true ↦ λ t. let e = row_is new.session new.block row t in let less = rw t at le in rw (t, e.1) (by_test (eqb new.block block) less)
@@ -123,14 +123,14 @@ floor_rises (row ∷ rows) new block le = (elim (is_row new.session new.block ro
     by_test true less = omega (arith, less)
     by_test false less = omega arith
 
-row_floor : (rows : List Row) (session block : ℕ) → (row_in rows session block).given ≤ floor_in rows block
+row_floor : (rows : List Row) (session block : ℕ) → (lock_row rows session block).given ≤ floor_in rows block
 row_floor [] session block = omega arith
-row_floor (row ∷ rows) session block = (elim (is_row session block row) as (λ b. is_row session block row ≡ b → (row_in (row ∷ rows) session block).given ≤ floor_in (row ∷ rows) block) [
+row_floor (row ∷ rows) session block = (elim (is_row session block row) as (λ b. is_row session block row ≡ b → (lock_row (row ∷ rows) session block).given ≤ floor_in (row ∷ rows) block) [
   | true ↦ λ t. let e : eqb row.block block ≡ true = let its = (row_is session block row t).1 in grind (arith, nat_tests, its) in rw (t, e) (omega arith)
   | false ↦ λ t. let more = row_floor rows session block in rw t (omega (arith, more))
 ]) refl
 
-given_floor : (rows : List Row) (new : Row) (block : ℕ) → new.given ≤ (row_in rows new.session new.block).given → cond (eqb new.block block) new.given 0 ≤ floor_in rows block
+given_floor : (rows : List Row) (new : Row) (block : ℕ) → new.given ≤ (lock_row rows new.session new.block).given → cond (eqb new.block block) new.given 0 ≤ floor_in rows block
 given_floor rows new block le = by_test (eqb new.block block) refl
   where
     by_test : (b : Bool) → eqb new.block block ≡ b → cond b new.given 0 ≤ floor_in rows block
@@ -140,7 +140,7 @@ given_floor rows new block le = by_test (eqb new.block block) refl
         subst (λ (n : ℕ). new.given ≤ floor_in rows n) same (omega (arith, le, more))
     by_test false apart = omega arith
 
-pub floor_falls : (rows : List Row) (new : Row) (block : ℕ) → new.given ≤ (row_in rows new.session new.block).given → floor_in (with_row rows new) block ≤ floor_in rows block
+pub floor_falls : (rows : List Row) (new : Row) (block : ℕ) → new.given ≤ (lock_row rows new.session new.block).given → floor_in (with_row rows new) block ≤ floor_in rows block
 floor_falls [] new block le = by_test (eqb new.block block) le
   where
     by_test : (b : Bool) → new.given ≤ 0 → max (cond b new.given 0) 0 ≤ 0

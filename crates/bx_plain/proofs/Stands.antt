@@ -5,7 +5,7 @@ use Rattle.bx_base.specs.declared.names.Mode.{Mode}
 use Rattle.bx_base.specs.declared.names.Mode.TheVariants.{Shared, Exclusive}
 use Rattle.bx_facts.specs.Holds.{Hold, Holds, KeepsHolds, KeepsOthers}
 use Rattle.bx_plain.specs.declared.rows.Row.{Row}
-use Rattle.bx_plain.specs.Rows.{is_row, hold_of_row, hold_in, want_in, want_of_row, floor_in, row_in, with_row, AllLet}
+use Rattle.bx_plain.specs.Rows.{is_row, hold_of_row, hold_in, want_in, want_of_row, floor_in, lock_row, with_row, AllLet}
 use Rattle.bx_plain.specs.Fits.{RowsStand}
 use Rattle.bx_plain.proofs.Puts.{row_is, is_its_own, not_row, keys_of_row, held_here, held_beside, lets, floor_rises, floor_falls, floor_has, floor_beside}
 
@@ -18,9 +18,9 @@ held_row row hold e = by_test (row.is_held) refl
     by_test false held = let h = rw held at e in absurd cc
 
 -- what a session holds is what its row does
-pub hold_of_its : (rows : List Row) (session block : ℕ) → hold_in rows session block ≡ hold_of_row (row_in rows session block)
+pub hold_of_its : (rows : List Row) (session block : ℕ) → hold_in rows session block ≡ hold_of_row (lock_row rows session block)
 hold_of_its [] session block = refl
-hold_of_its (row ∷ rows) session block = (elim (is_row session block row) as (λ b. is_row session block row ≡ b → hold_in (row ∷ rows) session block ≡ hold_of_row (row_in (row ∷ rows) session block)) [
+hold_of_its (row ∷ rows) session block = (elim (is_row session block row) as (λ b. is_row session block row ≡ b → hold_in (row ∷ rows) session block ≡ hold_of_row (lock_row (row ∷ rows) session block)) [
   | true ↦ λ t. rw t refl
   | false ↦ λ t. rw (t, hold_of_its rows session block) refl
 ]) refl
@@ -70,15 +70,15 @@ module _ (rows : List Row) (new : Row) (stand : RowsStand rows)
       reached s block hold (inr mine) = let a = floor_stays s block hold mine.0 mine.1 in let b = stand.reaches s block hold mine.1 in omega (arith, a, b)
 
 -- what a session wants and may hold is granted
-module _ (rows : List Row) (session block index : ℕ) (row : Row) (its : row ≡ row_in rows session block) (free : AllLet session block row.mode rows) (not_held : row.is_held ≡ false) (is : index ≡ floor_in rows block) where
+module _ (rows : List Row) (session block index : ℕ) (row : Row) (its : row ≡ lock_row rows session block) (free : AllLet session block row.mode rows) (not_held : row.is_held ≡ false) (is : index ≡ floor_in rows block) where
   abbrev pub granted : Row
   granted = record row { index = index; is_held = true; is_wanted = false }
 
   keys : (row.session ≡ session) × (row.block ≡ block)
   keys = subst (λ (r : Row). (r.session ≡ session) × (r.block ≡ block)) (sym its) (keys_of_row rows session block)
 
-  same_given : (row_in rows row.session row.block).given ≡ row.given
-  same_given = subst (λ (n : ℕ). (row_in rows n row.block).given ≡ row.given) (sym keys.0) (subst (λ (n : ℕ). (row_in rows session n).given ≡ row.given) (sym keys.1) (ap (λ (r : Row). r.given) (sym its)))
+  same_given : (lock_row rows row.session row.block).given ≡ row.given
+  same_given = subst (λ (n : ℕ). (lock_row rows n row.block).given ≡ row.given) (sym keys.0) (subst (λ (n : ℕ). (lock_row rows session n).given ≡ row.given) (sym keys.1) (ap (λ (r : Row). r.given) (sym its)))
 
   pub grant_floors : (at : ℕ) → floor_in (with_row rows granted) at ≡ floor_in rows at
   grant_floors at =
@@ -120,15 +120,15 @@ others_stay rows new = record {
 }
 
 -- a want is put, and granted where it may be
-module _ (rows : List Row) (session block index : ℕ) (mode : Mode) (row : Row) (free wanted : Bool) (its : row ≡ row_in rows session block) (is : index ≡ floor_in rows block) (may : free ≡ true → AllLet session block mode rows) where
+module _ (rows : List Row) (session block index : ℕ) (mode : Mode) (row : Row) (free wanted : Bool) (its : row ≡ lock_row rows session block) (is : index ≡ floor_in rows block) (may : free ≡ true → AllLet session block mode rows) where
   abbrev pub asked : Row
   asked = record row { mode = mode; index = index; is_held = free; is_wanted = wanted }
 
   want_keys : (row.session ≡ session) × (row.block ≡ block)
   want_keys = subst (λ (r : Row). (r.session ≡ session) × (r.block ≡ block)) (sym its) (keys_of_row rows session block)
 
-  want_given : (row_in rows row.session row.block).given ≡ row.given
-  want_given = subst (λ (n : ℕ). (row_in rows n row.block).given ≡ row.given) (sym want_keys.0) (subst (λ (n : ℕ). (row_in rows session n).given ≡ row.given) (sym want_keys.1) (ap (λ (r : Row). r.given) (sym its)))
+  want_given : (lock_row rows row.session row.block).given ≡ row.given
+  want_given = subst (λ (n : ℕ). (lock_row rows n row.block).given ≡ row.given) (sym want_keys.0) (subst (λ (n : ℕ). (lock_row rows session n).given ≡ row.given) (sym want_keys.1) (ap (λ (r : Row). r.given) (sym its)))
 
   pub want_floors : (at : ℕ) → floor_in (with_row rows asked) at ≡ floor_in rows at
   want_floors at =
@@ -147,15 +147,15 @@ module _ (rows : List Row) (session block index : ℕ) (mode : Mode) (row : Row)
       (subst (λ (b : ℕ). KeepsOthers row.session b (hold_in rows) (hold_in (with_row rows asked))) want_keys.1 (others_stay rows asked))
 
 -- a block is given up
-module _ (rows : List Row) (session block given : ℕ) (row : Row) (its : row ≡ row_in rows session block) (held : row.is_held ≡ true) (more : row.given ≤ given) (shared : row.mode ≡ Shared → given ≡ row.given) where
+module _ (rows : List Row) (session block given : ℕ) (row : Row) (its : row ≡ lock_row rows session block) (held : row.is_held ≡ true) (more : row.given ≤ given) (shared : row.mode ≡ Shared → given ≡ row.given) where
   abbrev pub let_go : Row
   let_go = record row { is_held = false; is_wanted = false; given = given }
 
   go_keys : (row.session ≡ session) × (row.block ≡ block)
   go_keys = subst (λ (r : Row). (r.session ≡ session) × (r.block ≡ block)) (sym its) (keys_of_row rows session block)
 
-  go_given : (row_in rows row.session row.block).given ≡ row.given
-  go_given = subst (λ (n : ℕ). (row_in rows n row.block).given ≡ row.given) (sym go_keys.0) (subst (λ (n : ℕ). (row_in rows session n).given ≡ row.given) (sym go_keys.1) (ap (λ (r : Row). r.given) (sym its)))
+  go_given : (lock_row rows row.session row.block).given ≡ row.given
+  go_given = subst (λ (n : ℕ). (lock_row rows n row.block).given ≡ row.given) (sym go_keys.0) (subst (λ (n : ℕ). (lock_row rows session n).given ≡ row.given) (sym go_keys.1) (ap (λ (r : Row). r.given) (sym its)))
 
   its_hold : hold_in rows session block ≡ Some (row.mode, row.index)
   its_hold = hold_of_its rows session block ∙ subst (λ (r : Row). hold_of_row r ≡ Some (row.mode, row.index)) its (rw held refl)
@@ -200,7 +200,7 @@ others_then a b c session block one two = record {
 }
 
 -- a row that holds something is held
-pub is_held_row : (rows : List Row) (session block : ℕ) (row : Row) → row ≡ row_in rows session block → IsSome (hold_in rows session block) → row.is_held ≡ true
+pub is_held_row : (rows : List Row) (session block : ℕ) (row : Row) → row ≡ lock_row rows session block → IsSome (hold_in rows session block) → row.is_held ≡ true
 is_held_row rows session block row its some = by_test row.is_held refl
   where
     by_test : (b : Bool) → row.is_held ≡ b → row.is_held ≡ true
@@ -210,14 +210,14 @@ is_held_row rows session block row its some = by_test row.is_held refl
         let wrong = subst (λ (o : Option Hold). IsSome o) none some in
         absurd cc
 
-pub mode_of_hold : (rows : List Row) (session block at : ℕ) (mode : Mode) (row : Row) → row ≡ row_in rows session block → hold_in rows session block ≡ Some (mode, at) → row.mode ≡ mode
+pub mode_of_hold : (rows : List Row) (session block at : ℕ) (mode : Mode) (row : Row) → row ≡ lock_row rows session block → hold_in rows session block ≡ Some (mode, at) → row.mode ≡ mode
 mode_of_hold rows session block at mode row its held =
     let there : hold_of_row row ≡ Some (mode, at) = subst (λ (r : Row). hold_of_row r ≡ Some (mode, at)) (sym its) (sym (hold_of_its rows session block) ∙ held) in
     ap (λ (o : Hold). o.0) (held_row row (mode, at) there).1
 
-pub want_of_its : (rows : List Row) (session block : ℕ) → want_in rows session block ≡ want_of_row (row_in rows session block)
+pub want_of_its : (rows : List Row) (session block : ℕ) → want_in rows session block ≡ want_of_row (lock_row rows session block)
 want_of_its [] session block = refl
-want_of_its (row ∷ rows) session block = (elim (is_row session block row) as (λ b. is_row session block row ≡ b → want_in (row ∷ rows) session block ≡ want_of_row (row_in (row ∷ rows) session block)) [
+want_of_its (row ∷ rows) session block = (elim (is_row session block row) as (λ b. is_row session block row ≡ b → want_in (row ∷ rows) session block ≡ want_of_row (lock_row (row ∷ rows) session block)) [
   | true ↦ λ t. rw t refl
   | false ↦ λ t. rw (t, want_of_its rows session block) refl
 ]) refl

@@ -5,7 +5,7 @@ use Rattle.bx_base.specs.declared.names.Mode.{Mode}
 use Rattle.bx_facts.specs.Holds.{Hold}
 use Rattle.bx_plain.specs.declared.rows.Row.{Row}
 use Rattle.bx_plain.specs.Asks.{AlikeBut}
-use Rattle.bx_plain.specs.Rows.{hold_in, hold_of_row, is_row, place_in, row_in, want_in, want_of_row, with_row}
+use Rattle.bx_plain.specs.Rows.{hold_in, hold_of_row, is_row, place_in, lock_row, want_in, want_of_row, with_row}
 use Rattle.bx_plain.proofs.Asking.{alike_put}
 use Rattle.bx_plain.proofs.Puts.{held_beside, held_here, is_its_own, keys_of_row, not_row, row_is, same_test}
 use Rattle.bx_plain.proofs.Stands.{hold_of_its, want_of_its}
@@ -31,16 +31,16 @@ want_beside (row ∷ rows) new session block other = (elim (is_row new.session n
 ]) refl
 
 -- what is held and wanted, by the row
-pub held_as : (rows : List Row) (session block : ℕ) (row : Row) → row ≡ row_in rows session block → row.is_held ≡ true → Some (row.mode, row.index) ≡ hold_in rows session block
+pub held_as : (rows : List Row) (session block : ℕ) (row : Row) → row ≡ lock_row rows session block → row.is_held ≡ true → Some (row.mode, row.index) ≡ hold_in rows session block
 held_as rows session block row its held = sym (ap (λ t. if t then Some (row.mode, row.index) else None) held) ∙ ap hold_of_row its ∙ sym (hold_of_its rows session block)
 
-pub not_held : (rows : List Row) (session block : ℕ) (row : Row) → row ≡ row_in rows session block → row.is_held ≡ false → hold_in rows session block ≡ None
+pub not_held : (rows : List Row) (session block : ℕ) (row : Row) → row ≡ lock_row rows session block → row.is_held ≡ false → hold_in rows session block ≡ None
 not_held rows session block row its free = hold_of_its rows session block ∙ sym (ap hold_of_row its) ∙ ap (λ t. if t then Some (row.mode, row.index) else None) free
 
-pub wanted_as : (rows : List Row) (session block : ℕ) (row : Row) → row ≡ row_in rows session block → row.is_wanted ≡ true → Some row.mode ≡ want_in rows session block
+pub wanted_as : (rows : List Row) (session block : ℕ) (row : Row) → row ≡ lock_row rows session block → row.is_wanted ≡ true → Some row.mode ≡ want_in rows session block
 wanted_as rows session block row its wanted = sym (ap (λ t. if t then Some row.mode else None) wanted) ∙ ap want_of_row its ∙ sym (want_of_its rows session block)
 
-pub not_wanted : (rows : List Row) (session block : ℕ) (row : Row) → row ≡ row_in rows session block → row.is_wanted ≡ false → want_in rows session block ≡ None
+pub not_wanted : (rows : List Row) (session block : ℕ) (row : Row) → row ≡ lock_row rows session block → row.is_wanted ≡ false → want_in rows session block ≡ None
 not_wanted rows session block row its free = want_of_its rows session block ∙ sym (ap want_of_row its) ∙ ap (λ t. if t then Some row.mode else None) free
 
 pub was_true : (b : Bool) → not b ≡ false → b ≡ true
@@ -48,7 +48,7 @@ was_true true is = refl
 was_true false is = absurd cc
 
 -- a row by which something is wanted stands there
-place_wanted : (rows : List Row) (session block : ℕ) → (row_in rows session block).is_wanted ≡ true → IsSome (place_in rows session block)
+place_wanted : (rows : List Row) (session block : ℕ) → (lock_row rows session block).is_wanted ≡ true → IsSome (place_in rows session block)
 place_wanted [] session block wanted = absurd cc
 place_wanted (row ∷ rows) session block wanted = (elim (is_row session block row) as (λ b. is_row session block row ≡ b → IsSome (place_in (row ∷ rows) session block)) [
   | true ↦ λ t. rw t refl
@@ -59,7 +59,7 @@ place_wanted (row ∷ rows) session block wanted = (elim (is_row session block r
     some_more None some = some
     some_more (Some n) some = refl
 
-pub wanted_place : (rows : List Row) (session block : ℕ) (row : Row) → row ≡ row_in rows session block → row.is_wanted ≡ true → IsSome (place_in rows session block)
+pub wanted_place : (rows : List Row) (session block : ℕ) (row : Row) → row ≡ lock_row rows session block → row.is_wanted ≡ true → IsSome (place_in rows session block)
 wanted_place rows session block row its wanted = place_wanted rows session block (sym (ap (λ (r : Row). r.is_wanted) its) ∙ wanted)
 
 -- where a row is put that wants nothing, wants only go
@@ -83,7 +83,7 @@ pub put_beside : (rows : List Row) (new : Row) (other at : ℕ) → (other ≢ n
 put_beside rows new other at apart = want_beside rows new other at (not_row other at new (⊎_elim (λ one. inl (λ same. one (sym same))) (λ one. inr (λ same. one (sym same))) apart))
 
 -- a row of a session and a block, by its keys
-module _ (rows : List Row) (session block : ℕ) (row : Row) (its : row ≡ row_in rows session block) where
+module _ (rows : List Row) (session block : ℕ) (row : Row) (its : row ≡ lock_row rows session block) where
   pub its_session : row.session ≡ session
   its_session = ap (λ (r : Row). r.session) its ∙ (keys_of_row rows session block).0
 

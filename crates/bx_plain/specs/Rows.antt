@@ -49,9 +49,9 @@ abbrev pub idle : ℕ → ℕ → Row
 idle session block = record { session = session; block = block; mode = Shared; index = 0; is_held = false; is_wanted = false; given = 0 }
 
 -- the row of a session and a block
-abbrev pub row_in : List Row → ℕ → ℕ → Row
-row_in [] session block = idle session block
-row_in (row ∷ rows) session block = if is_row session block row then row else row_in rows session block
+abbrev pub lock_row : List Row → ℕ → ℕ → Row
+lock_row [] session block = idle session block
+lock_row (row ∷ rows) session block = if is_row session block row then row else lock_row rows session block
 
 -- the rows with one put in the place of that of its session and block, or behind those of its block, before any of a higher one
 abbrev pub with_row : List Row → Row → List Row

@@ -5,7 +5,7 @@ ghost use Rattle.std.specs.BTreeMap.{IsOrdered};
 ghost use Rattle.std.specs.BTreeSet.{IsOrdered as AreOrdered, contains};
 ghost use Rattle.std.specs.List.{list_any};
 ghost use Rattle.std.specs.Ordering.{nat_cmp};
-ghost use Rattle.bx_plain.specs.Rows.{AllLet, floor_in, hold_in, is_before, place_in, row_in, rows_at, sessions_at, want_in, with_row};
+ghost use Rattle.bx_plain.specs.Rows.{AllLet, floor_in, hold_in, is_before, place_in, lock_row, rows_at, sessions_at, want_in, with_row};
 ghost use Rattle.bx_plain.specs.Tables.{AreOf, AreTheirs, Waits, flat, gather, kept_at, wanted};
 
 use crate::rows::{Row, any_wanted, put_among};
@@ -170,7 +170,7 @@ pub(crate) fn floor_of(rows: &Table, block: u64) -> u64
 
 /// The row of a session and a block.
 pub(crate) fn row_of(rows: &Table, session: u64, block: u64) -> Row
-    ensures { result ≡ row_in rows.now session block }
+    ensures { result ≡ lock_row rows.now session block }
 {
     for row in rows.at(block) {
         if row.session == session {

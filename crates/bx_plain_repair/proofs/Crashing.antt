@@ -6,14 +6,14 @@ use Rattle.bx_facts.specs.Disks.{IsKept}
 use Rattle.bx_facts.specs.Writes.{IsSettled, label_on, member_disk, store_room}
 use Rattle.bx_global.specs.Opening.{opening_state}
 use Rattle.bx_layout.specs.Labels.{SpellsLabel}
-use Rattle.bx_plain_repair.specs.Bench.{AreLong, IsLabelled, first_label, made_for}
-use Rattle.bx_plain_repair.specs.Left.{Doubt, IsLeft}
+use Rattle.bx_plain_repair.specs.Bench.{AreLong, IsLabelledBench, first_label, made_for}
+use Rattle.bx_plain_repair.specs.Left.{OpenDoubt, IsLeft}
 use Rattle.bx_model.specs.declared.tree.Tree.{Tree}
 use Rattle.bx_redo.specs.Stands.{LogStands}
 
 module _ (x y : Disks) (sizes : y.sizes ≡ x.sizes) (kept : (d s : ℕ) → x.unsure d s ≡ false → IsKept x y d s) where
   -- labels that were sure stand
-  labelled_still : (volume : ℕ) → IsLabelled x volume → IsLabelled y volume
+  labelled_still : (volume : ℕ) → IsLabelledBench x volume → IsLabelledBench y volume
   labelled_still volume is = record {
     bench = record {
       long = subst AreLong (sym sizes) is.bench.long;
@@ -36,7 +36,7 @@ module _ (x y : Disks) (sizes : y.sizes ≡ x.sizes) (kept : (d s : ℕ) → x.u
   }
 
   -- the rest is as the log stands
-  pub left_still : (volume floor : ℕ) (tree : Tree) (doubt : Option Doubt) (left : IsLeft volume floor tree doubt x)
+  pub left_still : (volume floor : ℕ) (tree : Tree) (doubt : Option OpenDoubt) (left : IsLeft volume floor tree doubt x)
       → LogStands (IsSettled y (opening_state 1 1)) 1 1 (opening_state 1 1).sessions left.before left.logs left.truth left.more left.log → IsLeft volume floor tree doubt y
   left_still volume floor tree doubt left stands = record {
     before = left.before;

@@ -12,9 +12,9 @@ use Rattle.bx_model.specs.declared.tree.Tree.{Tree}
 use Rattle.bx_redo.specs.Stands.{IsFound}
 use Rattle.bx_views.specs.Truths.{Truth}
 use Rattle.bx_volume.specs.Records.{Logged}
-use Rattle.bx_plain_repair.specs.Left.{Doubt}
+use Rattle.bx_plain_repair.specs.Left.{OpenDoubt}
 use Rattle.bx_plain_repair.specs.Recovering.{IsFoundOpen}
-use Rattle.bx_plain_repair.specs.Resting.{Comes, IsOpenLog, Rests, only}
+use Rattle.bx_plain_repair.specs.Resting.{RestsOrActed, IsOpenLog, Rests, only}
 use Rattle.bx_plain_repair.specs.declared.reading.OpenLog.{OpenLog}
 use Rattle.bx_plain_repair.proofs.Leaving.{acted_open}
 
@@ -58,9 +58,9 @@ of_record records log point is there =
 its_point : (records : List Logged) (log : OpenLog) (logged : Logged) → IsOpenLog records log → Contains records logged → Contains log.points (point_of logged)
 its_point records log logged is there = subst (λ (l : List Point). Contains l (point_of logged)) (sym is.points) (to_points (reverse records) logged (to_reverse records logged there))
 
-module _ (volume floor : ℕ) (tree : Tree) (doubt : Option Doubt) (records : List Logged) (disks : Disks) (log : OpenLog) (is : IsOpenLog records log) where
+module _ (volume floor : ℕ) (tree : Tree) (doubt : Option OpenDoubt) (records : List Logged) (disks : Disks) (log : OpenLog) (is : IsOpenLog records log) where
   -- a call above the floor is the one in doubt, which acted
-  pub above_acted : (point : Point) → Contains log.points point → floor < point.call → Comes volume floor tree doubt records disks → IsFoundOpen volume floor tree doubt disks point
+  pub above_acted : (point : Point) → Contains log.points point → floor < point.call → RestsOrActed volume floor tree doubt records disks → IsFoundOpen volume floor tree doubt disks point
   above_acted point there above (inl rests) =
       let found = of_record records log point is there in
       let told = rests.told found.0 found.1 in
@@ -77,7 +77,7 @@ module _ (volume floor : ℕ) (tree : Tree) (doubt : Option Doubt) (records : Li
       (front_or_behind has.newest has.older found.0 (subst (λ (l : List Logged). Contains l found.0) has.records_are found.1))
 
   -- where none is above it, all were told
-  pub none_above : ((point : Point) → Contains log.points point → point.call ≤ floor) → Comes volume floor tree doubt records disks → Rests volume floor tree records disks
+  pub none_above : ((point : Point) → Contains log.points point → point.call ≤ floor) → RestsOrActed volume floor tree doubt records disks → Rests volume floor tree records disks
   none_above low (inl rests) = rests
   none_above low (inr has) =
       let there = its_point records log has.newest is (subst (λ (l : List Logged). Contains l has.newest) (sym has.records_are) (front has.newest has.older)) in
@@ -96,6 +96,6 @@ pub record IsFoundSo (records : List Logged) (disks : Disks) : Type 0 where
 of_rests : (volume floor : ℕ) (tree : Tree) (records : List Logged) (disks : Disks) → Rests volume floor tree records disks → IsFoundSo records disks
 of_rests volume floor tree records disks rests = record { before = rests.before; truth = rests.truth; more = rests.more; is = rests.found }
 
-pub found_of : (volume floor : ℕ) (tree : Tree) (doubt : Option Doubt) (records : List Logged) (disks : Disks) → Comes volume floor tree doubt records disks → IsFoundSo records disks
+pub found_of : (volume floor : ℕ) (tree : Tree) (doubt : Option OpenDoubt) (records : List Logged) (disks : Disks) → RestsOrActed volume floor tree doubt records disks → IsFoundSo records disks
 found_of volume floor tree doubt records disks (inl rests) = of_rests volume floor tree records disks rests
 found_of volume floor tree doubt records disks (inr has) = of_rests volume has.point.call has.next records disks has.rests

@@ -19,7 +19,7 @@ use Rattle.bx_redo.proofs.Homes.{homes_found}
 use Rattle.bx_truth.proofs.Cases.{eq_false}
 use Rattle.bx_volume.specs.Overlay.{Logs, Matters}
 use Rattle.bx_volume.specs.Records.{Logged}
-use Rattle.bx_plain_repair.specs.Bench.{IsLabelled}
+use Rattle.bx_plain_repair.specs.Bench.{IsLabelledBench}
 use Rattle.bx_plain_repair.specs.Resting.{AreHomed, Rests, StandsAs, closes_log, only, shuts_log}
 use Rattle.bx_plain_repair.specs.Through.{one_write}
 use Rattle.bx_plain_repair.proofs.Only.{only_again}
@@ -55,7 +55,7 @@ none_stands volume floor tree disks rests = homed_stands volume floor tree [] di
 
 module _ (x z : Disks) (runs : List Run)
     (goes : (d s : ℕ) (content : List ℕ) → IsOnly (one_write runs ∷ []) 0 d s content → IsSettled x (opening_state 1 1) d s content → IsSettled z (opening_state 1 1) d s content)
-    (volume floor : ℕ) (tree : Tree) (records : List Logged) (rests : Rests volume floor tree records x) (its : AreItsHomes 1 1 (only records) 0 runs) (labelled : IsLabelled z volume) where
+    (volume floor : ℕ) (tree : Tree) (records : List Logged) (rests : Rests volume floor tree records x) (its : AreItsHomes 1 1 (only records) 0 runs) (labelled : IsLabelledBench z volume) where
   each : (write : Sent) → Contains (one_write runs ∷ []) write → (write.runs ≡ runs) ⊎ IsOver 0 write
   each write there = ⊎_elim (λ (same : one_write runs ≡ write). inl (sym (ap (λ (w : Sent). w.runs) same))) (λ none. absurd (nothing write none)) (front_or_behind (one_write runs) [] write there)
 

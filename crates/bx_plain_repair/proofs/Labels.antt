@@ -7,11 +7,11 @@ use Rattle.bx_facts.proofs.Lists.{front_or_behind, nothing}
 use Rattle.bx_layout.specs.Labels.{SpellsLabel}
 use Rattle.bx_members.specs.Members.{KeepsMembers}
 use Rattle.bx_records.specs.declared.runs.Run.{Run}
-use Rattle.bx_plain_repair.specs.Bench.{AreLong, IsLabelled, first_label, made_for}
+use Rattle.bx_plain_repair.specs.Bench.{AreLong, IsLabelledBench, first_label, made_for}
 use Rattle.bx_plain_repair.specs.Through.{one_write}
 
-pub labelled_kept : (x z : Disks) (volume : ℕ) (runs : List Run) → IsLabelled x volume → z.sizes ≡ x.sizes → KeepsMembers (one_write runs ∷ []) 0 x z
-    → ((run : Run) → Contains runs run → 1 ≤ run.place) → IsLabelled z volume
+pub labelled_kept : (x z : Disks) (volume : ℕ) (runs : List Run) → IsLabelledBench x volume → z.sizes ≡ x.sizes → KeepsMembers (one_write runs ∷ []) 0 x z
+    → ((run : Run) → Contains runs run → 1 ≤ run.place) → IsLabelledBench z volume
 labelled_kept x z volume runs is sizes keeps behind_label = record {
   bench = record {
     long = subst AreLong (sym sizes) is.bench.long;

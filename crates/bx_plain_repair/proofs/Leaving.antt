@@ -11,14 +11,14 @@ use Rattle.bx_redo.specs.View.{LogView}
 use Rattle.bx_redo.specs.declared.work.Work.TheVariants.{Closes, Idle, Shuts}
 use Rattle.bx_redo.proofs.Homes.{idle_found}
 use Rattle.bx_volume.specs.Records.{Logged}
-use Rattle.bx_plain_repair.specs.Left.{Doubt, IsAt, IsLeft}
+use Rattle.bx_plain_repair.specs.Left.{OpenDoubt, IsAt, IsLeft}
 use Rattle.bx_plain_repair.specs.Recovering.{IsFoundOpen}
 use Rattle.bx_plain_repair.specs.Resting.{HasActed, Rests, StandsAs, only}
 use Rattle.bx_plain_repair.proofs.Homing.{homed_stands}
 use Rattle.bx_plain_repair.proofs.Only.{others_none}
 
 -- a log with no record under way
-pub stands_left : (volume floor : ℕ) (tree : Tree) (doubt : Option Doubt) (records : List Logged) (log : LogView) (disks : Disks) → log.slot ≡ 0
+pub stands_left : (volume floor : ℕ) (tree : Tree) (doubt : Option OpenDoubt) (records : List Logged) (log : LogView) (disks : Disks) → log.slot ≡ 0
     → ((point : Point) → IsAt log.work point → ⊥) → StandsAs volume floor tree records log disks → IsLeft volume floor tree doubt disks
 stands_left volume floor tree doubt records log disks slot none st = record {
   before = st.before;
@@ -40,7 +40,7 @@ none_at true point at = at
 none_at false point at = at
 
 -- one whose gates are settled
-pub rests_left : (volume floor : ℕ) (tree : Tree) (doubt : Option Doubt) (records : List Logged) (disks : Disks) → Rests volume floor tree records disks → IsLeft volume floor tree doubt disks
+pub rests_left : (volume floor : ℕ) (tree : Tree) (doubt : Option OpenDoubt) (records : List Logged) (disks : Disks) → Rests volume floor tree records disks → IsLeft volume floor tree doubt disks
 rests_left volume floor tree doubt records disks rests = ⊎_elim
     (λ closed.
     let idle : LogView = record { slot = 0; device = 0; count = length records; work = Idle; out = false } in
@@ -57,7 +57,7 @@ rests_left volume floor tree doubt records disks rests = ⊎_elim
     rests.behind
 
 -- a record whose call acted
-pub acted_open : (volume floor : ℕ) (tree : Tree) (doubt : Option Doubt) (records : List Logged) (disks : Disks) (has : HasActed volume floor tree doubt records disks)
+pub acted_open : (volume floor : ℕ) (tree : Tree) (doubt : Option OpenDoubt) (records : List Logged) (disks : Disks) (has : HasActed volume floor tree doubt records disks)
     → IsFoundOpen volume floor tree doubt disks has.point
 acted_open volume floor tree doubt records disks has = record {
   next = has.next;

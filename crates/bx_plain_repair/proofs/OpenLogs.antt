@@ -18,7 +18,7 @@ use Rattle.bx_records.specs.Drafts.{Changed, block_in}
 use Rattle.bx_redo.specs.Stands.{IsFound}
 use Rattle.bx_rows.specs.Words.{is_taken}
 use Rattle.bx_views.specs.Truths.{Truth}
-use Rattle.bx_volume.specs.Overlay.{IsTruth, Matters}
+use Rattle.bx_volume.specs.Overlay.{IsOverlaidTruth, Matters}
 use Rattle.bx_volume.specs.Records.{LogWhere, Logged, StandOpen, newest_in, or_older}
 use Rattle.bx_volume.proofs.Matters.{truth_same}
 use Rattle.bx_volume.proofs.OneLog.{one_has_log}
@@ -73,7 +73,7 @@ module _ (disks : Disks) (records : List Logged) (before : Image) (truth : Truth
       at zero was = was.reads false (inl refl)
       at (suc d) was = absurd (let less = was.there in omega (arith, less))
 
-  truth_is : IsTruth (held_by disks.reads members) 1 1 (opening_state 1 1).sessions (only records) truth
+  truth_is : IsOverlaidTruth (held_by disks.reads members) 1 1 (opening_state 1 1).sessions (only records) truth
   truth_is = truth_same before (held_by disks.reads members) 1 1 (opening_state 1 1).sessions (only records) truth read_there found.is_truth
 
   pub records_read : (logs : List (List Logged)) → AreLogs disks.reads members (opening_state 1 1).sessions logs → reverse (log_in logs 0) ≡ records

@@ -25,15 +25,15 @@ use Rattle.bx_views.specs.Truths.{no_hints, Truth, with_draft}
 use Rattle.bx_volume.specs.Overlay.{Logs, Matters, with_log}
 use Rattle.bx_volume.specs.Records.{LogWhere, Logged, gate_of, newest_in}
 use Rattle.bx_volume.proofs.Apart.{home_and_log}
-use Rattle.bx_plain_repair.specs.Bench.{IsLabelled}
-use Rattle.bx_plain_repair.specs.Left.{Doubt, IsAt, IsLeft, IsUnsettled, Leads}
-use Rattle.bx_plain_repair.specs.Resting.{AreHomed, Comes, Rests, only}
+use Rattle.bx_plain_repair.specs.Bench.{IsLabelledBench}
+use Rattle.bx_plain_repair.specs.Left.{OpenDoubt, IsAt, IsLeft, IsUnsettled, RecordLeads}
+use Rattle.bx_plain_repair.specs.Resting.{AreHomed, RestsOrActed, Rests, only}
 use Rattle.bx_plain_repair.specs.Through.{one_write}
 use Rattle.bx_plain_repair.proofs.Homing.{none_homed}
 use Rattle.bx_plain_repair.proofs.Only.{are_only, only_again, with_only}
 
 -- what stays settled leaves the log as it was
-pub left_stays : (x z : Disks) (volume floor : ℕ) (tree : Tree) (doubt : Option Doubt) → IsLabelled z volume
+pub left_stays : (x z : Disks) (volume floor : ℕ) (tree : Tree) (doubt : Option OpenDoubt) → IsLabelledBench z volume
     → ((d s : ℕ) (content : List ℕ) → IsSettled x (opening_state 1 1) d s content → IsSettled z (opening_state 1 1) d s content) → IsLeft volume floor tree doubt x → IsLeft volume floor tree doubt z
 left_stays x z volume floor tree doubt labelled all left = record {
   before = left.before;
@@ -51,7 +51,7 @@ left_stays x z volume floor tree doubt labelled all left = record {
   labelled = labelled;
 }
 
-module _ (x z : Disks) (volume floor : ℕ) (tree : Tree) (doubt : Option Doubt) (left : IsLeft volume floor tree doubt x) (labelled : IsLabelled z volume) (now : Image) (bytes : List ℕ)
+module _ (x z : Disks) (volume floor : ℕ) (tree : Tree) (doubt : Option OpenDoubt) (left : IsLeft volume floor tree doubt x) (labelled : IsLabelledBench z volume) (now : Image) (bytes : List ℕ)
     (read : AreGatesRead left.before left.log bytes) (set : AreSettled (IsSettled x (opening_state 1 1)) (IsSettled z (opening_state 1 1)) left.before now left.log bytes) where
   abbrev Sx : ℕ → ℕ → List ℕ → Type 0
   Sx = IsSettled x (opening_state 1 1)
@@ -100,7 +100,7 @@ module _ (x z : Disks) (volume floor : ℕ) (tree : Tree) (doubt : Option Doubt)
 
   -- with the record that was under way
   opened : (point : Point) → left.log.work ≡ Opens point → Finds_now (with_log left.logs 0 (left.more ∷ left.logs 0)) (with_draft left.truth left.more.changed)
-      → AreClosed now 1 0 (left.log.count + 1) → Comes volume floor tree doubt (left.more ∷ left.logs 0) z
+      → AreClosed now 1 0 (left.log.count + 1) → RestsOrActed volume floor tree doubt (left.more ∷ left.logs 0) z
   opened point work found closed =
       let unsettled = left.leads point (subst (λ (w : Work). IsAt w point) (sym work) refl) in
       let same = with_only left.logs (left.more ∷ left.logs 0) left.others in
@@ -111,7 +111,7 @@ module _ (x z : Disks) (volume floor : ℕ) (tree : Tree) (doubt : Option Doubt)
     where
       by : (unsettled : IsUnsettled volume floor tree doubt left.truth left.more point)
           → Finds_now (only (left.more ∷ left.logs 0)) (with_draft left.truth left.more.changed) → left.more.head.call ≡ point.call → AreClosed now 1 0 (length (left.more ∷ left.logs 0))
-          → Leads floor tree doubt point unsettled.next → Comes volume floor tree doubt (left.more ∷ left.logs 0) z
+          → RecordLeads floor tree doubt point unsettled.next → RestsOrActed volume floor tree doubt (left.more ∷ left.logs 0) z
       by unsettled found_there call behind (inl (same, told)) =
           inl (told_rests (only (left.more ∷ left.logs 0)) (with_draft left.truth left.more.changed) (left.more ∷ left.logs 0) refl found_there
           (subst (StandsWith volume 1 (with_draft left.truth left.more.changed) no_hints) same unsettled.stands) (inl behind)
@@ -202,7 +202,7 @@ module _ (x z : Disks) (volume floor : ℕ) (tree : Tree) (doubt : Option Doubt)
 
   -- by what was under way
   comes_by : (work : Work) → left.log.work ≡ work → Settles Sz 1 1 (opening_state 1 1).sessions now left.logs left.truth left.more 0 work
-      → Finds Sx 1 1 (opening_state 1 1).sessions left.before left.logs left.truth left.more left.log work → (records : List Logged) × Comes volume floor tree doubt records z
+      → Finds Sx 1 1 (opening_state 1 1).sessions left.before left.logs left.truth left.more left.log work → (records : List Logged) × RestsOrActed volume floor tree doubt records z
   comes_by Idle work found finds = (
     left.logs 0,
     inl (as_it_stood found (as_many (closed_still left.log.count
@@ -236,7 +236,7 @@ module _ (x z : Disks) (volume floor : ℕ) (tree : Tree) (doubt : Option Doubt)
       nil_of [] is = refl
       nil_of (r ∷ records) is = absurd (omega (arith, is))
 
-  pub comes : (records : List Logged) × Comes volume floor tree doubt records z
+  pub comes : (records : List Logged) × RestsOrActed volume floor tree doubt records z
   comes = comes_by left.log.work refl
       (subst (λ (n : ℕ). Settles Sz 1 1 (opening_state 1 1).sessions now left.logs left.truth left.more n left.log.work) left.slot
       (settled Sx Sz 1 1 (opening_state 1 1).sessions left.before now left.logs left.truth left.more left.log bytes left.log.work left.stands read set))
@@ -244,10 +244,10 @@ module _ (x z : Disks) (volume floor : ℕ) (tree : Tree) (doubt : Option Doubt)
 
 -- ---- the write of the gates
 
-module _ (x z : Disks) (volume floor : ℕ) (tree : Tree) (doubt : Option Doubt) (bytes : List ℕ) (runs : List Run) (long : length bytes ≡ 4096) (reads : ReadsAs x.reads 3 1 bytes)
+module _ (x z : Disks) (volume floor : ℕ) (tree : Tree) (doubt : Option OpenDoubt) (bytes : List ℕ) (runs : List Run) (long : length bytes ≡ 4096) (reads : ReadsAs x.reads 3 1 bytes)
     (runs_are : runs ≡ record { device = 0; place = 1; bytes = bytes } ∷ [])
     (goes : (d s : ℕ) (content : List ℕ) → IsOnly (one_write runs ∷ []) 0 d s content → IsSettled x (opening_state 1 1) d s content → IsSettled z (opening_state 1 1) d s content)
-    (labelled : IsLabelled z volume) (left : IsLeft volume floor tree doubt x) where
+    (labelled : IsLabelledBench z volume) (left : IsLeft volume floor tree doubt x) where
   on_first : left.log.device ≡ 0
   on_first = left.stands.on_device ∙ ap (λ (n : ℕ). log_device n 1) left.slot
 
@@ -272,7 +272,7 @@ module _ (x z : Disks) (volume floor : ℕ) (tree : Tree) (doubt : Option Doubt)
   pub still_left : IsLeft volume floor tree doubt z
   still_left = left_stays x z volume floor tree doubt labelled all_still left
 
-  pub then_comes : IsDone (λ d s content index. IsSettled z (opening_state 1 1) d s content) 0 (one_write runs) → (records : List Logged) × Comes volume floor tree doubt records z
+  pub then_comes : IsDone (λ d s content index. IsSettled z (opening_state 1 1) d s content) 0 (one_write runs) → (records : List Logged) × RestsOrActed volume floor tree doubt records z
   then_comes done =
       let Sx : ℕ → ℕ → List ℕ → Type 0 = IsSettled x (opening_state 1 1) in
       let Sz : ℕ → ℕ → List ℕ → Type 0 = IsSettled z (opening_state 1 1) in

@@ -17,7 +17,7 @@ use Rattle.bx_redo.proofs.Shut.{closing_stands, shut_stands}
 use Rattle.bx_redo.proofs.Stored.{done_stored, its_sectors, stays_out}
 use Rattle.bx_volume.specs.Overlay.{Logs}
 use Rattle.bx_volume.specs.Records.{Logged}
-use Rattle.bx_plain_repair.specs.Bench.{IsLabelled}
+use Rattle.bx_plain_repair.specs.Bench.{IsLabelledBench}
 use Rattle.bx_plain_repair.specs.Left.{IsClosed}
 use Rattle.bx_plain_repair.specs.Resting.{StandsAs, closes_log, only, shuts_log}
 use Rattle.bx_plain_repair.specs.Through.{one_write}
@@ -44,7 +44,7 @@ module _ (x z : Disks) (log : LogView) (runs : List Run) (some : log.work ≡ Id
       → IsAcknowledged (IsSettled x (opening_state 1 1)) (IsSettled z (opening_state 1 1)) before (stored before log) log (bytes_of log.work)
   is_done before done = done_stored log (one_write runs) some asks (IsSettled x (opening_state 1 1)) (IsSettled z (opening_state 1 1)) before 0 is_out done
 
-module _ (x z : Disks) (volume floor : ℕ) (tree : Tree) (labelled : IsLabelled z volume) where
+module _ (x z : Disks) (volume floor : ℕ) (tree : Tree) (labelled : IsLabelledBench z volume) where
   -- a write that is out, or wasn't begun
   pub log_stays : (records : List Logged) (log : LogView) → IsOut (IsSettled x (opening_state 1 1)) (IsSettled z (opening_state 1 1)) log
       → StandsAs volume floor tree records log x → StandsAs volume floor tree records log z

@@ -26,6 +26,6 @@ pub record IsBench (disks : Disks) (volume : ℕ) : Type 0 where
   pub sure : disks.unsure 0 0 ≡ false
 
 -- So are those of both members.
-pub record IsLabelled (disks : Disks) (volume : ℕ) : Type 0 where
+pub record IsLabelledBench (disks : Disks) (volume : ℕ) : Type 0 where
   pub bench : IsBench disks volume
   pub members : IsOfStore (made_for volume) disks (opening_state 1 1)

@@ -14,8 +14,8 @@ use Rattle.bx_redo.specs.declared.work.Work.TheVariants.{Closes, Shuts}
 use Rattle.bx_views.specs.Truths.{Truth, no_hints}
 use Rattle.bx_volume.specs.Overlay.{Logs, Matters, with_log}
 use Rattle.bx_volume.specs.Records.{Logged, newest_in}
-use Rattle.bx_plain_repair.specs.Bench.{IsLabelled}
-use Rattle.bx_plain_repair.specs.Left.{Doubt, IsOfDoubt}
+use Rattle.bx_plain_repair.specs.Bench.{IsLabelledBench}
+use Rattle.bx_plain_repair.specs.Left.{OpenDoubt, IsOfDoubt}
 use Rattle.bx_plain_repair.specs.declared.reading.OpenLog.{OpenLog}
 
 -- the logs where slot 0 alone has records, the newest first
@@ -37,10 +37,10 @@ pub record Rests (volume floor : ℕ) (tree : Tree) (records : List Logged) (dis
   pub behind : AreClosed before 1 0 (length records) ⊎ AreHomed disks before records
   pub told : (logged : Logged) → Contains records logged → logged.head.call ≤ floor
   pub tree_is : StandsWith volume 1 truth no_hints tree
-  pub labelled : IsLabelled disks volume
+  pub labelled : IsLabelledBench disks volume
 
 -- The newest record is that of the call in doubt, which acted: the disks hold the next tree.
-pub record HasActed (volume floor : ℕ) (tree : Tree) (doubt : Option Doubt) (records : List Logged) (disks : Disks) : Type 0 where
+pub record HasActed (volume floor : ℕ) (tree : Tree) (doubt : Option OpenDoubt) (records : List Logged) (disks : Disks) : Type 0 where
   pub point : Point
   pub next : Tree
   pub acted : IsOfDoubt floor tree doubt point next
@@ -52,8 +52,8 @@ pub record HasActed (volume floor : ℕ) (tree : Tree) (doubt : Option Doubt) (r
   pub rests : Rests volume point.call next records disks
 
 -- the records' calls were told, or the newest one's acted
-abbrev pub Comes : ℕ → ℕ → Tree → Option Doubt → List Logged → Disks → Type 0
-Comes volume floor tree doubt records disks = Rests volume floor tree records disks ⊎ HasActed volume floor tree doubt records disks
+abbrev pub RestsOrActed : ℕ → ℕ → Tree → Option OpenDoubt → List Logged → Disks → Type 0
+RestsOrActed volume floor tree doubt records disks = Rests volume floor tree records disks ⊎ HasActed volume floor tree doubt records disks
 
 -- a log whose gate 0 is being closed, and one whose other gates are
 abbrev pub closes_log : ℕ → LogView
@@ -70,7 +70,7 @@ pub record StandsAs (volume floor : ℕ) (tree : Tree) (records : List Logged) (
   pub stands : LogStands (IsSettled disks (opening_state 1 1)) 1 1 (opening_state 1 1).sessions before (only records) truth more log
   pub told : (logged : Logged) → Contains records logged → logged.head.call ≤ floor
   pub tree_is : StandsWith volume 1 truth no_hints tree
-  pub labelled : IsLabelled disks volume
+  pub labelled : IsLabelledBench disks volume
 
 -- What was read of these records: their points, the oldest first, and the newest blocks.
 pub record IsOpenLog (records : List Logged) (log : OpenLog) : Type 0 where

@@ -5,8 +5,8 @@ ghost use Rattle.bx_disk.specs.Disks.{Image};
 ghost use Rattle.bx_disk.specs.Kept.{Fails};
 ghost use Rattle.bx_facts.specs.Writes.{IsSettled, IsSourceIn};
 ghost use Rattle.bx_global.specs.declared.state.GlobalState.{GlobalState};
-ghost use Rattle.bx_plain_repair.specs.Left.{Doubt, IsLeft};
-ghost use Rattle.bx_plain_repair.specs.Resting.{Comes};
+ghost use Rattle.bx_plain_repair.specs.Left.{OpenDoubt, IsLeft};
+ghost use Rattle.bx_plain_repair.specs.Resting.{RestsOrActed};
 ghost use Rattle.bx_plain_repair.specs.Spared.{SparesOthers};
 ghost use Rattle.bx_model.specs.declared.tree.Tree.{Tree};
 ghost use Rattle.bx_redo.specs.Found.{Settles};
@@ -41,9 +41,9 @@ pub(crate) fn settle_gates<R: Rack>(alloc: Global, rack: &mut R) -> Result<(), R
     ensures settles { (state : GlobalState) (areas : ℕ) (before : Image) (logs : Logs) (truth : Truth) (more : Logged) (log : LogView) → R.tells rack.old → length state.devices ≡ 1 → IsSourceIn state 0 false → log.slot ≡ 0 → log.device ≡ 0
         → LogStands (IsSettled (R.state rack.old) state) 1 areas state.sessions before logs truth more log
         → OnOk result ((now : Image) × Settles (IsSettled (R.state rack.new) state) 1 areas state.sessions now logs truth more 0 log.work) }
-    ensures left { (volume floor : ℕ) (tree : Tree) (doubt : Option Doubt) → R.tells rack.old → IsLeft volume floor tree doubt (R.state rack.old) → IsLeft volume floor tree doubt (R.state rack.new) }
-    ensures comes { (volume floor : ℕ) (tree : Tree) (doubt : Option Doubt) → R.tells rack.old → IsLeft volume floor tree doubt (R.state rack.old)
-        → OnOk result ((records : List Logged) × Comes volume floor tree doubt records (R.state rack.new)) }
+    ensures left { (volume floor : ℕ) (tree : Tree) (doubt : Option OpenDoubt) → R.tells rack.old → IsLeft volume floor tree doubt (R.state rack.old) → IsLeft volume floor tree doubt (R.state rack.new) }
+    ensures comes { (volume floor : ℕ) (tree : Tree) (doubt : Option OpenDoubt) → R.tells rack.old → IsLeft volume floor tree doubt (R.state rack.old)
+        → OnOk result ((records : List Logged) × RestsOrActed volume floor tree doubt records (R.state rack.new)) }
     ensures replicas { R.tells rack.old → KeepsReplicas (R.state rack.old) (R.state rack.new) }
     ensures spares { R.tells rack.old → SparesOthers (R.state rack.old) (R.state rack.new) }
     ensures rack { Fails R.Rack rack.old rack.new result }

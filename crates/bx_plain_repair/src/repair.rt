@@ -5,11 +5,11 @@ ghost use Rattle.bx_base.specs.Faults.{Rose};
 ghost use Rattle.bx_disk.specs.Counts.{NoneFalls, NoneRose};
 ghost use Rattle.bx_disk.specs.declared.fault.RackError.TheVariants.{Fault, OutOfMemory as NoMemory};
 ghost use Rattle.bx_plain_repair.specs.Bench.{AreLong};
-ghost use Rattle.bx_plain_repair.specs.Left.{Doubt, IsClosed, IsLeft};
+ghost use Rattle.bx_plain_repair.specs.Left.{OpenDoubt, IsClosed, IsLeft};
 ghost use Rattle.bx_plain_repair.specs.HomesOf.{HasNone};
 ghost use Rattle.bx_plain_repair.specs.Kept.{KeepsCounts};
 ghost use Rattle.bx_plain_repair.specs.Recovering.{Recovers};
-ghost use Rattle.bx_plain_repair.specs.Resting.{Comes, IsOpenLog, Rests, StandsAs, shuts_log};
+ghost use Rattle.bx_plain_repair.specs.Resting.{RestsOrActed, IsOpenLog, Rests, StandsAs, shuts_log};
 ghost use Rattle.bx_plain_repair.specs.Spared.{SparesOthers};
 ghost use Rattle.bx_model.specs.declared.tree.Tree.{Tree};
 ghost use Rattle.bx_volume.specs.Records.{Logged, newest_in};
@@ -29,12 +29,12 @@ use std::alloc::Global;
 /// comes, the other log slots and the disks of replicas are left alone.
 pub fn recover<R: Rack>(alloc: Global, rack: &mut R, floor: CallNo) -> Result<Recovery, RackError>
     requires long { AreLong (R.state rack.old).sizes }
-    ensures recovers { (volume : ℕ) (tree : Tree) (doubt : Option Doubt) → R.tells rack.old → IsLeft volume floor tree doubt (R.state rack.old)
+    ensures recovers { (volume : ℕ) (tree : Tree) (doubt : Option OpenDoubt) → R.tells rack.old → IsLeft volume floor tree doubt (R.state rack.old)
         → IfOk result (Recovers volume floor tree doubt (R.state rack.new)) }
-    ensures left { (volume : ℕ) (tree : Tree) (doubt : Option Doubt) → R.tells rack.old → IsLeft volume floor tree doubt (R.state rack.old)
+    ensures left { (volume : ℕ) (tree : Tree) (doubt : Option OpenDoubt) → R.tells rack.old → IsLeft volume floor tree doubt (R.state rack.old)
         → OnErr result (IsLeft volume floor tree doubt (R.state rack.new)) }
     ensures spares { R.tells rack.old → SparesOthers (R.state rack.old) (R.state rack.new) }
-    ensures cause { IsErrOf result Fault → Rose (R.faults rack.old) (R.faults rack.new) ⊎ ((volume : ℕ) (tree : Tree) (doubt : Option Doubt) → R.tells rack.old → IsLeft volume floor tree doubt (R.state rack.old) → ⊥) }
+    ensures cause { IsErrOf result Fault → Rose (R.faults rack.old) (R.faults rack.new) ⊎ ((volume : ℕ) (tree : Tree) (doubt : Option OpenDoubt) → R.tells rack.old → IsLeft volume floor tree doubt (R.state rack.old) → ⊥) }
     ensures memory { IsErrOf result NoMemory → NoneRose (R.faults rack.old) (R.faults rack.new) (R.faults_of rack.old) (R.faults_of rack.new) }
     ensures no_fault { OnOk result (NoneRose (R.faults rack.old) (R.faults rack.new) (R.faults_of rack.old) (R.faults_of rack.new)) }
     ensures later { NoneFalls (R.faults rack.old) (R.faults rack.new) (R.faults_of rack.old) (R.faults_of rack.new) }
@@ -48,13 +48,13 @@ pub fn recover<R: Rack>(alloc: Global, rack: &mut R, floor: CallNo) -> Result<Re
 /// What comes once the gates are settled.
 fn go_on<R: Rack>(alloc: Global, rack: &mut R, floor: CallNo) -> Result<Recovery, RackError>
     requires long { AreLong (R.state rack.old).sizes }
-    ensures recovers { (volume : ℕ) (tree : Tree) (doubt : Option Doubt) (records : List Logged) → R.tells rack.old → Comes volume floor tree doubt records (R.state rack.old)
+    ensures recovers { (volume : ℕ) (tree : Tree) (doubt : Option OpenDoubt) (records : List Logged) → R.tells rack.old → RestsOrActed volume floor tree doubt records (R.state rack.old)
         → IfOk result (Recovers volume floor tree doubt (R.state rack.new)) }
-    ensures left { (volume : ℕ) (tree : Tree) (doubt : Option Doubt) (records : List Logged) → R.tells rack.old → Comes volume floor tree doubt records (R.state rack.old)
+    ensures left { (volume : ℕ) (tree : Tree) (doubt : Option OpenDoubt) (records : List Logged) → R.tells rack.old → RestsOrActed volume floor tree doubt records (R.state rack.old)
         → IsLeft volume floor tree doubt (R.state rack.old) → OnErr result (IsLeft volume floor tree doubt (R.state rack.new)) }
     ensures spares { R.tells rack.old → SparesOthers (R.state rack.old) (R.state rack.new) }
     ensures cause { IsErrOf result Fault → Rose (R.faults rack.old) (R.faults rack.new)
-        ⊎ ((volume : ℕ) (tree : Tree) (doubt : Option Doubt) (records : List Logged) → R.tells rack.old → Comes volume floor tree doubt records (R.state rack.old) → ⊥) }
+        ⊎ ((volume : ℕ) (tree : Tree) (doubt : Option OpenDoubt) (records : List Logged) → R.tells rack.old → RestsOrActed volume floor tree doubt records (R.state rack.old) → ⊥) }
     ensures rack { KeepsCounts R.Rack rack.old rack.new result }
 {
     let Some(log) = read_open(alloc, rack)? else {
@@ -71,9 +71,9 @@ fn answer<R: Rack>(
     log: &OpenLog,
 ) -> Result<Recovery, RackError>
     requires long { AreLong (R.state rack.old).sizes }
-    ensures recovers { (volume : ℕ) (tree : Tree) (doubt : Option Doubt) (records : List Logged) → R.tells rack.old → Comes volume floor tree doubt records (R.state rack.old) → IsOpenLog records log.now
+    ensures recovers { (volume : ℕ) (tree : Tree) (doubt : Option OpenDoubt) (records : List Logged) → R.tells rack.old → RestsOrActed volume floor tree doubt records (R.state rack.old) → IsOpenLog records log.now
         → IfOk result (Recovers volume floor tree doubt (R.state rack.new)) }
-    ensures left { (volume : ℕ) (tree : Tree) (doubt : Option Doubt) (records : List Logged) → R.tells rack.old → Comes volume floor tree doubt records (R.state rack.old) → IsOpenLog records log.now
+    ensures left { (volume : ℕ) (tree : Tree) (doubt : Option OpenDoubt) (records : List Logged) → R.tells rack.old → RestsOrActed volume floor tree doubt records (R.state rack.old) → IsOpenLog records log.now
         → OnErr result (IsLeft volume floor tree doubt (R.state rack.new)) }
     ensures spares { R.tells rack.old → SparesOthers (R.state rack.old) (R.state rack.new) }
     ensures cause { IsErrOf result Fault → Rose (R.faults rack.old) (R.faults rack.new) ⊎ ((records : List Logged) → IsOpenLog records log.now → HasNone (newest_in records)) }
@@ -91,7 +91,7 @@ fn close_all<R: Rack>(alloc: Global, rack: &mut R, log: &OpenLog) -> Result<(), 
     requires long { AreLong (R.state rack.old).sizes }
     ensures closes { (volume floor : ℕ) (tree : Tree) (records : List Logged) → R.tells rack.old → Rests volume floor tree records (R.state rack.old) → IsOpenLog records log.now
         → OnOk result (IsClosed volume tree (R.state rack.new)) }
-    ensures left { (volume floor : ℕ) (tree : Tree) (doubt : Option Doubt) (records : List Logged) → R.tells rack.old → Rests volume floor tree records (R.state rack.old) → IsOpenLog records log.now
+    ensures left { (volume floor : ℕ) (tree : Tree) (doubt : Option OpenDoubt) (records : List Logged) → R.tells rack.old → Rests volume floor tree records (R.state rack.old) → IsOpenLog records log.now
         → OnErr result (IsLeft volume floor tree doubt (R.state rack.new)) }
     ensures spares { R.tells rack.old → SparesOthers (R.state rack.old) (R.state rack.new) }
     ensures cause { IsErrOf result Fault → Rose (R.faults rack.old) (R.faults rack.new) ⊎ ((records : List Logged) → IsOpenLog records log.now → HasNone (newest_in records)) }
@@ -112,7 +112,7 @@ fn close_open<R: Rack>(alloc: Global, rack: &mut R, log: &OpenLog) -> Result<(),
     requires some { 0 < length log.now.points }
     ensures closes { (volume floor : ℕ) (tree : Tree) (records : List Logged) → R.tells rack.old → Rests volume floor tree records (R.state rack.old) → IsOpenLog records log.now
         → OnOk result (StandsAs volume floor tree [] shuts_log (R.state rack.new)) }
-    ensures left { (volume floor : ℕ) (tree : Tree) (doubt : Option Doubt) (records : List Logged) → R.tells rack.old → Rests volume floor tree records (R.state rack.old) → IsOpenLog records log.now
+    ensures left { (volume floor : ℕ) (tree : Tree) (doubt : Option OpenDoubt) (records : List Logged) → R.tells rack.old → Rests volume floor tree records (R.state rack.old) → IsOpenLog records log.now
         → OnErr result (IsLeft volume floor tree doubt (R.state rack.new)) }
     ensures spares { R.tells rack.old → SparesOthers (R.state rack.old) (R.state rack.new) }
     ensures cause { IsErrOf result Fault → Rose (R.faults rack.old) (R.faults rack.new) ⊎ ((records : List Logged) → IsOpenLog records log.now → HasNone (newest_in records)) }

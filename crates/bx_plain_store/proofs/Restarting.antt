@@ -20,7 +20,7 @@ use Rattle.bx_plain_store.specs.declared.inquiries.Inquiry.{Inquiry}
 use Rattle.bx_plain_store.specs.Events.{Went, fits_went, went_none}
 use Rattle.bx_plain_store.specs.Fits.{Fits, Keeps}
 use Rattle.bx_plain_store.specs.Growing.{last_place}
-use Rattle.bx_plain_store.specs.Laws.{KeepsSure}
+use Rattle.bx_plain_store.specs.Laws.{KeepsMembersSure}
 use Rattle.bx_plain_store.specs.Needs.{needs_little, needs_member, needs_none}
 use Rattle.bx_plain_store.specs.Parts.{asked_at, asked_in}
 use Rattle.bx_plain_store.specs.Waiting.{all_up, if_up, is_due, is_unanswered, needs_of, owes_in}
@@ -78,7 +78,7 @@ module _ (made : Made) (g later : ℕ) (owns : List (Option ℕ)) (slots : List 
   pub keeps_failed : Keeps made later owns slots y (store_failed past who boot reading)
   keeps_failed = record { handed = keeps.handed; greatest_is = ap (λ n. max n reading) keeps.greatest_is ∙ sym greatest; fits = fits }
 
-pub sure_sources : (s : GlobalState) (x y : Disks) → y.sizes ≡ x.sizes → KeepsSources s x y → KeepsSure s x y
+pub sure_sources : (s : GlobalState) (x y : Disks) → y.sizes ≡ x.sizes → KeepsSources s x y → KeepsMembersSure s x y
 sure_sources s x y sizes keeps = record {
   each = λ device sector second source sure. let kept = keeps.members device second sector source in (kept.reads, kept.sure sure);
   long = λ device second. ap (λ (all : List ℕ). slice_index all (member_disk device second)) sizes;

@@ -19,7 +19,7 @@ use Rattle.bx_plain_store.specs.declared.inquiries.Inquiry.{Inquiry}
 use Rattle.bx_plain_store.specs.Outs.{at_within}
 use Rattle.bx_plain_store.specs.Events.{session_row}
 use Rattle.bx_plain_store.specs.Fits.{Fits, HasSessionsOf, IsNew, Keeps}
-use Rattle.bx_plain_store.specs.Laws.{KeepsSure, labels_by, labels_kept, own_none, same_devices}
+use Rattle.bx_plain_store.specs.Laws.{KeepsMembersSure, labels_by, labels_kept, own_none, same_devices}
 use Rattle.bx_plain_store.specs.Parts.{asked_at, asked_in}
 
 -- the last state is a place
@@ -32,7 +32,7 @@ last_place chain = among chain.first chain.changes
 
 -- over disks that keep what was sure of sources
 pub fits_sure : (made : Made) (greatest : ℕ) (owns : List (Option ℕ)) (slots : List (Option Write)) (x y : Disks) (chain : Chain) (writes : List Sent)
-    → KeepsSure (last chain) x y → Fits made greatest owns slots x chain writes → Fits made greatest owns slots y chain writes
+    → KeepsMembersSure (last chain) x y → Fits made greatest owns slots x chain writes → Fits made greatest owns slots y chain writes
 fits_sure made greatest owns slots x y chain writes keeps fits = record {
   labels = labels_kept made x y (last chain) keeps fits.labels;
   count = fits.count;
@@ -47,7 +47,7 @@ fits_sure made greatest owns slots x y chain writes keeps fits = record {
 }
 
 pub keeps_sure : (made : Made) (greatest : ℕ) (owns : List (Option ℕ)) (slots : List (Option Write)) (x y : Disks) (past : StorePast)
-    → KeepsSure (last past.told.chain) x y → Keeps made greatest owns slots x past → Keeps made greatest owns slots y past
+    → KeepsMembersSure (last past.told.chain) x y → Keeps made greatest owns slots x past → Keeps made greatest owns slots y past
 keeps_sure made greatest owns slots x y past sure keeps = record {
   handed = keeps.handed;
   greatest_is = keeps.greatest_is;

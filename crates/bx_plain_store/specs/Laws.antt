@@ -53,19 +53,19 @@ labels_by made x s t same labels = record {
 }
 
 -- Sources are kept where they were sure, and are as long.
-pub record KeepsSure (s : GlobalState) (x y : Disks) : Type 0 where
+pub record KeepsMembersSure (s : GlobalState) (x y : Disks) : Type 0 where
   pub each : (device sector : ℕ) (second : Bool) → IsSourceIn s device second → x.unsure (member_disk device second) sector ≡ false
       → (y.reads (member_disk device second) sector ≡ x.reads (member_disk device second) sector) × (y.unsure (member_disk device second) sector ≡ false)
   pub long : (device : ℕ) (second : Bool) → slice_index y.sizes (member_disk device second) ≡ slice_index x.sizes (member_disk device second)
 
-pub settled_kept : (x y : Disks) (s : GlobalState) (device sector : ℕ) (content : List ℕ) → KeepsSure s x y → IsSettled x s device sector content → IsSettled y s device sector content
+pub settled_kept : (x y : Disks) (s : GlobalState) (device sector : ℕ) (content : List ℕ) → KeepsMembersSure s x y → IsSettled x s device sector content → IsSettled y s device sector content
 settled_kept x y s device sector content keeps is = record {
   there = is.there;
   reads = λ second source. (keeps.each device sector second source (is.sure second source)).0 ∙ is.reads second source;
   sure = λ second source. (keeps.each device sector second source (is.sure second source)).1;
 }
 
-pub labels_kept : (made : Made) (x y : Disks) (s : GlobalState) → KeepsSure s x y → HasLabels made x s → HasLabels made y s
+pub labels_kept : (made : Made) (x y : Disks) (s : GlobalState) → KeepsMembersSure s x y → HasLabels made x s → HasLabels made y s
 labels_kept made x y s keeps labels = record {
   reads = λ device second source. subst (SpellsLabel (label_on made (member_disk device second))) (sym (keeps.each device 0 second source (labels.sure device second source)).0) (labels.reads device second source);
   sure = λ device second source. (keeps.each device 0 second source (labels.sure device second source)).1;
@@ -73,7 +73,7 @@ labels_kept made x y s keeps labels = record {
 }
 
 -- so they are at a crash of one disk
-pub sure_survives : (x y : Disks) (s : GlobalState) (disk : ℕ) → SameMemberLengths x y → Crashes disk x y → KeepsSure s x y
+pub sure_survives : (x y : Disks) (s : GlobalState) (disk : ℕ) → SameMemberLengths x y → Crashes disk x y → KeepsMembersSure s x y
 sure_survives x y s disk lengths crash = record {
   each = λ device sector second source sure. by_test (member_disk device second) sector sure (member_disk device second == disk) refl;
   long = λ device second. lengths.each (member_disk device second) (past_replicas device second);
@@ -89,7 +89,7 @@ sure_survives x y s disk lengths crash = record {
         (stays.reads, stays.unsure ∙ sure)
 
 -- and where members stay
-pub sure_elsewhere : (x y : Disks) (s : GlobalState) → SameMemberLengths x y → SameMembers x y → KeepsSure s x y
+pub sure_elsewhere : (x y : Disks) (s : GlobalState) → SameMemberLengths x y → SameMembers x y → KeepsMembersSure s x y
 sure_elsewhere x y s lengths same = record {
   each = λ device sector second source sure.
       let kept = same.each (member_disk device second) sector (past_replicas device second) in
@@ -120,7 +120,7 @@ apart_from s device at second third only source = by_test (member_disk at third 
         absurd (not_source s device second only (subst (λ (b : Bool). IsSourceIn s device b) both.1 (subst (λ (n : ℕ). IsSourceIn s n third) both.0 source)))
 
 -- and where the disk that the mode leaves out is replaced
-pub sure_replaced : (x : Disks) (s : GlobalState) (device : ℕ) (second : Bool) → IsOnlyOther s device second → KeepsSure s x (blanked x (member_disk device second))
+pub sure_replaced : (x : Disks) (s : GlobalState) (device : ℕ) (second : Bool) → IsOnlyOther s device second → KeepsMembersSure s x (blanked x (member_disk device second))
 sure_replaced x s device second only = record {
   each = λ at sector third source sure.
       let apart = apart_from s device at second third only source in
@@ -150,7 +150,7 @@ goes_same writes greatest inquiries x y s t keeps = record {
       is;
 }
 
-pub goes_sure : (writes : List Sent) (greatest : ℕ) (inquiries : List (Option Inquiry)) (x y : Disks) (s : GlobalState) → KeepsSure s x y
+pub goes_sure : (writes : List Sent) (greatest : ℕ) (inquiries : List (Option Inquiry)) (x y : Disks) (s : GlobalState) → KeepsMembersSure s x y
     → GoesOn writes greatest (asked_at inquiries) (IsSettled x s) (IsSettled y s)
     (λ reader sector content. WillRead (asked_at inquiries reader) (answer_at inquiries reader) x s sector content) (λ reader sector content. WillRead (asked_at inquiries reader) (answer_at inquiries reader) y s sector content)
     (λ device sector content index. IsSettled x s device sector content) (λ device sector content index. IsSettled y s device sector content)

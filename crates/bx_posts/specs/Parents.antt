@@ -34,7 +34,7 @@ pub record IsParentAt (reads : Reads) (root level : ℕ) (key : List ℕ) (handl
   pub held : reads.held (block_at handle) Exclusive ≡ Some block
 
 -- it lands at one that isn't
-pub record IsShort (reads : Reads) (root level : ℕ) (key : List ℕ) (at : ℕ) (mode : Mode) : Type 0 where
+pub record IsParentShort (reads : Reads) (root level : ℕ) (key : List ℕ) (at : ℕ) (mode : Mode) : Type 0 where
   pub handle : ℕ
   pub page : Contents
   pub end : ParentEnds reads root level key (Lands handle page)
@@ -44,7 +44,7 @@ pub record IsShort (reads : Reads) (root level : ℕ) (key : List ℕ) (at : ℕ
 
 -- a block is needed on the way to the parent, or is the parent's
 abbrev pub NeedsParent : Reads → ℕ → ℕ → List ℕ → ℕ → Mode → Type 0
-NeedsParent reads root level key at mode = ParentEnds reads root level key (Needs at mode) ⊎ IsShort reads root level key at mode
+NeedsParent reads root level key at mode = ParentEnds reads root level key (Needs at mode) ⊎ IsParentShort reads root level key at mode
 
 -- the page of a level in whose range a key is, to be changed
 abbrev pub ParentOf : Reads → ℕ → ℕ → List ℕ → Result (ℕ × Contents) BlinkError → Type 0

@@ -10,20 +10,20 @@ use Rattle.bx_rounds.specs.declared.course.Course.{Course}
 use Rattle.bx_rounds.specs.declared.course.Move.{Move}
 use Rattle.bx_rounds.proofs.Kept.{proposes_kept, steps_kept}
 use Rattle.bx_rounds.proofs.Leading.{step_on}
-use Rattle.bx_proposer.specs.Standing.{IsStanding, Standing, devices_of, going_on}
+use Rattle.bx_proposer.specs.Standing.{IsProposerView, ProposerView, devices_of, going_on}
 
 -- a proposer whose course goes on
-pub stands_with : (s : Standing) (new : Course) → IsStanding s → IsCourse (devices_of s) new → IsStanding (going_on s new)
+pub stands_with : (s : ProposerView) (new : Course) → IsProposerView s → IsCourse (devices_of s) new → IsProposerView (going_on s new)
 stands_with s new is course = record { machine = is.machine; actor = is.actor; actor_fits = is.actor_fits; others = is.others; first = is.first; course = course }
 
-pub takes_kept : (s : Standing) (count : ℕ) (new : Course) (input : Input) (move : Move) → count ≡ devices_of s → IsStanding s → Steps s.actor count s.course input new move → IsStanding (going_on s new)
+pub takes_kept : (s : ProposerView) (count : ℕ) (new : Course) (input : Input) (move : Move) → count ≡ devices_of s → IsProposerView s → Steps s.actor count s.course input new move → IsProposerView (going_on s new)
 takes_kept s count new input move same is steps =
     stands_with s new is (steps_kept (devices_of s) s.actor s.course new input move is.actor_fits is.course (subst (λ (k : ℕ). Steps s.actor k s.course input new move) same steps))
 
-pub change_kept : (s : Standing) (new : Course) (change : Change) (move : Move) → IsStanding s → IsLegal s.course.known change → IsChange change → Proposes s.actor s.course change new move → IsStanding (going_on s new)
+pub change_kept : (s : ProposerView) (new : Course) (change : Change) (move : Move) → IsProposerView s → IsLegal s.course.known change → IsChange change → Proposes s.actor s.course change new move → IsProposerView (going_on s new)
 change_kept s new change move is legal numbers proposes =
     stands_with s new is (proposes_kept (devices_of s) s.actor s.course new change move is.actor_fits is.course legal numbers proposes)
 
 -- no step forgets
-pub steps_on : (s : Standing) (count : ℕ) (new : Course) (input : Input) (move : Move) → count ≡ devices_of s → IsStanding s → Steps s.actor count s.course input new move → LeadsOn s.course new
+pub steps_on : (s : ProposerView) (count : ℕ) (new : Course) (input : Input) (move : Move) → count ≡ devices_of s → IsProposerView s → Steps s.actor count s.course input new move → LeadsOn s.course new
 steps_on s count new input move devices is steps = step_on (devices_of s) s.actor s.course new input move is.course (subst (λ (k : ℕ). Steps s.actor k s.course input new move) devices steps)

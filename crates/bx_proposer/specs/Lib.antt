@@ -1,3 +1,3 @@
 pub mod Names
 pub mod Letters
-pub mod Standing
+pub mod ProposerView

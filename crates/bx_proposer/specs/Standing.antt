@@ -18,7 +18,7 @@ use Rattle.bx_proposer.specs.Names.{number_of, others_of}
 
 -- A proposer: its machine, the number of nodes, the first state, the machine's number in ballots, all other machines, and what it knows and
 -- has out.
-pub record Standing : Type 0 where
+pub record ProposerView : Type 0 where
   pub at : Actor
   pub nodes : ℕ
   pub first : GlobalState
@@ -26,10 +26,10 @@ pub record Standing : Type 0 where
   pub others : List Actor
   pub course : Course
 
-abbrev pub devices_of : Standing → ℕ
+abbrev pub devices_of : ProposerView → ℕ
 devices_of s = length s.first.devices
 
-pub record IsStanding (s : Standing) : Type 0 where
+pub record IsProposerView (s : ProposerView) : Type 0 where
   pub machine : IsMachine s.nodes s.at
   pub actor : s.actor ≡ number_of s.at
   pub actor_fits : s.actor < 2 ^ 32
@@ -39,22 +39,22 @@ pub record IsStanding (s : Standing) : Type 0 where
 
 -- ---- what it does
 
-abbrev pub going_on : Standing → Course → Standing
+abbrev pub going_on : ProposerView → Course → ProposerView
 going_on s c = record s { course = c }
 
 -- a proposal is out
-abbrev pub IsBusy : Standing → Type 0
+abbrev pub IsBusy : ProposerView → Type 0
 IsBusy s = IsSome s.course.out
 
 -- What comes is taken: the proposer goes on so, and puts its letters into the box.
-pub record Takes (s : Standing) (input : Input) (new : Standing) (before after : List Letter) : Type 0 where
+pub record Takes (s : ProposerView) (input : Input) (new : ProposerView) (before after : List Letter) : Type 0 where
   pub move : Move
   pub steps : Steps s.actor (devices_of s) s.course input new.course move
   pub sends : after ≡ (before ++ asks_at s.at input) ++ letters_of s.at s.others new.course move
   pub stays : new ≡ going_on s new.course
 
 -- A change is proposed.
-pub record ProposesTo (s : Standing) (change : Change) (new : Standing) (before after : List Letter) : Type 0 where
+pub record ProposesTo (s : ProposerView) (change : Change) (new : ProposerView) (before after : List Letter) : Type 0 where
   pub move : Move
   pub proposes : Proposes s.actor s.course change new.course move
   pub sends : after ≡ before ++ letters_of s.at s.others new.course move

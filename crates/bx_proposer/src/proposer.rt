@@ -8,7 +8,7 @@ ghost use Rattle.bx_global.specs.Table.{IsLegal};
 ghost use Rattle.bx_packets.specs.Messages.{IsStateOf};
 ghost use Rattle.bx_proposer.specs.Letters.{asks_of};
 ghost use Rattle.bx_rounds.specs.Courses.{LeadsOn, started, stopped};
-ghost use Rattle.bx_proposer.specs.Standing.{IsBusy, IsStanding, ProposesTo, Takes, devices_of, going_on};
+ghost use Rattle.bx_proposer.specs.Standing.{IsBusy, IsProposerView, ProposesTo, Takes, devices_of, going_on};
 ghost use Rattle.bx_rounds.specs.Steps.{Learns};
 
 use crate::letters::{ask, ask_at, tell};
@@ -34,13 +34,13 @@ pub struct Proposer {
 }
 
 impl Model for Proposer {
-    ghost use Rattle.bx_proposer.specs.Standing.{IsStanding, Standing};
+    ghost use Rattle.bx_proposer.specs.Standing.{IsProposerView, ProposerView};
 
-    ghost Value = { Standing };
+    ghost Value = { ProposerView };
 
     ghost view = { λ p. record { at = p.at; nodes = p.nodes; first = p.first; actor = p.actor; others = p.others; course = p.course } };
 
-    ghost invariant = { λ p. IsStanding (record { at = p.at; nodes = p.nodes; first = p.first; actor = p.actor; others = p.others; course = p.course }) };
+    ghost invariant = { λ p. IsProposerView (record { at = p.at; nodes = p.nodes; first = p.first; actor = p.actor; others = p.others; course = p.course }) };
 }
 
 impl Proposer {
@@ -54,7 +54,7 @@ impl Proposer {
         requires machine { IsMachine nodes at }
         requires state { IsAllowed state.now }
         ensures made { IfOk result (λ p. (p.at ≡ at) × (p.nodes ≡ nodes) × (p.first ≡ state.now) × (p.course ≡ started 0 0 state.now)) }
-        ensures standing { IfOk result IsStanding }
+        ensures standing { IfOk result IsProposerView }
     {
         let devices = state.devices.len() as u32;
         let others = others_of(alloc, at, nodes, devices)?;
@@ -100,7 +100,7 @@ impl Proposer {
         ensures refused { IsErrOf result NotLegal ⊎ IsErrOf result Busy → (self.new ≡ self.old) × (out.new ≡ out.old) }
         ensures out { OnOk result (IsBusy self.new) }
         ensures stays { (self.new ≡ going_on self.old self.new.course) × (self.new.course.known ≡ self.old.course.known) }
-        ensures standing { IsStanding self.new }
+        ensures standing { IsProposerView self.new }
     {
         let course = &mut self.course;
         let move_on = propose(self.alloc, self.actor, course, change)?;
@@ -121,7 +121,7 @@ impl Proposer {
         ensures leads { OnOk result (LeadsOn self.old.course self.new.course) }
         ensures rises { self.old.course.known.index ≤ self.new.course.known.index }
         ensures stays { self.new ≡ going_on self.old self.new.course }
-        ensures standing { IsStanding self.new }
+        ensures standing { IsProposerView self.new }
     {
         let devices = self.first.devices.len() as u32;
         let course = &mut self.course;
@@ -142,7 +142,7 @@ impl Proposer {
         requires { IsStateOf (devices_of self.old) state.now }
         ensures learns { OnOk result (Learns self.old.course state.now self.new.course × (self.new ≡ going_on self.old self.new.course)) }
         ensures err { OnErr result (self.new ≡ self.old) }
-        ensures standing { IsStanding self.new }
+        ensures standing { IsProposerView self.new }
     {
         let known = state.copy(self.alloc)?;
         learn(&mut self.course, known);
@@ -175,7 +175,7 @@ impl Proposer {
         ensures restarts { OnOk result (self.new ≡ going_on self.old (started boot self.old.course.reading self.old.first)) }
         ensures asks { OnOk result (out.new ≡ out.old ++ asks_of self.old.at) }
         ensures stays { self.new ≡ going_on self.old self.new.course }
-        ensures standing { IsStanding self.new }
+        ensures standing { IsProposerView self.new }
     {
         let known = self.first.copy(self.alloc)?;
         self.course.boot = boot;

@@ -43,7 +43,7 @@ first_agrees sizes image first = (
   },
 )
 
-pub labelled_agrees : (devices : ℕ) (sizes : List ℕ) (image : Image) (n : ℕ) → facts.IsLabelled devices sizes image n
+pub labelled_agrees : (devices : ℕ) (sizes : List ℕ) (image : Image) (n : ℕ) → facts.IsReplicaLabelled devices sizes image n
     ↔ ((first : Label) × volumes.IsFirstLabel sizes image first × (first.disk < 3) × (first.devices ≡ devices) × (n < 3) × volumes.IsLabelled sizes image first n)
 labelled_agrees devices sizes image n = (
   λ is.

@@ -1,7 +1,7 @@
 -- What an audit answers, in the state that the rack tells.
 use Rattle.std.proofs.Common.{◌≡◌, ℕ, ◌⊎◌, inl, inr, length, Result, Ok, Err, sym, subst}
 use Rattle.std.specs.Prelude.{IfErr, IfOk}
-use Rattle.bx_audit.specs.Audited.{IsListed, IsRefusal, StandFor}
+use Rattle.bx_audit.specs.Audited.{IsListed, IsAuditRefusal, StandFor}
 use Rattle.bx_audit.specs.declared.listing.Listing.{Listing}
 use Rattle.bx_disk.specs.Disks.{Disks}
 use Rattle.bx_global.specs.declared.state.GlobalState.{GlobalState}
@@ -36,10 +36,10 @@ module _ (x y : Disks) (state : GlobalState) (same : y ≡ x) (own : IsOwnState 
   listed_in_state (Err error) is = tt
 
 module _ (x y : Disks) (one_state : (a b : GlobalState) → IsOwnState x.sizes x.reads a → IsOwnState x.sizes x.reads b → a ≡ b) (state : GlobalState) (same : y ≡ x) (own : IsOwnState x.sizes x.reads state) where
-  pub refused_state : (r : Result Listing AuditError) → IfErr r (λ error. IsBreak error ⊎ IsRefusal y state error) → IfErr r (λ error. IsBreak error ⊎ IsRefusedAlone x error)
+  pub refused_state : (r : Result Listing AuditError) → IfErr r (λ error. IsBreak error ⊎ IsAuditRefusal y state error) → IfErr r (λ error. IsBreak error ⊎ IsRefusedAlone x error)
   refused_state (Ok listed) is = tt
   refused_state (Err error) (inl breaks) = inl breaks
-  refused_state (Err error) (inr refusal) = inr (refused_in x one_state state error own (subst (λ (d : Disks). IsRefusal d state error) same refusal))
+  refused_state (Err error) (inr refusal) = inr (refused_in x one_state state error own (subst (λ (d : Disks). IsAuditRefusal d state error) same refusal))
 
   pub lists : (tree : Tree) → StandAlone x tree → {P : Type 0} → (StandFor y state tree → P) → P
   lists tree stands says = says (subst (λ (d : Disks). StandFor d state tree) (sym same) (in_state x one_state state tree own stands))

@@ -1,6 +1,6 @@
 -- The state that a rack tells, and what it stands for in it.
 use Rattle.std.proofs.Common.{◌≡◌, ℕ, ◌⊎◌, inl, inr, List, length, sym, ap, subst, ◌∙◌}
-use Rattle.bx_audit.specs.Audited.{IsListed, IsRefusal, StandFor}
+use Rattle.bx_audit.specs.Audited.{IsListed, IsAuditRefusal, StandFor}
 use Rattle.bx_audit.specs.declared.listing.Listing.{Listing}
 use Rattle.bx_disk.specs.Disks.{Disks, Image}
 use Rattle.bx_global.specs.declared.state.GlobalState.{GlobalState}
@@ -36,7 +36,7 @@ module _ (disks : Disks) (one_state : (a b : GlobalState) → IsOwnState disks.s
   }
 
   -- refused in the state that it tells
-  pub refused_in : (state : GlobalState) (error : AuditError) → IsOwnState disks.sizes disks.reads state → IsRefusal disks state error → IsRefusedAlone disks error
+  pub refused_in : (state : GlobalState) (error : AuditError) → IsOwnState disks.sizes disks.reads state → IsAuditRefusal disks state error → IsRefusedAlone disks error
   refused_in state error own refusal = record {
     why = inr (inr (record { state = state; is_state = own; refusal = refusal }));
     none = λ tree stands. refusal.none tree (in_state state tree own stands);

@@ -1,6 +1,6 @@
 -- What the disks of a rack tell of themselves: the state that the cells of their replicas tell, and the file tree that they stand for in it.
 use Rattle.std.specs.Prelude.{◌≡◌, ◌⊎◌, ℕ, List, length}
-use Rattle.bx_audit.specs.Audited.{IsListed, IsRefusal}
+use Rattle.bx_audit.specs.Audited.{IsListed, IsAuditRefusal}
 use Rattle.bx_audit.specs.declared.listing.Listing.{Listing}
 use Rattle.bx_disk.specs.Disks.{Disks, Image}
 use Rattle.bx_global.specs.declared.state.GlobalState.{GlobalState}
@@ -40,7 +40,7 @@ pub record IsListedAlone (disks : Disks) (listed : Listing) : Type 0 where
 pub record IsRefusedIn (disks : Disks) (error : AuditError) : Type 0 where
   pub state : GlobalState
   pub is_state : IsOwnState disks.sizes disks.reads state
-  pub refusal : IsRefusal disks state error
+  pub refusal : IsAuditRefusal disks state error
 
 -- why a rack is refused: no disk has a label, which is told of disk 0; or else its cells tell no state; or else it is refused in that state
 abbrev pub RefusesAlone : Disks → AuditError → Type 0

@@ -18,7 +18,7 @@ pub fn first_labels_agree()
 
 /// A replica that is labelled has a label that counts on the volume of the first label.
 pub fn labels_agree()
-    ensures { (devices : ℕ) (sizes : List ℕ) (image : Image) (replica : ℕ) → facts.IsLabelled devices sizes image replica
+    ensures { (devices : ℕ) (sizes : List ℕ) (image : Image) (replica : ℕ) → facts.IsReplicaLabelled devices sizes image replica
         ↔ ((first : Label) × volumes.IsFirstLabel sizes image first × (first.disk < 3) × (first.devices ≡ devices) × (replica < 3) × volumes.IsLabelled sizes image first replica) }
 {}
 

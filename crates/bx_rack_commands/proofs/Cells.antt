@@ -9,7 +9,7 @@ use Rattle.bx_answers.specs.Handling.{first_held}
 use Rattle.bx_cell.proofs.Words.{cell_sectors}
 use Rattle.bx_cell.specs.Formats.{first}
 use Rattle.bx_disk.specs.Disks.{Disks}
-use Rattle.bx_facts.specs.Labelled.{IsLabelled}
+use Rattle.bx_facts.specs.Labelled.{IsReplicaLabelled}
 use Rattle.bx_format.specs.Formats.{HasSizes, IsMade, KeepsBehind}
 use Rattle.bx_format.proofs.Rests as rests
 use Rattle.bx_global.proofs.Begins.{formatted_allowed}
@@ -60,7 +60,7 @@ module _ (done : Disks) (label : Label) (is : IsLabel label) (zero : label.disk 
   is_held = first_is_held s allowed (omega arith)
 
   -- each replica is labelled
-  labelled : (n : ℕ) → n < 3 → IsLabelled (length s.devices) done.sizes done.reads n
+  labelled : (n : ℕ) → n < 3 → IsReplicaLabelled (length s.devices) done.sizes done.reads n
   labelled n low =
       (labelled_agrees (length s.devices) done.sizes done.reads n).1
       (label, rests.is_first done label is made zero, omega (arith, zero), sym (many label.devices), low, rests.labelled done label is made n (omega (arith, low)))

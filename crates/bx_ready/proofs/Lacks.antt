@@ -15,7 +15,7 @@ use Rattle.bx_truth.specs.PageTrees.{HasPage, IsIn, Node, PageTree}
 use Rattle.bx_views.specs.Truths.{Held, Hints, Truth, with_draft}
 use Rattle.bx_ready.specs.Lacking.{FindsRoom, MakesRoom}
 use Rattle.bx_ready.specs.Ready.{IsReady, ReadiesIn, SplitsReady}
-use Rattle.bx_ready.specs.Rooms.{HasRoom, IsFull}
+use Rattle.bx_ready.specs.Rooms.{LeafHasRoom, IsFull}
 use Rattle.bx_ready.specs.Separators.{HasSeparators, LacksSeparator, PostsMissing}
 use Rattle.bx_ready.proofs.Places.{one_place, ready_in}
 
@@ -46,7 +46,7 @@ module _ (areas : ℕ) (held : Held) (hints : Hints) (truth : Truth) (root : ℕ
       not_below key l.high l.passed (rw l.high_is at to)
 
   -- a full leaf has no room
-  pub no_room : (handle : ℕ) (page : Contents) → IsPlaceOf tree 0 key handle page → IsFull page → HasRoom tree key → ⊥
+  pub no_room : (handle : ℕ) (page : Contents) → IsPlaceOf tree 0 key handle page → IsFull page → LeafHasRoom tree key → ⊥
   no_room handle page place full r =
       let same = one_place (chunks_of areas (with_draft truth [])) root tree 0 key handle r.handle page r.page u.is place r.place in
       let sizes : size r.page ≡ size page = ap size same.1 in

@@ -10,13 +10,13 @@ use Rattle.bx_leaves.proofs.Members.{in_split}
 use Rattle.bx_page.proofs.Order.{below_trans}
 use Rattle.bx_page.specs.Contents.{Contents}
 use Rattle.bx_page.specs.Keys.{IsBelow, is_below}
-use Rattle.bx_truth.specs.PageTrees.{Chunks, IsChain, IsIn, IsTree, Leads, Node, PageTree}
+use Rattle.bx_truth.specs.PageTrees.{Chunks, IsChain, IsIn, IsTree, PagesLead, Node, PageTree}
 use Rattle.bx_truth.proofs.OneTree.{same_height, same_levels}
 use Rattle.bx_ready.specs.Ready.{IsReady}
 use Rattle.bx_ready.specs.Separators.{HasSeparators}
 
 -- a key in the range of a page is below where the range of each later one begins
-below_later : (x : Node) (between : List Node) (node : Node) (behind : List Node) (key : List ℕ) → Leads x (between ++ node ∷ behind) → AllByRecursion IsRange (x ∷ (between ++ node ∷ behind))
+below_later : (x : Node) (between : List Node) (node : Node) (behind : List Node) (key : List ℕ) → PagesLead x (between ++ node ∷ behind) → AllByRecursion IsRange (x ∷ (between ++ node ∷ behind))
     → IfSome x.page.high (IsBelow key) → IsBelow key node.begins
 below_later x [] node behind key leads ranges to = rw leads.0.high at to
 below_later x (y ∷ ys) node behind key leads ranges to =

@@ -12,7 +12,7 @@ use Rattle.bx_truth.specs.PageTrees.{Node, PageTree}
 use Rattle.bx_views.specs.Truths.{Truth, Held, Hints}
 use Rattle.bx_ready.specs.Descents.{LeadsWhere}
 use Rattle.bx_ready.specs.Separators.{HasSeparators, OnPostForPath, PostsForIn}
-use Rattle.bx_ready.specs.Spare.{IfFull}
+use Rattle.bx_ready.specs.Spare.{IfNoSlot}
 use Rattle.bx_ready.specs.declared.descents.Descent.TheVariants.{Short}
 use Rattle.bx_ready.proofs.Bounds.{post_crowds, post_full}
 
@@ -40,7 +40,7 @@ module _ (near areas : ℕ) (held : Held) (hints : Hints) (root : ℕ) (key : Li
   post_fair X page Crowded w n = tt
 
 -- where no slot is left
-pub post_ends : (near areas : ℕ) (held : Held) (hints : Hints) (root page : ℕ) (X : Type 0) (error : BlinkError) → NeedsForPost held hints [] root page near areas (Err error) → IfFull {X = X} (NoSlots held near areas []) (Err error)
+pub post_ends : (near areas : ℕ) (held : Held) (hints : Hints) (root page : ℕ) (X : Type 0) (error : BlinkError) → NeedsForPost held hints [] root page near areas (Err error) → IfNoSlot {X = X} (NoSlots held near areas []) (Err error)
 post_ends near areas held hints root page X (Need at mode) n = tt
 post_ends near areas held hints root page X Stale n = tt
 post_ends near areas held hints root page X OutOfMemory n = tt

@@ -2,7 +2,7 @@
 use Rattle.std.proofs.Common.{◌≡◌, ℕ, zero, suc, ◌+◌, ◌*◌, ◌<◌, ◌≤◌, Bool, true, false, cond, arith, get_or, inl, inr, List, refl, sym, ap, ◌∙◌, subst, Ok, Err}
 use Rattle.std.specs.Prelude.{◌≢◌, ◌⊎◌}
 use Rattle.std.proofs.lemmas.List.{get_or-set_other}
-use Rattle.bx_chunks.specs.Allocating.{Adds, AllocatesAt}
+use Rattle.bx_chunks.specs.Allocating.{AddsChunk, AllocatesAt}
 use Rattle.bx_chunks.specs.Counting.{free_in, free_slots}
 use Rattle.bx_chunks.specs.declared.error.ChunkError.TheVariants.{Full}
 use Rattle.bx_chunks.proofs.Allocates.{allocates_in}
@@ -133,7 +133,7 @@ module _ (areas near : ℕ) (held : Held) (truth : Truth) (few : areas ≤ 64) (
   pub full_none : (new : List Changed) (spare : ℕ) → AllocatesAt held old new near areas (Err (Full spare)) → free_slots areas (with_draft truth old) ≡ 0
   full_none new spare at = none_left areas (with_draft truth old) (allocates_in areas near held truth old new few same chunked (Err (Full spare)) at).1
 
-  pub taken : (new : List Changed) (handle : ℕ) → AllocatesAt held old new near areas (Ok handle) → Adds areas (with_draft truth old) (with_draft truth new) handle
+  pub taken : (new : List Changed) (handle : ℕ) → AllocatesAt held old new near areas (Ok handle) → AddsChunk areas (with_draft truth old) (with_draft truth new) handle
   taken new handle at = allocates_in areas near held truth old new few same chunked (Ok handle) at
 
   -- where it isn't one slot less is free

@@ -24,10 +24,10 @@ use Rattle.bx_records.specs.Drafts.{Changed}
 use Rattle.bx_truth.specs.PageTrees.{HasPage, PageTree}
 use Rattle.bx_views.specs.Attempts.{IsHeldDraft}
 use Rattle.bx_views.specs.Truths.{Truth, Held, Hints, with_draft}
-use Rattle.bx_posts.specs.bx_splits.specs.Cutting.{IsOwned, NeedsForSplit, SplitsAt}
+use Rattle.bx_posts.specs.bx_splits.specs.Cutting.{IsOwnPage, NeedsForSplit, SplitsAt}
 use Rattle.bx_posts.specs.bx_splits.specs.Splits.{SplitsIn}
-use Rattle.bx_ready.specs.Rooms.{FindsFull, HasRoom, LandsFull, OnSplitPath, SplitsForIn}
-use Rattle.bx_ready.specs.Spare.{IfFull}
+use Rattle.bx_ready.specs.Rooms.{FindsFull, LeafHasRoom, LandsFull, OnSplitPath, SplitsForIn}
+use Rattle.bx_ready.specs.Spare.{IfNoSlot}
 use Rattle.bx_ready.proofs.Bounds.{split_crowds, split_full}
 
 some_same : (a b : Block) → Some a ≡ Some b → a ≡ b
@@ -38,7 +38,7 @@ same_page a b p q e hp hq = one_page p q b.payload (subst (λ (x : Block). HasPa
 
 -- what is held exclusively at a full leaf is full
 pub full_owned : (held : Held) (hints : Hints) (root : ℕ) (key : List ℕ) (handle : ℕ) → Shares held → LandsFull (reads_with held hints []) root key handle
-    → (contents : Contents) → IsOwned (reads_with held hints []) handle contents → 4096 < size contents + 544
+    → (contents : Contents) → IsOwnPage (reads_with held hints []) handle contents → 4096 < size contents + 544
 full_owned held hints root key handle shares f contents o =
     let reads : Reads = reads_with held hints [] in
     let l = landing reads 0 Exclusive key most (start root Exclusive) handle f.page f.leaf.end in
@@ -71,7 +71,7 @@ module _ (areas : ℕ) (held : Held) (hints : Hints) (truth : Truth) (root : ℕ
   walk_error Present f = f
   walk_error Crowded f = absurd f
 
-  pub split_error : (near : ℕ) (new : List Changed) (leaf : ℕ) (error : BlinkError) → (HasRoom tree key → ⊥) → SplitsAt held hints [] [] root leaf near areas (Err error) → SplitsIn areas held hints truth [] new root tree leaf (Err error)
+  pub split_error : (near : ℕ) (new : List Changed) (leaf : ℕ) (error : BlinkError) → (LeafHasRoom tree key → ⊥) → SplitsAt held hints [] [] root leaf near areas (Err error) → SplitsIn areas held hints truth [] new root tree leaf (Err error)
       → SplitsForIn areas held hints truth root tree key (Err error)
   split_error near new leaf (Need at mode) lacks a s = tt
   split_error near new leaf Stale lacks a s = s
@@ -116,7 +116,7 @@ module _ (near areas : ℕ) (held : Held) (hints : Hints) (root : ℕ) (key : Li
 
 -- ---- where no slot is left
 
-pub walk_full : (Holds : ℕ → Type 0) (held : Held) (hints : Hints) (root : ℕ) (key : List ℕ) (X : Type 0) (error : BlinkError) → FindsFull (reads_with held hints []) root key (Err error) → IfFull {X = X} Holds (Err error)
+pub walk_full : (Holds : ℕ → Type 0) (held : Held) (hints : Hints) (root : ℕ) (key : List ℕ) (X : Type 0) (error : BlinkError) → FindsFull (reads_with held hints []) root key (Err error) → IfNoSlot {X = X} Holds (Err error)
 walk_full Holds held hints root key X (Need at mode) f = tt
 walk_full Holds held hints root key X Stale f = tt
 walk_full Holds held hints root key X OutOfMemory f = tt
@@ -126,7 +126,7 @@ walk_full Holds held hints root key X Absent f = tt
 walk_full Holds held hints root key X Present f = tt
 walk_full Holds held hints root key X Crowded f = tt
 
-pub split_ends : (near areas : ℕ) (held : Held) (leaf : ℕ) (X : Type 0) (error : BlinkError) → NeedsForSplit held near areas [] leaf (Err error) → IfFull {X = X} (NoSlots held near areas []) (Err error)
+pub split_ends : (near areas : ℕ) (held : Held) (leaf : ℕ) (X : Type 0) (error : BlinkError) → NeedsForSplit held near areas [] leaf (Err error) → IfNoSlot {X = X} (NoSlots held near areas []) (Err error)
 split_ends near areas held leaf X (Need at mode) n = tt
 split_ends near areas held leaf X Stale n = tt
 split_ends near areas held leaf X OutOfMemory n = tt

@@ -13,14 +13,14 @@ use Rattle.bx_tree_files.specs.Files.{file_at}
 use Rattle.bx_truth.specs.PageTrees.{PageTree}
 use Rattle.bx_truth.specs.Stands.{StandsFor}
 use Rattle.bx_views.specs.Truths.{Truth, Held, Hints, IsTruth}
-use Rattle.bx_ready.specs.Rooms.{HasRoom, OnSplitPath, SplitsLeaf}
+use Rattle.bx_ready.specs.Rooms.{LeafHasRoom, OnSplitPath, SplitsLeaf}
 use Rattle.bx_ready.specs.Separators.{HasSeparators, OnPostForPath, PostsMissing}
 use Rattle.bx_ready.specs.Spare.{TellsFew}
 
 -- an entry under a key finds room in its leaf, below no missing separator
 pub record IsReady (tree : PageTree) (key : List ℕ) : Type 0 where
   pub posted : HasSeparators tree key
-  pub room : HasRoom tree key
+  pub room : LeafHasRoom tree key
 
 -- a draft splits a full leaf below no missing separator
 pub record SplitsReady (areas : ℕ) (held : Held) (hints : Hints) (truth : Truth) (new : List Changed) (root : ℕ) (tree : PageTree) (key : List ℕ) : Type 0 where

@@ -53,7 +53,7 @@ pub record SplitsLeaf (areas : ℕ) (held : Held) (hints : Hints) (truth : Truth
   pub splits : SplitsPage areas held hints truth [] new root tree handle
 
 -- the leaf in whose range a key is has room for two greatest entries
-pub record HasRoom (tree : PageTree) (key : List ℕ) : Type 0 where
+pub record LeafHasRoom (tree : PageTree) (key : List ℕ) : Type 0 where
   pub handle : ℕ
   pub page : Contents
   pub place : IsPlaceOf tree 0 key handle page
@@ -63,8 +63,8 @@ pub record HasRoom (tree : PageTree) (key : List ℕ) : Type 0 where
 -- Full it tells fewer than 8, and the leaf is full.
 abbrev pub SplitsForIn : ℕ → Held → Hints → Truth → ℕ → PageTree → List ℕ → Result (Option (List Changed)) BlinkError → Type 0
 SplitsForIn areas held hints truth root tree key (Ok (Some new)) = SplitsLeaf areas held hints truth new root tree key
-SplitsForIn areas held hints truth root tree key (Ok None) = HasRoom tree key
-SplitsForIn areas held hints truth root tree key (Err (Full spare)) = TellsFew areas truth spare × (HasRoom tree key → ⊥)
+SplitsForIn areas held hints truth root tree key (Ok None) = LeafHasRoom tree key
+SplitsForIn areas held hints truth root tree key (Err (Full spare)) = TellsFew areas truth spare × (LeafHasRoom tree key → ⊥)
 SplitsForIn areas held hints truth root tree key (Err (Need at mode)) = Unit {0}
 SplitsForIn areas held hints truth root tree key (Err Crowded) = ⊥
 SplitsForIn areas held hints truth root tree key (Err OutOfMemory) = Unit {0}

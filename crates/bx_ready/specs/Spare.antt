@@ -10,13 +10,13 @@ abbrev pub TellsFew : ℕ → Truth → ℕ → Type 0
 TellsFew areas truth spare = (spare ≡ free_slots areas truth) × (spare < 8)
 
 -- what holds of the number that is told where no slot is left
-abbrev pub IfFull : {X : Type 0} → (ℕ → Type 0) → Result X BlinkError → Type 0
-IfFull Holds (Err (Full spare)) = Holds spare
-IfFull Holds (Err (Need at mode)) = Unit {0}
-IfFull Holds (Err Stale) = Unit {0}
-IfFull Holds (Err (NoRoom leaf)) = Unit {0}
-IfFull Holds (Err Absent) = Unit {0}
-IfFull Holds (Err Present) = Unit {0}
-IfFull Holds (Err OutOfMemory) = Unit {0}
-IfFull Holds (Err Crowded) = Unit {0}
-IfFull Holds (Ok value) = Unit {0}
+abbrev pub IfNoSlot : {X : Type 0} → (ℕ → Type 0) → Result X BlinkError → Type 0
+IfNoSlot Holds (Err (Full spare)) = Holds spare
+IfNoSlot Holds (Err (Need at mode)) = Unit {0}
+IfNoSlot Holds (Err Stale) = Unit {0}
+IfNoSlot Holds (Err (NoRoom leaf)) = Unit {0}
+IfNoSlot Holds (Err Absent) = Unit {0}
+IfNoSlot Holds (Err Present) = Unit {0}
+IfNoSlot Holds (Err OutOfMemory) = Unit {0}
+IfNoSlot Holds (Err Crowded) = Unit {0}
+IfNoSlot Holds (Ok value) = Unit {0}

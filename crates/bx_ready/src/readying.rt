@@ -6,7 +6,7 @@ ghost use Rattle.bx_model.specs.declared.tree.Tree.{Tree};
 ghost use Rattle.bx_ready.specs.Common.{IsHeldDraft, NeedsUnheld, NoSlots, PageTree, TakesSlots, Truth, Under};
 ghost use Rattle.bx_ready.specs.Lacking.{FindsRoom, MakesRoom};
 ghost use Rattle.bx_ready.specs.Ready.{IsFileUnder, OnReadyPath, ReadiesIn};
-ghost use Rattle.bx_ready.specs.Spare.{IfFull};
+ghost use Rattle.bx_ready.specs.Spare.{IfNoSlot};
 
 use crate::rooms::split_for;
 use crate::separators::post_for;
@@ -28,7 +28,7 @@ pub fn ready<V: View>(alloc: Global, view: &V, at: &Target) -> Result<Option<Dra
     ensures files { (truth : Truth) (tree : Tree) → IsFileUnder at.now.areas (V.held view.now) (V.hints view.now) truth at.now.root tree → IfOk result (λ found. IfSome found (λ new. KeepsFiles at.now.areas truth [] new tree)) }
     ensures fair { NeedsUnheld (V.held view.now) (OnReadyPath at.now.near at.now.areas (V.held view.now) (V.hints view.now) at.now.root at.now.key.now) result }
     ensures held { IfOk result (λ found. IfSome found (IsHeldDraft (V.held view.now))) }
-    ensures full { IfFull (NoSlots (V.held view.now) at.now.near at.now.areas []) result }
+    ensures full { IfNoSlot (NoSlots (V.held view.now) at.now.near at.now.areas []) result }
     ensures taken { IfOk result (λ found. IfSome found (TakesSlots (V.held view.now) at.now.near at.now.areas [])) }
 {
     first_of(alloc, view, at)
@@ -39,7 +39,7 @@ fn first_of<V: View>(alloc: Global, view: &V, at: &Target) -> Result<Option<Draf
     ensures map { (truth : Truth) (tree : PageTree) → Under at.now.areas (V.held view.now) (V.hints view.now) truth [] at.now.root tree → ReadiesIn at.now.areas (V.held view.now) (V.hints view.now) truth at.now.root tree at.now.key.now result }
     ensures fair { NeedsUnheld (V.held view.now) (OnReadyPath at.now.near at.now.areas (V.held view.now) (V.hints view.now) at.now.root at.now.key.now) result }
     ensures held { IfOk result (λ found. IfSome found (IsHeldDraft (V.held view.now))) }
-    ensures full { IfFull (NoSlots (V.held view.now) at.now.near at.now.areas []) result }
+    ensures full { IfNoSlot (NoSlots (V.held view.now) at.now.near at.now.areas []) result }
     ensures taken { IfOk result (λ found. IfSome found (TakesSlots (V.held view.now) at.now.near at.now.areas [])) }
 {
     match post_for(alloc, view, at) {

@@ -3,7 +3,7 @@
 ghost use Rattle.std.specs.Prelude.{◌≡◌, [], IfOk, IfSome};
 ghost use Rattle.bx_ready.specs.Common.{IsHeldDraft, NeedsUnheld, NoSlots, PageTree, TakesSlots, Truth, Under};
 ghost use Rattle.bx_ready.specs.Separators.{OnPostForPath, PostsForIn};
-ghost use Rattle.bx_ready.specs.Spare.{IfFull};
+ghost use Rattle.bx_ready.specs.Spare.{IfNoSlot};
 
 use crate::descents::{Descent, descend};
 use crate::target::Target;
@@ -25,7 +25,7 @@ pub fn post_for<V: View>(alloc: Global, view: &V, at: &Target) -> Result<Option<
     ensures map { (truth : Truth) (tree : PageTree) → Under at.now.areas (V.held view.now) (V.hints view.now) truth [] at.now.root tree → PostsForIn at.now.areas (V.held view.now) (V.hints view.now) truth at.now.root tree at.now.key.now result }
     ensures fair { NeedsUnheld (V.held view.now) (OnPostForPath at.now.near at.now.areas (V.held view.now) (V.hints view.now) at.now.root at.now.key.now) result }
     ensures held { IfOk result (λ found. IfSome found (IsHeldDraft (V.held view.now))) }
-    ensures full { IfFull (NoSlots (V.held view.now) at.now.near at.now.areas []) result }
+    ensures full { IfNoSlot (NoSlots (V.held view.now) at.now.near at.now.areas []) result }
     ensures taken { IfOk result (λ found. IfSome found (TakesSlots (V.held view.now) at.now.near at.now.areas [])) }
 {
     match descend(view, at.root, at.key) {

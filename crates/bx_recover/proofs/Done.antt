@@ -7,15 +7,15 @@ use Rattle.bx_logs.specs.Bodies.{point_of}
 use Rattle.bx_redo.specs.declared.work.Work.TheVariants as works
 use Rattle.bx_redo.specs.bx_volume.specs.Records.{Logged}
 use Rattle.bx_recover.specs.Bodies.{HasNoRecord, IsRecordIn}
-use Rattle.bx_recover.specs.Done.{AreHome, AreRead, HasDone, HasGates, HasRun, HasSettled, IsFirstClosed, IsLast, IsReadIn, Leads, Step, points_in, told}
-use Rattle.bx_recover.specs.Recovering.{Adds, AsksBodyAgain, AsksFirst, AsksGatesAgain, AsksNext, Comes, FindsClosed, FindsNone, GoesOn, RecoveryView, SendsHomes, Settled, Stays, TakesBody, TakesGates, TellsAll, TellsThose, WritesBack, brings_home, closes, reads_body, reads_gates, settles}
+use Rattle.bx_recover.specs.Done.{AreHome, AreRead, HasDone, HasGates, HasRun, HasSettled, IsFirstClosed, IsLast, IsReadIn, StepsLead, RecoveryStep, points_in, told}
+use Rattle.bx_recover.specs.Recovering.{EntersStageWith, AsksBodyAgain, AsksFirst, AsksGatesAgain, AsksNext, EntersStage, FindsClosed, FindsNone, RecoveryGoesOn, RecoveryView, SendsHomes, Settled, Stays, TakesBody, TakesGates, TellsAll, TellsThose, WritesBack, brings_home, closes, reads_body, reads_gates, settles}
 use Rattle.bx_recover.specs.declared.moves.Move.{Move}
 use Rattle.bx_recover.specs.declared.moves.Move.TheVariants.{Acked, Closed as Ended, Wait}
 use Rattle.bx_recover.specs.declared.stage.Stage.{Stage}
 use Rattle.bx_recover.proofs.Lists.{split_last}
 use Rattle.bx_recover.specs.declared.stage.Stage.TheVariants.{Begins, Gates, Settles, Bodies, Told, Homes, Closes, Shuts, Closed}
 
-module _ (old : RecoveryView) (steps : List Step) (step : Step) where
+module _ (old : RecoveryView) (steps : List RecoveryStep) (step : RecoveryStep) where
   -- ---- what was done before is done
 
   abbrev pub at : Stage → List Logged → RecoveryView
@@ -54,7 +54,7 @@ module _ (old : RecoveryView) (steps : List Step) (step : Step) where
   pub tells : (points : List Point) → told steps ≡ [] → step.said ≡ Acked points → told (step ∷ steps) ≡ points
   tells points none said = ap (λ (m : Move). told steps ++ points_in m) said ∙ ap (λ (l : List Point). l ++ points) none
 
-  pub none_read : (recovery : RecoveryView) (all : List Step) → recovery.records ≡ [] → AreRead recovery all
+  pub none_read : (recovery : RecoveryView) (all : List RecoveryStep) → recovery.records ≡ [] → AreRead recovery all
   none_read recovery all none = λ body logged there. absurd (let e = sym (ap (λ (l : List Logged). slice_get l body) none) ∙ there in absurd cc)
 
   -- ---- it waits
@@ -80,7 +80,7 @@ module _ (old : RecoveryView) (steps : List Step) (step : Step) where
 
   module _ (new : RecoveryView) where
     -- it comes to a stage, where that is done
-    comes : (stage : Stage) (said : Move) → Comes old new stage step.said said → HasDone (at stage old.records) (step ∷ steps) stage → HasDone new (step ∷ steps) new.stage
+    comes : (stage : Stage) (said : Move) → EntersStage old new stage step.said said → HasDone (at stage old.records) (step ∷ steps) stage → HasDone new (step ∷ steps) new.stage
     comes stage said is done = subst (λ (recovery : RecoveryView). HasDone recovery (step ∷ steps) recovery.stage) (sym is.now) done
 
     stays : (stage : Stage) (said : Move) → old.stage ≡ stage → Stays old new step.said said → HasDone old (step ∷ steps) stage → HasDone new (step ∷ steps) new.stage
@@ -147,7 +147,7 @@ module _ (old : RecoveryView) (steps : List Step) (step : Step) where
             here : IsLast steps (reads_body old body)
             here = subst (λ (n : ℕ). IsLast steps (reads_body old n)) (sym last.0) done.4
 
-    adds : (logged : Logged) (stage : Stage) (said : Move) → Adds old new logged stage step.said said → HasDone (at stage (old.records ++ logged ∷ [])) (step ∷ steps) stage → HasDone new (step ∷ steps) new.stage
+    adds : (logged : Logged) (stage : Stage) (said : Move) → EntersStageWith old new logged stage step.said said → HasDone (at stage (old.records ++ logged ∷ [])) (step ∷ steps) stage → HasDone new (step ∷ steps) new.stage
     adds logged stage said is done = subst (λ (recovery : RecoveryView). HasDone recovery (step ∷ steps) recovery.stage) (sym is.now) done
 
     takes_body : (opened : ℕ) (bytes : List ℕ) → old.stage ≡ Bodies opened → HasDone old steps (Bodies opened) → step.arrived ≡ Some bytes → TakesBody old opened bytes new step.said → HasDone new (step ∷ steps) new.stage
@@ -202,7 +202,7 @@ module _ (old : RecoveryView) (steps : List Step) (step : Step) where
         comes Homes (brings_home old is.blocks) is.comes (later_run Homes done.0, quiet (brings_home old is.blocks) is.comes.says refl ∙ done.1, (is.blocks, is.newest, inl is.comes.says))
 
     goes : (stage : Stage) → old.stage ≡ stage → HasDone old steps stage → (arrived : Option (List ℕ)) → step.arrived ≡ arrived → (is_done : Bool) → step.done ≡ is_done
-        → GoesOn old arrived is_done new step.said stage → HasDone new (step ∷ steps) new.stage
+        → RecoveryGoesOn old arrived is_done new step.said stage → HasDone new (step ∷ steps) new.stage
     goes Begins was done arrived came is_done is goes_on = comes Gates (reads_gates old) goes_on (done.0, quiet (reads_gates old) goes_on.says refl ∙ done.1, inl goes_on.says)
     goes Gates was done None came is_done is goes_on = waiting Gates was done goes_on
     goes Gates was done (Some bytes) came is_done is goes_on = takes_gates bytes was done came goes_on
@@ -230,7 +230,7 @@ module _ (old : RecoveryView) (steps : List Step) (step : Step) where
     goes Closed was done arrived came is_done is goes_on =
         stays Closed Ended was goes_on (later_home old.stage done.0 (quiet Ended goes_on.says refl), later_first old.stage done.1, inr done.2)
 
-pub what_was_done : (first : RecoveryView) → first.stage ≡ Begins → first.records ≡ [] → (steps : List Step) (recovery : RecoveryView) → Leads first steps recovery → HasDone recovery steps recovery.stage
+pub what_was_done : (first : RecoveryView) → first.stage ≡ Begins → first.records ≡ [] → (steps : List RecoveryStep) (recovery : RecoveryView) → StepsLead first steps recovery → HasDone recovery steps recovery.stage
 what_was_done first begins none [] recovery is =
     subst (λ (r : RecoveryView). HasDone r [] r.stage) (sym is) (subst (HasDone first []) (sym begins) (none, refl))
 what_was_done first begins none (step ∷ steps) recovery (old, led, went) =

@@ -5,7 +5,7 @@ use Rattle.bx_records.specs.Drafts.{Changed}
 use Rattle.bx_redo.specs.bx_volume.specs.Records.{Logged}
 use Rattle.bx_recover.specs.Gates.{IsOpenRun}
 use Rattle.bx_recover.specs.HomesOf.{AreNewestOf}
-use Rattle.bx_recover.specs.Recovering.{Adds, AsksBodyAgain, AsksFirst, AsksGatesAgain, AsksNext, Comes, FindsClosed, FindsNone, GoesOn, RecoveryView, SendsHomes, Settled, Stays, TakesBody, TakesGates, TellsAll, TellsThose, WritesBack, brings_home, reads_body, settles}
+use Rattle.bx_recover.specs.Recovering.{EntersStageWith, AsksBodyAgain, AsksFirst, AsksGatesAgain, AsksNext, EntersStage, FindsClosed, FindsNone, RecoveryGoesOn, RecoveryView, SendsHomes, Settled, Stays, TakesBody, TakesGates, TellsAll, TellsThose, WritesBack, brings_home, reads_body, settles}
 use Rattle.bx_recover.specs.declared.moves.Move.{Move}
 use Rattle.bx_recover.specs.declared.moves.Move.TheVariants.{Acked}
 use Rattle.bx_recover.specs.declared.stage.Stage.{Stage}
@@ -37,10 +37,10 @@ module _ (old new other : RecoveryView) (move another : Move) where
   stay : (said : Move) → Stays old new move said → Stays old other another said → AreOne
   stay said is is_too = both old said is.now is.says is_too.now is_too.says
 
-  come : (stage : Stage) (said : Move) → Comes old new stage move said → Comes old other stage another said → AreOne
+  come : (stage : Stage) (said : Move) → EntersStage old new stage move said → EntersStage old other stage another said → AreOne
   come stage said is is_too = both (record old { stage = stage }) said is.now is.says is_too.now is_too.says
 
-  add : (stage : Stage) (say : Logged → Move) (logged logged_too : Logged) → logged ≡ logged_too → Adds old new logged stage move (say logged) → Adds old other logged_too stage another (say logged_too) → AreOne
+  add : (stage : Stage) (say : Logged → Move) (logged logged_too : Logged) → logged ≡ logged_too → EntersStageWith old new logged stage move (say logged) → EntersStageWith old other logged_too stage another (say logged_too) → AreOne
   add stage say logged logged_too same is is_too = both (record old { stage = stage; records = old.records ++ logged ∷ [] }) (say logged) is.now is.says
       (is_too.now ∙ sym (ap (λ (l : Logged). record old { stage = stage; records = old.records ++ l ∷ [] }) same)) (is_too.says ∙ sym (ap say same))
 
@@ -93,7 +93,7 @@ module _ (old new other : RecoveryView) (move another : Move) where
       both (record old { stage = Homes }) (brings_home old is.blocks) is.comes.now is.comes.says is_too.comes.now
       (is_too.comes.says ∙ sym (ap (brings_home old) (one_newest old.records is.blocks is_too.blocks is.newest is_too.newest)))
 
-  pub one_step : (stage : Stage) (arrived : Option (List ℕ)) (done : Bool) → GoesOn old arrived done new move stage → GoesOn old arrived done other another stage → (new ≡ other) × (move ≡ another)
+  pub one_step : (stage : Stage) (arrived : Option (List ℕ)) (done : Bool) → RecoveryGoesOn old arrived done new move stage → RecoveryGoesOn old arrived done other another stage → (new ≡ other) × (move ≡ another)
   one_step Begins arrived done is is_too = come _ _ is is_too
   one_step Gates None done is is_too = stay _ is is_too
   one_step Gates (Some bytes) done is is_too = gates bytes is is_too

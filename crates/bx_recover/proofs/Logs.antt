@@ -10,7 +10,7 @@ use Rattle.bx_redo.specs.bx_volume.specs.Overlay.{filled_of}
 use Rattle.bx_redo.specs.bx_volume.proofs.OneLog.{one_logged}
 use Rattle.bx_redo.specs.bx_volume.proofs.Sizes.{filled_below, filled_there}
 use Rattle.bx_recover.specs.Bodies.{IsRecordIn}
-use Rattle.bx_recover.specs.Done.{HasRun, IsEmptyBody, Step, WasRead}
+use Rattle.bx_recover.specs.Done.{HasRun, IsEmptyBody, RecoveryStep, WasRead}
 use Rattle.bx_recover.specs.Reading.{AreBodies, AreGates}
 use Rattle.bx_recover.specs.Recovering.{RecoveryView, reads_body}
 use Rattle.bx_recover.proofs.Lists.{item_at, same_items, split_last}
@@ -73,7 +73,7 @@ filled_at (newest ∷ older) body logged there =
     (omega (arith, here), filled_there older newest body here ∙ ap (λ (l : Logged). length (logged_text l) / 512) last.1))
     (split_last (reverse older) newest body logged (subst (λ (l : List Logged). slice_get l body ≡ Some logged) (reverse-append (newest ∷ []) older) there))
 
-module _ (held : Image) (recovery : RecoveryView) (steps : List Step) (records : List Logged) (is : HasRun recovery steps) (gates : AreGates held recovery.devices recovery.slot is.settled.gates)
+module _ (held : Image) (recovery : RecoveryView) (steps : List RecoveryStep) (records : List Logged) (is : HasRun recovery steps) (gates : AreGates held recovery.devices recovery.slot is.settled.gates)
     (bodies : AreBodies held recovery steps records) (log : IsLog held recovery.devices recovery.areas recovery.slot records) where
   sides : (n m : ℕ) → (n < m) ⊎ (m ≤ n)
   sides n m = grind arith

@@ -3,8 +3,8 @@ use Rattle.std.proofs.Common.{◌≡◌, ◌∙◌, ℕ, arith, Bool, true, fals
 use Rattle.std.specs.Prelude.{◌==◌}
 use Rattle.std.proofs.lemmas.Bool.Decides.{nat_tests}
 use Rattle.bx_records.specs.Runs.{KindAndRuns}
-use Rattle.bx_recover.specs.Done.{AreHome, BringsHome, HasDone, Step}
-use Rattle.bx_recover.specs.Recovering.{AsksBodyAgain, AsksFirst, AsksGatesAgain, AsksNext, Comes, FindsClosed, FindsNone, GoesOn, RecoveryView, Settled, TakesBody, TakesGates, TellsAll, TellsThose, WritesBack}
+use Rattle.bx_recover.specs.Done.{AreHome, BringsHome, HasDone, RecoveryStep}
+use Rattle.bx_recover.specs.Recovering.{AsksBodyAgain, AsksFirst, AsksGatesAgain, AsksNext, EntersStage, FindsClosed, FindsNone, RecoveryGoesOn, RecoveryView, Settled, TakesBody, TakesGates, TellsAll, TellsThose, WritesBack}
 use Rattle.bx_recover.specs.declared.moves.Move.{Move}
 use Rattle.bx_recover.specs.declared.moves.Move.TheVariants.{Acked, Closed as Ended, Read, Wait, Write}
 use Rattle.bx_recover.specs.declared.stage.Stage.{Stage}
@@ -27,7 +27,7 @@ other_kind move said kind is kind_is other = apart (kind_of said) (sym (ap kind_
 one_write : (a b : KindAndRuns) → Write a ≡ Write b → a ≡ b
 one_write a b e = cc
 
-module _ (old new : RecoveryView) (steps : List Step) (runs : KindAndRuns) where
+module _ (old new : RecoveryView) (steps : List RecoveryStep) (runs : KindAndRuns) where
   -- ---- homes
 
   module _ (home : runs.0 ≡ 16) where
@@ -49,7 +49,7 @@ module _ (old new : RecoveryView) (steps : List Step) (runs : KindAndRuns) where
     body_home opened bytes (TellsThose long none some is) = not_so _ is.says refl
     body_home opened bytes (FindsNone long none empty is) = not_so _ is.says refl
 
-    pub homes_after : (stage : Stage) → HasDone old steps stage → (arrived : Option (List ℕ)) (done : Bool) → GoesOn old arrived done new (Write runs) stage → BringsHome old steps runs.1
+    pub homes_after : (stage : Stage) → HasDone old steps stage → (arrived : Option (List ℕ)) (done : Bool) → RecoveryGoesOn old arrived done new (Write runs) stage → BringsHome old steps runs.1
     homes_after Begins was arrived done is = not_so _ is.says refl
     homes_after Gates was None done is = not_so _ is.says refl
     homes_after Gates was (Some bytes) done is = gates_home bytes is
@@ -74,14 +74,14 @@ module _ (old new : RecoveryView) (steps : List Step) (runs : KindAndRuns) where
 
   -- ---- gates that are closed
 
-  module _ (shut : runs.0 ≡ 17) (all : List Step) (has : HasDone new all new.stage) where
+  module _ (shut : runs.0 ≡ 17) (all : List RecoveryStep) (has : HasDone new all new.stage) where
     never : (said : Move) → Write runs ≡ said → (kind_of said == 17) ≡ false → AreHome new all
     never said is other = absurd (other_kind (Write runs) said 17 is shut other)
 
-    closing : (said : Move) → Comes old new Closes (Write runs) said → AreHome new all
+    closing : (said : Move) → EntersStage old new Closes (Write runs) said → AreHome new all
     closing said is = (subst (HasDone new all) (ap (λ (recovery : RecoveryView). recovery.stage) is.now) has).0
 
-    shutting : (said : Move) → Comes old new Shuts (Write runs) said → AreHome new all
+    shutting : (said : Move) → EntersStage old new Shuts (Write runs) said → AreHome new all
     shutting said is = (subst (HasDone new all) (ap (λ (recovery : RecoveryView). recovery.stage) is.now) has).0
 
     gates_shut : (bytes : List ℕ) → TakesGates old bytes new (Write runs) → AreHome new all
@@ -99,7 +99,7 @@ module _ (old new : RecoveryView) (steps : List Step) (runs : KindAndRuns) where
     body_shut opened bytes (TellsThose long none some is) = never _ is.says refl
     body_shut opened bytes (FindsNone long none empty is) = closing _ is
 
-    pub shut_after : (stage : Stage) (arrived : Option (List ℕ)) (done : Bool) → GoesOn old arrived done new (Write runs) stage → AreHome new all
+    pub shut_after : (stage : Stage) (arrived : Option (List ℕ)) (done : Bool) → RecoveryGoesOn old arrived done new (Write runs) stage → AreHome new all
     shut_after Begins arrived done is = never _ is.says refl
     shut_after Gates None done is = never _ is.says refl
     shut_after Gates (Some bytes) done is = gates_shut bytes is

@@ -2,7 +2,7 @@
 use Rattle.std.proofs.Common.{◌≡◌, ℕ, ◌+◌, ◌-◌, ◌*◌, ◌<◌, ◌≤◌, arith, List, length, take, drop, length-drop, sym, ap, ◌∙◌, refl}
 use Rattle.std.proofs.lemmas.List.{drop-drop, drop-take, length-take, take-take}
 use Rattle.bx_disk.specs.Disks.{sector_of}
-use Rattle.bx_logs.specs.bx_homes.specs.Standing.{StandsAt}
+use Rattle.bx_logs.specs.bx_homes.specs.Standing.{BlockStandsAt}
 use Rattle.bx_layout.specs.declared.block.Block.{Block}
 use Rattle.bx_layout.specs.Blocks.{SpellsBlock, block_text}
 use Rattle.bx_redo.specs.bx_volume.proofs.OneTruth.{same_sectors}
@@ -26,13 +26,13 @@ module _ (bytes : List ℕ) (from count sector : ℕ) (begins : from ≡ 512 * s
       ∙ ap (take 512) (drop-drop (512 * i) from bytes)
       ∙ ap (λ (n : ℕ). take 512 (drop n bytes)) there
 
-  pub block_there : (block : Block) → SpellsBlock block (take count (drop from bytes)) → StandsAt (held_in bytes) 0 sector block
+  pub block_there : (block : Block) → SpellsBlock block (take count (drop from bytes)) → BlockStandsAt (held_in bytes) 0 sector block
   block_there block spells = record {
     is = spells.is;
     reads = record { each = λ i less. sym (slice_sector i (omega (arith, less, block_bytes block spells.is))) ∙ ap (λ (l : List ℕ). sector_of l i) spells.parts };
   }
 
-  pub block_spelled : (block : Block) → from + 4608 ≤ length bytes → StandsAt (held_in bytes) 0 sector block → SpellsBlock block (take count (drop from bytes))
+  pub block_spelled : (block : Block) → from + 4608 ≤ length bytes → BlockStandsAt (held_in bytes) 0 sector block → SpellsBlock block (take count (drop from bytes))
   block_spelled block room stands = record {
     is = stands.is;
     parts = same_sectors 9 (take count (drop from bytes)) (block_text block) long (block_bytes block stands.is)

@@ -1,6 +1,6 @@
 -- A recovery waits exactly where something of it is out.
 use Rattle.std.proofs.Common.{◌≡◌, ◌↔◌, ◌∙◌, ℕ, Bool, true, false, List, Option, Some, None, refl, sym}
-use Rattle.bx_recover.specs.Recovering.{AsksBodyAgain, AsksFirst, AsksGatesAgain, AsksNext, FindsClosed, FindsNone, GoesOn, IsOut, RecoveryView, Settled, TakesBody, TakesGates, TellsAll, TellsThose, WritesBack}
+use Rattle.bx_recover.specs.Recovering.{AsksBodyAgain, AsksFirst, AsksGatesAgain, AsksNext, FindsClosed, FindsNone, RecoveryGoesOn, IsOut, RecoveryView, Settled, TakesBody, TakesGates, TellsAll, TellsThose, WritesBack}
 use Rattle.bx_recover.specs.declared.moves.Move.{Move}
 use Rattle.bx_recover.specs.declared.moves.Move.TheVariants.{Acked, Closed as Ended, Read, Wait, Write}
 use Rattle.bx_recover.specs.declared.stage.Stage.{Stage}
@@ -43,7 +43,7 @@ module _ (old new : RecoveryView) (move : Move) where
   body opened bytes (TellsThose long none some is) = says move _ (Some bytes ≡ None) is.says tt (came bytes)
   body opened bytes (FindsNone long none empty is) = says move _ (Some bytes ≡ None) is.says tt (came bytes)
 
-  pub waits : (stage : Stage) (arrived : Option (List ℕ)) (done : Bool) → GoesOn old arrived done new move stage → (move ≡ Wait) ↔ IsOut stage arrived done
+  pub waits : (stage : Stage) (arrived : Option (List ℕ)) (done : Bool) → RecoveryGoesOn old arrived done new move stage → (move ≡ Wait) ↔ IsOut stage arrived done
   waits Begins arrived done is = says move _ ⊥ is.says tt (λ out. out)
   waits Gates None done is = (λ w. refl, λ out. is.says)
   waits Gates (Some bytes) done is = gates bytes is

@@ -18,28 +18,28 @@ use Rattle.bx_recover.specs.declared.stage.Stage.TheVariants.{Begins, Gates, Set
 -- ---- steps
 
 -- A step: what came of a read, whether its write was done, and what it said.
-pub record Step : Type 0 where
+pub record RecoveryStep : Type 0 where
   pub arrived : Option (List ℕ)
   pub done : Bool
   pub said : Move
 
 -- These steps, the newest first, made of a recovery that began what it is.
-abbrev pub Leads : RecoveryView → List Step → RecoveryView → Type 0
-Leads first [] recovery = recovery ≡ first
-Leads first (step ∷ steps) recovery = (old : RecoveryView) × Leads first steps old × Steps old step.arrived step.done recovery step.said
+abbrev pub StepsLead : RecoveryView → List RecoveryStep → RecoveryView → Type 0
+StepsLead first [] recovery = recovery ≡ first
+StepsLead first (step ∷ steps) recovery = (old : RecoveryView) × StepsLead first steps old × Steps old step.arrived step.done recovery step.said
 
 -- It said this last, but that it waits.
-abbrev pub IsLast : List Step → Move → Type 0
+abbrev pub IsLast : List RecoveryStep → Move → Type 0
 IsLast [] move = ⊥
 IsLast (step ∷ steps) move = (step.said ≡ move) ⊎ ((step.said ≡ Wait) × IsLast steps move)
 
 -- It asked for a write, and that was done.
-abbrev pub WasDone : List Step → Move → Type 0
+abbrev pub WasDone : List RecoveryStep → Move → Type 0
 WasDone [] move = ⊥
 WasDone (step ∷ steps) move = ((step.done ≡ true) × IsLast steps move) ⊎ WasDone steps move
 
 -- It asked for a read, and these bytes came.
-abbrev pub WasRead : List Step → Move → List ℕ → Type 0
+abbrev pub WasRead : List RecoveryStep → Move → List ℕ → Type 0
 WasRead [] move bytes = ⊥
 WasRead (step ∷ steps) move bytes = ((step.arrived ≡ Some bytes) × IsLast steps move) ⊎ WasRead steps move bytes
 
@@ -51,13 +51,13 @@ points_in (Acked points) = points
 points_in Ended = []
 points_in Wait = []
 
-abbrev pub told : List Step → List Point
+abbrev pub told : List RecoveryStep → List Point
 told [] = []
 told (step ∷ steps) = told steps ++ points_in step.said
 
 -- ---- what was done
 
-module _ (recovery : RecoveryView) (steps : List Step) where
+module _ (recovery : RecoveryView) (steps : List RecoveryStep) where
   -- All eight gates were read, and so many are open.
   pub record HasGates (gates : List ℕ) (opened : ℕ) : Type 0 where
     pub came : WasRead steps (reads_gates recovery) gates

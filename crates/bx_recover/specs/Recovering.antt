@@ -77,63 +77,63 @@ pub record Stays (old new : RecoveryView) (move said : Move) : Type 0 where
   pub says : move ≡ said
 
 -- It comes to a stage, and says a thing.
-pub record Comes (old new : RecoveryView) (stage : Stage) (move said : Move) : Type 0 where
+pub record EntersStage (old new : RecoveryView) (stage : Stage) (move said : Move) : Type 0 where
   pub now : new ≡ record old { stage = stage }
   pub says : move ≡ said
 
 -- So it does with one record more.
-pub record Adds (old new : RecoveryView) (logged : Logged) (stage : Stage) (move said : Move) : Type 0 where
+pub record EntersStageWith (old new : RecoveryView) (logged : Logged) (stage : Stage) (move said : Move) : Type 0 where
   pub now : new ≡ record old { stage = stage; records = old.records ++ logged ∷ [] }
   pub says : move ≡ said
 
 -- The gates came: they are written back as they are, and so many of them are open. Where it isn't eight sectors that came they are asked for again.
 pub data TakesGates (old : RecoveryView) (bytes : List ℕ) (new : RecoveryView) (move : Move) : Type 0 where
   AsksGatesAgain : length bytes ≢ 4096 → Stays old new move (reads_gates old) → TakesGates old bytes new move
-  WritesBack : (opened : ℕ) → length bytes ≡ 4096 → IsOpenRun bytes opened → Comes old new (Settles opened) move (settles old bytes) → TakesGates old bytes new move
+  WritesBack : (opened : ℕ) → length bytes ≡ 4096 → IsOpenRun bytes opened → EntersStage old new (Settles opened) move (settles old bytes) → TakesGates old bytes new move
 
 -- They are settled: where gate 0 is open its body is asked for; else there are no records, and the gates behind gate 0 are closed.
 pub data Settled (old : RecoveryView) (opened : ℕ) (new : RecoveryView) (move : Move) : Type 0 where
-  AsksFirst : 0 < opened → Comes old new (Bodies opened) move (reads_body old 0) → Settled old opened new move
-  FindsClosed : opened ≡ 0 → Comes old new Shuts move (closes old works.Shuts) → Settled old opened new move
+  AsksFirst : 0 < opened → EntersStage old new (Bodies opened) move (reads_body old 0) → Settled old opened new move
+  FindsClosed : opened ≡ 0 → EntersStage old new Shuts move (closes old works.Shuts) → Settled old opened new move
 
 -- A body came. Its record is one of the run, behind which the next body is asked for, or all points are told; a body without one ends the run before it.
 -- Where the first has none gate 0 is closed. Where it isn't a body's sectors that came it is asked for again.
 pub data TakesBody (old : RecoveryView) (opened : ℕ) (bytes : List ℕ) (new : RecoveryView) (move : Move) : Type 0 where
   AsksBodyAgain : length bytes ≢ 74240 → Stays old new move (reads_body old (length old.records)) → TakesBody old opened bytes new move
   AsksNext : (logged : Logged) → length bytes ≡ 74240 → IsRecordIn old.areas bytes logged → length old.records + 1 < opened
-      → Adds old new logged (Bodies opened) move (reads_body old (length old.records + 1)) → TakesBody old opened bytes new move
+      → EntersStageWith old new logged (Bodies opened) move (reads_body old (length old.records + 1)) → TakesBody old opened bytes new move
   TellsAll : (logged : Logged) → length bytes ≡ 74240 → IsRecordIn old.areas bytes logged → length old.records + 1 ≡ opened
-      → Adds old new logged Told move (Acked (map point_of (old.records ++ logged ∷ []))) → TakesBody old opened bytes new move
-  TellsThose : length bytes ≡ 74240 → HasNoRecord old.areas bytes → 0 < length old.records → Comes old new Told move (Acked (map point_of old.records)) → TakesBody old opened bytes new move
-  FindsNone : length bytes ≡ 74240 → HasNoRecord old.areas bytes → old.records ≡ [] → Comes old new Closes move (closes old works.Closes) → TakesBody old opened bytes new move
+      → EntersStageWith old new logged Told move (Acked (map point_of (old.records ++ logged ∷ []))) → TakesBody old opened bytes new move
+  TellsThose : length bytes ≡ 74240 → HasNoRecord old.areas bytes → 0 < length old.records → EntersStage old new Told move (Acked (map point_of old.records)) → TakesBody old opened bytes new move
+  FindsNone : length bytes ≡ 74240 → HasNoRecord old.areas bytes → old.records ≡ [] → EntersStage old new Closes move (closes old works.Closes) → TakesBody old opened bytes new move
 
 -- Of each block that the records have the newest is written home, all at once.
 pub record SendsHomes (old new : RecoveryView) (move : Move) : Type 0 where
   pub blocks : List Changed
   pub newest : AreNewestOf old.records blocks
-  pub comes : Comes old new Homes move (brings_home old blocks)
+  pub comes : EntersStage old new Homes move (brings_home old blocks)
 
 -- What it does by what came of a read, and by whether its write is done.
-abbrev pub GoesOn : RecoveryView → Option (List ℕ) → Bool → RecoveryView → Move → Stage → Type 0
-GoesOn old arrived done new move Begins = Comes old new Gates move (reads_gates old)
-GoesOn old None done new move Gates = Stays old new move Wait
-GoesOn old (Some bytes) done new move Gates = TakesGates old bytes new move
-GoesOn old arrived false new move (Settles opened) = Stays old new move Wait
-GoesOn old arrived true new move (Settles opened) = Settled old opened new move
-GoesOn old None done new move (Bodies opened) = Stays old new move Wait
-GoesOn old (Some bytes) done new move (Bodies opened) = TakesBody old opened bytes new move
-GoesOn old arrived done new move Told = SendsHomes old new move
-GoesOn old arrived false new move Homes = Stays old new move Wait
-GoesOn old arrived true new move Homes = Comes old new Closes move (closes old works.Closes)
-GoesOn old arrived false new move Closes = Stays old new move Wait
-GoesOn old arrived true new move Closes = Comes old new Shuts move (closes old works.Shuts)
-GoesOn old arrived false new move Shuts = Stays old new move Wait
-GoesOn old arrived true new move Shuts = Comes old new Closed move Ended
-GoesOn old arrived done new move Closed = Stays old new move Ended
+abbrev pub RecoveryGoesOn : RecoveryView → Option (List ℕ) → Bool → RecoveryView → Move → Stage → Type 0
+RecoveryGoesOn old arrived done new move Begins = EntersStage old new Gates move (reads_gates old)
+RecoveryGoesOn old None done new move Gates = Stays old new move Wait
+RecoveryGoesOn old (Some bytes) done new move Gates = TakesGates old bytes new move
+RecoveryGoesOn old arrived false new move (Settles opened) = Stays old new move Wait
+RecoveryGoesOn old arrived true new move (Settles opened) = Settled old opened new move
+RecoveryGoesOn old None done new move (Bodies opened) = Stays old new move Wait
+RecoveryGoesOn old (Some bytes) done new move (Bodies opened) = TakesBody old opened bytes new move
+RecoveryGoesOn old arrived done new move Told = SendsHomes old new move
+RecoveryGoesOn old arrived false new move Homes = Stays old new move Wait
+RecoveryGoesOn old arrived true new move Homes = EntersStage old new Closes move (closes old works.Closes)
+RecoveryGoesOn old arrived false new move Closes = Stays old new move Wait
+RecoveryGoesOn old arrived true new move Closes = EntersStage old new Shuts move (closes old works.Shuts)
+RecoveryGoesOn old arrived false new move Shuts = Stays old new move Wait
+RecoveryGoesOn old arrived true new move Shuts = EntersStage old new Closed move Ended
+RecoveryGoesOn old arrived done new move Closed = Stays old new move Ended
 
 -- A step of a recovery.
 abbrev pub Steps : RecoveryView → Option (List ℕ) → Bool → RecoveryView → Move → Type 0
-Steps old arrived done new move = GoesOn old arrived done new move old.stage
+Steps old arrived done new move = RecoveryGoesOn old arrived done new move old.stage
 
 -- a read of it is out, and nothing came; or a write of it is, and isn't done
 abbrev pub IsOut : Stage → Option (List ℕ) → Bool → Type 0

@@ -57,7 +57,7 @@ impl Recovery {
     ghost use Rattle.bx_places.specs.Places.{IsVolume, gate_place, log_device};
     ghost use Rattle.bx_recover.specs.declared.moves.Move.TheVariants as moves;
     ghost use Rattle.bx_recover.specs.declared.stage.Stage.TheVariants as stages;
-    ghost use Rattle.bx_recover.specs.Recovering.{Adds, Comes, IsOut, IsWriting, SendsHomes, Settled, Steps, TakesBody, TakesGates, closes, first_recovery, reads_body, reads_gates};
+    ghost use Rattle.bx_recover.specs.Recovering.{EntersStageWith, EntersStage, IsOut, IsWriting, SendsHomes, Settled, Steps, TakesBody, TakesGates, closes, first_recovery, reads_body, reads_gates};
     ghost use Rattle.bx_redo.specs.Steps.{one_run};
     ghost use Rattle.bx_redo.specs.declared.work.Work.TheVariants as works;
     ghost use Rattle.bx_redo.specs.bx_volume.specs.Records.{IsLogged};
@@ -140,8 +140,8 @@ impl Recovery {
     fn add(&mut self, opened: u32, logged: Record) -> Result<Move, OutOfMemory>
         requires stage { self.old.stage ≡ stages.Bodies opened }
         requires logged { IsLogged self.old.areas logged }
-        ensures next { length self.old.records + 1 < opened → IfOk result (λ move. Adds self.old self.new logged (stages.Bodies opened) move (reads_body self.old (length self.old.records + 1))) }
-        ensures all { opened ≤ length self.old.records + 1 → IfOk result (λ move. Adds self.old self.new logged stages.Told move (moves.Acked (map point_of (self.old.records ++ logged ∷ [])))) }
+        ensures next { length self.old.records + 1 < opened → IfOk result (λ move. EntersStageWith self.old self.new logged (stages.Bodies opened) move (reads_body self.old (length self.old.records + 1))) }
+        ensures all { opened ≤ length self.old.records + 1 → IfOk result (λ move. EntersStageWith self.old self.new logged stages.Told move (moves.Acked (map point_of (self.old.records ++ logged ∷ [])))) }
         ensures err { OnErr result (self.new ≡ self.old) }
     {
         if self.records.len() + 1 < opened as usize {
@@ -158,8 +158,8 @@ impl Recovery {
 
     /// The run ends before a body without a record: its points are told, or gate 0 is closed where there are none.
     fn end_run(&mut self) -> Result<Move, OutOfMemory>
-        ensures some { 0 < length self.old.records → IfOk result (λ move. Comes self.old self.new stages.Told move (moves.Acked (map point_of self.old.records))) }
-        ensures none { self.old.records ≡ [] → IfOk result (λ move. Comes self.old self.new stages.Closes move (closes self.old works.Closes)) }
+        ensures some { 0 < length self.old.records → IfOk result (λ move. EntersStage self.old self.new stages.Told move (moves.Acked (map point_of self.old.records))) }
+        ensures none { self.old.records ≡ [] → IfOk result (λ move. EntersStage self.old self.new stages.Closes move (closes self.old works.Closes)) }
         ensures err { OnErr result (self.new ≡ self.old) }
     {
         if self.records.len() == 0 {
@@ -216,7 +216,7 @@ impl Recovery {
 
     /// Closes gate 0.
     fn close_first(&mut self) -> Result<Move, OutOfMemory>
-        ensures ok { IfOk result (λ move. Comes self.old self.new stages.Closes move (closes self.old works.Closes)) }
+        ensures ok { IfOk result (λ move. EntersStage self.old self.new stages.Closes move (closes self.old works.Closes)) }
         ensures err { OnErr result (self.new ≡ self.old) }
     {
         let runs = closing(self.alloc, self.slot, self.device(), 1)?;
@@ -226,7 +226,7 @@ impl Recovery {
 
     /// Closes the gates behind gate 0.
     fn close_others(&mut self) -> Result<Move, OutOfMemory>
-        ensures ok { IfOk result (λ move. Comes self.old self.new stages.Shuts move (closes self.old works.Shuts)) }
+        ensures ok { IfOk result (λ move. EntersStage self.old self.new stages.Shuts move (closes self.old works.Shuts)) }
         ensures err { OnErr result (self.new ≡ self.old) }
     {
         let runs = closing(self.alloc, self.slot, self.device(), 0)?;

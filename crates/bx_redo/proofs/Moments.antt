@@ -7,7 +7,7 @@ use Rattle.bx_rows.specs.declared.device.DeviceRow.{DeviceRow}
 use Rattle.bx_rows.specs.declared.session.SessionRow.{SessionRow}
 use Rattle.bx_volume.specs.bx_views.specs.Truths.{Truth}
 use Rattle.bx_volume.specs.Images.{AreSources, devices_of}
-use Rattle.bx_volume.specs.Overlay.{Logs, IsOfLogged, IsTruth}
+use Rattle.bx_volume.specs.Overlay.{Logs, IsOfLogged, IsOverlaidTruth}
 use Rattle.bx_volume.specs.Records.{Logged}
 use Rattle.bx_volume.proofs.LoggedHomes.{matters_not}
 use Rattle.bx_volume.proofs.Matters.{truth_same}
@@ -44,7 +44,7 @@ module _ (Sure : ℕ → ℕ → List ℕ → Type 0)
     pub moment_of_homes : (slot : ℕ)
         → ((write : Sent) (d s : ℕ) (other : List ℕ) → Contains sent write → WritesTo write d s other → IsOfLogged devices areas logs d s ⊎ IsOver greatest write)
         → IsFound Sure devices areas rows before logs truth more slot
-        → IsTruth (devices_of image second) devices areas rows logs truth
+        → IsOverlaidTruth (devices_of image second) devices areas rows logs truth
     moment_of_homes slot each found = truth_same before (devices_of image second) devices areas rows logs truth
         (λ d s matters. image_has d s (before d s) (record {
           each = λ write other there w. ⊎_elim

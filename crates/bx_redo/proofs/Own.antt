@@ -7,7 +7,7 @@ use Rattle.bx_rows.specs.declared.session.SessionRow.{SessionRow}
 use Rattle.bx_rows.specs.Words.{is_taken}
 use Rattle.bx_volume.specs.bx_truth.proofs.Cases.{same_or}
 use Rattle.bx_volume.specs.bx_views.specs.Truths.{Truth}
-use Rattle.bx_volume.specs.Overlay.{Logs, IsTruth, Matters, Gate, Body, Home}
+use Rattle.bx_volume.specs.Overlay.{Logs, IsOverlaidTruth, Matters, Gate, Body, Home}
 use Rattle.bx_volume.specs.Records.{LogWhere}
 use Rattle.bx_volume.proofs.Apart.{home_and_log}
 
@@ -25,7 +25,7 @@ pub record IsOwnBody (slot count s : ℕ) : Type 0 where
   pub within : sector < 145
   pub is : s ≡ log_start slot + 8 + 145 * body + sector
 
-pub most_of : (held : Image) (devices areas : ℕ) (rows : List SessionRow) (logs : Logs) (truth : Truth) → IsTruth held devices areas rows logs truth
+pub most_of : (held : Image) (devices areas : ℕ) (rows : List SessionRow) (logs : Logs) (truth : Truth) → IsOverlaidTruth held devices areas rows logs truth
     → (slot : ℕ) → slot < 8 → length (logs slot) ≤ 8
 most_of held devices areas rows logs truth was slot less = by (is_taken rows slot) (was.has_logs slot less)
   where

@@ -4,7 +4,7 @@ use Rattle.bx_disk.specs.Disks.{Image, is_within}
 use Rattle.bx_places.specs.Places.{log_start, log_device}
 use Rattle.bx_rows.specs.declared.session.SessionRow.{SessionRow}
 use Rattle.bx_volume.specs.bx_views.specs.Truths.{Truth, with_draft}
-use Rattle.bx_volume.specs.Overlay.{Logs, IsTruth, Matters, with_log}
+use Rattle.bx_volume.specs.Overlay.{Logs, IsOverlaidTruth, Matters, with_log}
 use Rattle.bx_volume.specs.Records.{Logged}
 use Rattle.bx_volume.proofs.GateOut.{matters_more}
 use Rattle.bx_redo.specs.Found.{AreGatesRead, AreSettled, Settles}
@@ -54,7 +54,7 @@ module _ (Sure Sure_then : ℕ → ℕ → List ℕ → Type 0) (devices areas :
   -- what is found, for some logs
   finds : (work : Work) → LogStands Sure devices areas rows before logs truth more (record log { work = work })
       → AreGatesRead before (record log { work = work }) bytes → AreSettled Sure Sure_then before now (record log { work = work }) bytes
-      → (found : Logs) (its : Truth) → IsTruth now devices areas rows found its
+      → (found : Logs) (its : Truth) → IsOverlaidTruth now devices areas rows found its
       → ((d s : ℕ) → Matters devices areas found d s → is_gate log d s ≡ false → (is_written (record log { work = work }) d s ≡ false) × Sure d s (before d s))
       → IsFound Sure_then devices areas rows now found its more log.slot
   finds work st read set found its is was = record {

@@ -12,7 +12,7 @@ use Rattle.bx_records.specs.declared.runs.Run.{Run}
 use Rattle.bx_rows.specs.declared.session.SessionRow.{SessionRow}
 use Rattle.bx_rows.specs.Words.{is_taken}
 use Rattle.bx_volume.specs.bx_views.specs.Truths.{Truth, with_draft}
-use Rattle.bx_volume.specs.Overlay.{Logs, IsHome, IsOfLogged, IsTruth, Matters, with_log}
+use Rattle.bx_volume.specs.Overlay.{Logs, IsHome, IsOfLogged, IsOverlaidTruth, Matters, with_log}
 use Rattle.bx_volume.specs.Records.{Logged, IsInBody, IsLogged, gate_of, logged_text, newest_in}
 use Rattle.bx_redo.specs.Steps.{shut_text}
 use Rattle.bx_redo.specs.View.{LogView}
@@ -103,7 +103,7 @@ module _ (Sure : ℕ → ℕ → List ℕ → Type 0) (devices areas : ℕ) (row
     pub is_slot : log.slot < 8
     pub on_device : log.device ≡ log_device log.slot devices
     pub taken : is_taken rows log.slot ≡ true
-    pub is_truth : IsTruth before devices areas rows logs truth
+    pub is_truth : IsOverlaidTruth before devices areas rows logs truth
     pub run : length (logs log.slot) ≡ log.count
     pub sure : (d s : ℕ) → Matters devices areas logs d s → is_written log d s ≡ false → Sure d s (before d s)
     pub own : (d s : ℕ) → is_gate log d s ≡ true → is_written log d s ≡ false → Sure d s (before d s)
@@ -114,7 +114,7 @@ module _ (Sure : ℕ → ℕ → List ℕ → Type 0) (devices areas : ℕ) (row
     pub volume : IsVolume devices areas
     pub is_slot : slot < 8
     pub taken : is_taken rows slot ≡ true
-    pub is_truth : IsTruth before devices areas rows logs truth
+    pub is_truth : IsOverlaidTruth before devices areas rows logs truth
     pub sure : (d s : ℕ) → Matters devices areas logs d s → Sure d s (before d s)
     pub gates : (gate : ℕ) → gate < 8 → Sure (log_device slot devices) (log_start slot + gate) (before (log_device slot devices) (log_start slot + gate))
 
@@ -124,12 +124,12 @@ module _ (devices areas : ℕ) (rows : List SessionRow) (logs : Logs) (truth : T
   -- A content of the devices has the truth by the log's whole run; while a gate is opened, by that run or with the record that is in doubt;
   -- and while gate 0 is closed, the same truth, by the whole run or by none.
   abbrev pub Shows : Image → ℕ → Work → Type 0
-  Shows now slot Idle = IsTruth now devices areas rows logs truth
-  Shows now slot (Body text point) = IsTruth now devices areas rows logs truth
+  Shows now slot Idle = IsOverlaidTruth now devices areas rows logs truth
+  Shows now slot (Body text point) = IsOverlaidTruth now devices areas rows logs truth
   Shows now slot (Opens point) =
-      IsTruth now devices areas rows logs truth ⊎ IsTruth now devices areas rows (with_log logs slot (more ∷ logs slot)) (with_draft truth more.changed)
-  Shows now slot Closes = IsTruth now devices areas rows logs truth ⊎ IsTruth now devices areas rows (with_log logs slot []) truth
-  Shows now slot Shuts = IsTruth now devices areas rows logs truth
+      IsOverlaidTruth now devices areas rows logs truth ⊎ IsOverlaidTruth now devices areas rows (with_log logs slot (more ∷ logs slot)) (with_draft truth more.changed)
+  Shows now slot Closes = IsOverlaidTruth now devices areas rows logs truth ⊎ IsOverlaidTruth now devices areas rows (with_log logs slot []) truth
+  Shows now slot Shuts = IsOverlaidTruth now devices areas rows logs truth
 
 -- ---- events
 

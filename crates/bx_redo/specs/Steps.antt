@@ -94,15 +94,15 @@ pub record Ends (old new : LogView) (move said : Move) : Type 0 where
 
 -- What comes when a write is acknowledged: behind a body its gate, then the record is open; behind gate 0, with which all its records
 -- are closed, the other gates, then the log is closed.
-abbrev pub Goes : LogView → LogView → Move → Work → Type 0
-Goes old new move Idle = Unit {0}
-Goes old new move (Body text point) = Asks old new move (Opens point)
-Goes old new move (Opens point) = Ends (record old { count = old.count + 1 }) new move (Acked point)
-Goes old new move Closes = Asks (record old { count = 0 }) new move Shuts
-Goes old new move Shuts = Ends old new move Closed
+abbrev pub WorkGoes : LogView → LogView → Move → Work → Type 0
+WorkGoes old new move Idle = Unit {0}
+WorkGoes old new move (Body text point) = Asks old new move (Opens point)
+WorkGoes old new move (Opens point) = Ends (record old { count = old.count + 1 }) new move (Acked point)
+WorkGoes old new move Closes = Asks (record old { count = 0 }) new move Shuts
+WorkGoes old new move Shuts = Ends old new move Closed
 
 -- A step: a write that is out is waited for, a work that has none asks for its own, and what was acknowledged goes on.
 abbrev pub Steps : Bool → Bool → LogView → LogView → Move → Type 0
 Steps true false old new move = (new ≡ old) × (move ≡ Wait)
-Steps true true old new move = Goes old new move old.work
+Steps true true old new move = WorkGoes old new move old.work
 Steps false done old new move = Asks old new move old.work

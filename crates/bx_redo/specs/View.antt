@@ -12,15 +12,15 @@ pub record LogView : Type 0 where
   pub out : Bool
 
 -- a record that is under way has a body and a gate of its own
-abbrev pub HasRoom : Work → ℕ → Type 0
-HasRoom Idle count = Unit {0}
-HasRoom (Body text point) count = count < 8
-HasRoom (Opens point) count = count < 8
-HasRoom Closes count = Unit {0}
-HasRoom Shuts count = Unit {0}
+abbrev pub HasRecordRoom : Work → ℕ → Type 0
+HasRecordRoom Idle count = Unit {0}
+HasRecordRoom (Body text point) count = count < 8
+HasRecordRoom (Opens point) count = count < 8
+HasRecordRoom Closes count = Unit {0}
+HasRecordRoom Shuts count = Unit {0}
 
 -- what every log has
 pub record IsLog (log : LogView) : Type 0 where
   pub is_slot : log.slot < 8
   pub most : log.count ≤ 8
-  pub room : HasRoom log.work log.count
+  pub room : HasRecordRoom log.work log.count

@@ -43,8 +43,8 @@ impl Model for Log {
 }
 
 impl Log {
-    ghost use Rattle.bx_redo.specs.Steps.{AreBlocksOf, Asks, Goes, Steps, closed_log, found_log, gate_at, record_of, with_work, writes};
-    ghost use Rattle.bx_redo.specs.View.{HasRoom};
+    ghost use Rattle.bx_redo.specs.Steps.{AreBlocksOf, Asks, WorkGoes, Steps, closed_log, found_log, gate_at, record_of, with_work, writes};
+    ghost use Rattle.bx_redo.specs.View.{HasRecordRoom};
     ghost use Rattle.bx_redo.specs.declared.work.Work.TheVariants as works;
     ghost use Rattle.bx_volume.specs.Records.{IsLogged, logged_text};
 
@@ -147,7 +147,7 @@ impl Log {
     /// What comes once the log's write is acknowledged.
     fn go_on(&mut self) -> Result<Move, OutOfMemory>
         requires { self.old.work ≢ works.Idle }
-        ensures ok { IfOk result (λ move. Goes self.old self.new move self.old.work) }
+        ensures ok { IfOk result (λ move. WorkGoes self.old self.new move self.old.work) }
         ensures err { OnErr result (self.new ≡ self.old) }
     {
         match self.work {
@@ -170,7 +170,7 @@ impl Log {
 
     /// Asks for the writes of another work.
     fn turn_to(&mut self, work: Work) -> Result<Move, OutOfMemory>
-        requires room { HasRoom work self.old.count }
+        requires room { HasRecordRoom work self.old.count }
         requires working { work ≢ works.Idle }
         ensures ok { IfOk result (λ move. Asks self.old self.new move work) }
         ensures err { OnErr result (self.new ≡ self.old) }
@@ -204,7 +204,7 @@ impl Log {
 
     /// What a work writes.
     fn runs_of(&self, work: &Work) -> Result<Runs, OutOfMemory>
-        requires room { HasRoom work.now self.now.count }
+        requires room { HasRecordRoom work.now self.now.count }
         requires working { work.now ≢ works.Idle }
         ensures { IfOk result (λ runs. runs ≡ writes self.now work.now) }
     {

@@ -11,7 +11,7 @@ ghost use Rattle.bx_records.specs.declared.runs.Run.{Run};
 ghost use Rattle.bx_rows.specs.declared.session.SessionRow.{SessionRow};
 ghost use Rattle.bx_volume.specs.bx_views.specs.Truths.{Truth};
 ghost use Rattle.bx_volume.specs.Images.{AreSources, devices_of};
-ghost use Rattle.bx_volume.specs.Overlay.{Logs, IsOfLogged, IsTruth, Matters, with_log};
+ghost use Rattle.bx_volume.specs.Overlay.{Logs, IsOfLogged, IsOverlaidTruth, Matters, with_log};
 ghost use Rattle.bx_volume.specs.Records.{Logged};
 ghost use Rattle.bx_redo.specs.Homes.{AreItsHomes, with_runs};
 ghost use Rattle.bx_redo.specs.Found.{AreSettled, gates_run, with_gates};
@@ -84,5 +84,5 @@ pub fn what_images_have_at_any_moment()
         → AreSources state second → HasSettled sent greatest (IsSettled disks state) disks state image
         → ((write : Sent) (d s : ℕ) (other : List ℕ) → Contains sent write → WritesTo write d s other → IsOfLogged devices areas logs d s ⊎ IsOver greatest write)
         → IsFound (IsSettled disks state) devices areas state.sessions before logs truth more slot
-        → IsTruth (devices_of image second) devices areas state.sessions logs truth }
+        → IsOverlaidTruth (devices_of image second) devices areas state.sessions logs truth }
 {}

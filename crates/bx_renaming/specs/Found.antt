@@ -3,7 +3,7 @@ use Rattle.std.specs.Prelude.{◌≡◌, ℕ, ◌⊎◌, List, Option, None, Som
 use Rattle.bx_base.specs.declared.names.Mode.{Mode}
 use Rattle.bx_linking.specs.bx_entries.specs.Finding.{IsOwnBlock}
 use Rattle.bx_linking.specs.bx_entries.specs.declared.taking.Known.{Known}
-use Rattle.bx_changes.specs.bx_files.specs.Paths.{Finds, OnSearch}
+use Rattle.bx_changes.specs.bx_files.specs.Paths.{LandsAtValue, OnSearch}
 use Rattle.bx_inodes.specs.Inodes.{IsInodeOf}
 use Rattle.bx_inodes.specs.declared.stop.Stop.{Stop}
 use Rattle.bx_inodes.specs.declared.stop.Stop.TheVariants.{Need, Inner, Status, OutOfMemory}
@@ -45,12 +45,12 @@ OtherFor areas truth tree names name (Err OutOfMemory) = Unit {0}
 -- ---- the path
 
 -- the block of what an entry of a name names, exclusively
-pub record OnFound (held : Held) (hints : Hints) (root : ℕ) (name : List ℕ) (at : ℕ) (mode : Mode) : Type 0 where
+pub record OnFoundBlock (held : Held) (hints : Hints) (root : ℕ) (name : List ℕ) (at : ℕ) (mode : Mode) : Type 0 where
   pub number : ℕ
   pub handle : ℕ
-  pub found : Finds held hints root (name_key name) (Some (name_value number handle))
+  pub found : LandsAtValue held hints root (name_key name) (Some (name_value number handle))
   pub on : IsOwnBlock handle at mode
 
 -- the search for the name, and that
 abbrev pub OnEntry : Held → Hints → ℕ → List ℕ → ℕ → Mode → Type 0
-OnEntry held hints root name at mode = OnSearch held hints root (name_key name) at mode ⊎ OnFound held hints root name at mode
+OnEntry held hints root name at mode = OnSearch held hints root (name_key name) at mode ⊎ OnFoundBlock held hints root name at mode

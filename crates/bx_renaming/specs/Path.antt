@@ -6,7 +6,7 @@ use Rattle.bx_base.specs.declared.names.Mode.TheVariants.{Exclusive}
 use Rattle.bx_blink.specs.Walks.{reads_with}
 use Rattle.bx_linking.specs.bx_directory_reads.specs.Listings.{OnBehind}
 use Rattle.bx_linking.specs.bx_entries.specs.declared.taking.Known.{Known}
-use Rattle.bx_changes.specs.bx_files.specs.Paths.{Finds}
+use Rattle.bx_changes.specs.bx_files.specs.Paths.{LandsAtValue}
 use Rattle.bx_places.specs.Handles.{named, parts_of}
 use Rattle.bx_inodes.specs.Inodes.{LiveAt}
 use Rattle.bx_inodes.specs.Stops.{OnInode}
@@ -38,7 +38,7 @@ pub record AreHeld (held : Held) (hints : Hints) (volume areas : ℕ) (from to :
 
 -- what an entry of a name is, in the directory whose tree is under a root: a file that is held
 pub record IsFoundAs (held : Held) (hints : Hints) (areas root : ℕ) (name : List ℕ) (number : ℕ) (known : Known) : Type 0 where
-  pub found : Finds held hints root (name_key name) (Some (name_value number known.handle))
+  pub found : LandsAtValue held hints root (name_key name) (Some (name_value number known.handle))
   pub live : LiveAt (reads_with held hints []) areas known.handle Exclusive known.inode
 
 -- where a move meets no error: room for the new name in the directory that it goes to, near that, and the move

@@ -3,7 +3,7 @@
 ghost use Rattle.std.specs.Prelude.{ℕ, [], IfOk, IfSome, Some};
 ghost use Rattle.bx_changes.specs.Procedures.{Exclusive, LiveAt, NeedsOn, NeverInner, Tree, Truth, names_of, reads_with};
 ghost use Rattle.bx_linking.specs.bx_entries.specs.Finding.{IsDirectoryOf};
-ghost use Rattle.bx_changes.specs.bx_files.specs.Paths.{Finds};
+ghost use Rattle.bx_changes.specs.bx_files.specs.Paths.{LandsAtValue};
 ghost use Rattle.bx_truth.specs.Keys.{name_key, name_value};
 ghost use Rattle.bx_renaming.specs.Found.{MovedFor, OnEntry, OtherFor};
 
@@ -29,7 +29,7 @@ pub fn moved_for<V: View>(
     ensures step { (volume : ℕ) (truth : Truth) (tree : Tree) → (is : IsDirectoryOf volume areas (V.held view.now) (V.hints view.now) truth tree directory.now.handle directory.now.inode)
         → MovedFor areas truth tree (names_of is.at.file.body) name.now result }
     ensures live { IfOk result (λ found. LiveAt (reads_with (V.held view.now) (V.hints view.now) []) areas found.1.handle Exclusive found.1.inode) }
-    ensures finds { IfOk result (λ found. Finds (V.held view.now) (V.hints view.now) directory.now.inode.tree (name_key name.now) (Some (name_value found.0 found.1.handle))) }
+    ensures finds { IfOk result (λ found. LandsAtValue (V.held view.now) (V.hints view.now) directory.now.inode.tree (name_key name.now) (Some (name_value found.0 found.1.handle))) }
     ensures need { NeedsOn areas (V.held view.now) (OnEntry (V.held view.now) (V.hints view.now) directory.now.inode.tree name.now) result }
     ensures inner { NeverInner result }
 {
@@ -56,7 +56,7 @@ pub fn other_for<V: View>(
     ensures step { (volume : ℕ) (truth : Truth) (tree : Tree) → (is : IsDirectoryOf volume areas (V.held view.now) (V.hints view.now) truth tree directory.now.handle directory.now.inode)
         → OtherFor areas truth tree (names_of is.at.file.body) name.now result }
     ensures live { IfOk result (λ found. IfSome found (λ found. LiveAt (reads_with (V.held view.now) (V.hints view.now) []) areas found.1.handle Exclusive found.1.inode)) }
-    ensures finds { IfOk result (λ found. IfSome found (λ found. Finds (V.held view.now) (V.hints view.now) directory.now.inode.tree (name_key name.now) (Some (name_value found.0 found.1.handle)))) }
+    ensures finds { IfOk result (λ found. IfSome found (λ found. LandsAtValue (V.held view.now) (V.hints view.now) directory.now.inode.tree (name_key name.now) (Some (name_value found.0 found.1.handle)))) }
     ensures need { NeedsOn areas (V.held view.now) (OnEntry (V.held view.now) (V.hints view.now) directory.now.inode.tree name.now) result }
     ensures inner { NeverInner result }
 {

@@ -10,19 +10,19 @@ use Rattle.bx_model.specs.declared.tree.Tree.{Tree}
 use Rattle.bx_opens.specs.bx_cluster.specs.Runs as runs
 use Rattle.bx_opens.specs.AtOnce.{IsAtOnce}
 use Rattle.bx_steps.specs.Steps as engine
-use Rattle.bx_replay.specs.Headline.{Step, rules}
+use Rattle.bx_replay.specs.Headline.{EntryStep, rules}
 
 -- a step by a deed is one by its entry
-pub entered : (tree next : Tree) (entry : traces.Entry) → runs.StepOf engine.Step tree entry next → Step tree entry next
+pub entered : (tree next : Tree) (entry : traces.Entry) → runs.StepOf engine.StepOfTree tree entry next → EntryStep tree entry next
 entered tree next entry s = record {
   entry = record { call = entry.call; what = s.call; moment = entry.moment; spare = entry.spare; made = entry.made; reply = s.reply };
   typed = record { xid = s.xid; number = refl; reads = s.reads; moment = refl; spare = refl; made = refl; replies = s.replies };
   step = record { acts = s.acts; moment_fits = s.moment_fits; spare_fits = s.spare_fits; made_fits = s.made_fits; enough = s.enough };
 }
 
-module _ (Of : Tree → traces.Entry → Tree → Type 0) (at_once : List ℕ → Type 0) (acts : (tree next : Tree) (entry : traces.Entry) → Of tree entry next → runs.StepOf engine.Step tree entry next)
+module _ (Of : Tree → traces.Entry → Tree → Type 0) (at_once : List ℕ → Type 0) (acts : (tree next : Tree) (entry : traces.Entry) → Of tree entry next → runs.StepOf engine.StepOfTree tree entry next)
     (answers : (bytes : List ℕ) → IsAtOnce bytes → at_once bytes) where
-  leads : (first last : Tree) (history : List traces.Entry) → LeadsNewest Of first history last → LeadsNewest Step first history last
+  leads : (first last : Tree) (history : List traces.Entry) → LeadsNewest Of first history last → LeadsNewest EntryStep first history last
   leads first last [] is = is
   leads first last (entry ∷ earlier) is = (is.0, leads first is.0 earlier is.1, entered is.0 last entry (acts is.0 last entry is.2))
 
@@ -52,7 +52,7 @@ module _ (Of : Tree → traces.Entry → Tree → Type 0) (at_once : List ℕ �
   placed [] all = tt
   placed (its ∷ older) all = (part older its all.0, placed older all.1)
 
-  pub typed_account : (first last : Tree) (parts : List Part) (history : List traces.Entry) (waits : ℕ → List traces.Taking) → AwaitsNewest Of (runs.rules at_once) first parts history last waits → AwaitsNewest Step rules first parts history last waits
+  pub typed_account : (first last : Tree) (parts : List Part) (history : List traces.Entry) (waits : ℕ → List traces.Taking) → AwaitsNewest Of (runs.rules at_once) first parts history last waits → AwaitsNewest EntryStep rules first parts history last waits
   typed_account first last parts history waits so_far = record {
     fits = so_far.fits;
     leads = leads first last history so_far.leads;

@@ -17,7 +17,7 @@ use Rattle.bx_script.specs.ScheduleLine.{spelling}
 use Rattle.bx_script.specs.declared.line.Line.{Line}
 use Rattle.bx_script.specs.declared.line.Line.TheVariants.{Heading}
 use Rattle.bx_replay.specs.Lines.{IsInPlace}
-use Rattle.bx_replay.specs.Replay.{IsBegun, Reached, Stands}
+use Rattle.bx_replay.specs.Replay.{IsBegun, Reached, ReplayStands}
 
 first_is : {A : Type 0} (x y : A) (xs ys : List A) → x ∷ xs ≡ y ∷ ys → x ≡ y
 first_is x y xs ys e = cc
@@ -55,7 +55,7 @@ module _ (volume nodes devices areas : ℕ) where
   }
 
   -- with what led to it: nothing
-  pub stands_first : (Led : Tree → List Part → Type 0) (lacking : set.FinSet nat_cmp) (start : List ℕ) → Led (first_tree volume areas) [] → lacking ≡ set.empty → Stands ⊥ Led lacking (record { line = heading; parts = [] } ∷ []) start start
+  pub stands_first : (Led : Tree → List Part → Type 0) (lacking : set.FinSet nat_cmp) (start : List ℕ) → Led (first_tree volume areas) [] → lacking ≡ set.empty → ReplayStands ⊥ Led lacking (record { line = heading; parts = [] } ∷ []) start start
   stands_first Led lacking start led none = record {
     led = led;
     lacks = λ call. ap (λ (s : set.FinSet nat_cmp). set.contains s call) none ∙ set.contains-empty nat_cmp call;
@@ -73,9 +73,9 @@ module _ (volume nodes devices areas : ℕ) where
 
   -- and so with any heading that the text begins with, which is that one
   pub led_first : (Led : Tree → List Part → Type 0) (lacking : set.FinSet nat_cmp) (text rest : List ℕ) → IsInPlace true heading → BeginsWith text (spelling heading) rest → Led (first_tree volume areas) [] → lacking ≡ set.empty
-      → (other : Line) (left start : List ℕ) → IsInPlace true other → BeginsWith text (spelling other) left → Stands ⊥ Led lacking (record { line = other; parts = [] } ∷ []) start start
+      → (other : Line) (left start : List ℕ) → IsInPlace true other → BeginsWith text (spelling other) left → ReplayStands ⊥ Led lacking (record { line = other; parts = [] } ∷ []) start start
   led_first Led lacking text rest place begins led none other left start other_place other_begins =
-      subst (λ (line : Line). Stands ⊥ Led lacking (record { line = line; parts = [] } ∷ []) start start) (one_first text heading other rest left place other_place begins other_begins)
+      subst (λ (line : Line). ReplayStands ⊥ Led lacking (record { line = line; parts = [] } ∷ []) start start) (one_first text heading other rest left place other_place begins other_begins)
       (stands_first Led lacking start led none)
 
 -- a new cluster of a shape can go, once its readings are at their beginning and the rack has room

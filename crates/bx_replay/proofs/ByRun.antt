@@ -13,8 +13,8 @@ use Rattle.bx_script.specs.Schedule.{BeginsSchedule, HasPlace, IsSchedule, readi
 use Rattle.bx_script.specs.ScheduleLine.{InRange, spelling}
 use Rattle.bx_stops.specs.declared.stop.Reason.{Reason}
 use Rattle.bx_stops.specs.declared.stop.Reason.TheVariants.{Grammar, NoMachine, ClockBack, NoPacket, Up, Down, NothingToSync, StillNeeded}
-use Rattle.bx_replay.specs.Lines.{Allows, AreDone, GoesByRun, IsArrival, IsBackBy, IsByLines, IsRefusedLine, Machines, after_lines, needs_down, needs_up}
-use Rattle.bx_replay.specs.Outcome.{IsPlayable, IsRefusal, IsRefusedAt, IsRefusedByRun, IsTurnedAway, Refuses}
+use Rattle.bx_replay.specs.Lines.{Allows, AreDone, GoesByRun, IsArrival, IsBackBy, IsReasonByLines, IsRefusedLine, Machines, after_lines, needs_down, needs_up}
+use Rattle.bx_replay.specs.Outcome.{IsPlayable, IsReplayRefusal, IsRefusedAt, IsRefusedByRun, IsTurnedAway, Refuses}
 use Rattle.bx_replay.proofs.Allowed.{begins_newest}
 
 head_is : {A : Type 0} (a b : A) (xs ys : List A) → a ∷ xs ≡ b ∷ ys → a ≡ b
@@ -140,13 +140,13 @@ module _ (MayStop : Type 0) where
         by_run = refuses_by_run done line reason found.value found.in_range found.spelled allows at;
       }
 
-  pub refused_by_run : (text : List ℕ) (schedule : List Line) (number : ℕ) (reason : Reason) → IsSchedule (lines_of text) schedule → AreDone MayStop schedule → IsRefusal MayStop text number reason → IsRefusedByRun MayStop text
+  pub refused_by_run : (text : List ℕ) (schedule : List Line) (number : ℕ) (reason : Reason) → IsSchedule (lines_of text) schedule → AreDone MayStop schedule → IsReplayRefusal MayStop text number reason → IsRefusedByRun MayStop text
   refused_by_run text schedule number reason is are_done refused =
       let its = is_by_run text schedule refused.done reason refused.others is are_done refused.refused refused.are_done refused.read in
       record { number = number; reason = reason; refused = refused; line = its.line; rest = its.rest; next = its.next; allowed = its.allowed; by_run = its.by_run }
 
   -- so not for what they tell
-  untold : (reason : Reason) (line : Line) → IsByLines reason → GoesByRun MayStop reason line → ⊥
+  untold : (reason : Reason) (line : Line) → IsReasonByLines reason → GoesByRun MayStop reason line → ⊥
   untold Grammar line told by_run = by_run
   untold NoMachine line told by_run = by_run
   untold (ClockBack by) line told by_run = by_run
@@ -156,7 +156,7 @@ module _ (MayStop : Type 0) where
   untold NothingToSync line told by_run = told
   untold StillNeeded line told by_run = told
 
-  pub not_playable : (text : List ℕ) (number : ℕ) (reason : Reason) → IsByLines reason → IsRefusal MayStop text number reason → IsPlayable MayStop text → ⊥
+  pub not_playable : (text : List ℕ) (number : ℕ) (reason : Reason) → IsReasonByLines reason → IsReplayRefusal MayStop text number reason → IsPlayable MayStop text → ⊥
   not_playable text number reason told refused input =
       let its = is_by_run text input.schedule refused.done reason refused.others input.read input.are_done refused.refused refused.are_done refused.read in
       untold reason its.line told its.by_run

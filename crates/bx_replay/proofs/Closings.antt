@@ -16,19 +16,19 @@ use Rattle.bx_history.proofs.Lists.{all_front}
 use Rattle.bx_replay.proofs.Allowed.{all_push}
 
 -- These points were told behind the trace, the oldest first: with them it fits a history, which leads to this tree. They tell of no call but their own.
-pub record IsClosed {Tree : Type 0} (Step : Tree → Entry → Tree → Type 0) (rules : Rules) (first : Tree) (parts : List Part) (closing : List Point) (next : Tree) : Type 0 where
+pub record IsClosed {Tree : Type 0} (EntryStep : Tree → Entry → Tree → Type 0) (rules : Rules) (first : Tree) (parts : List Part) (closing : List Point) (next : Tree) : Type 0 where
   pub history : List Entry
   pub whole : List TraceLine
   pub whole_is : reverse (reverse (trace_of parts) ++ map Acted closing) ≡ whole
   pub fits : FitsNewest rules.kept whole history
-  pub leads : LeadsNewest Step first history next
+  pub leads : LeadsNewest EntryStep first history next
   pub taken : (call : ℕ) → taking_of whole call ≡ taking_of (trace_of parts) call
   pub apart : (call : ℕ) → has_point (trace_of parts) call ≡ false → AllByRecursion (λ point. point.call ≢ call) closing → has_point whole call ≡ false
   pub closed : AllByRecursion (IsClosing parts) (map Acted closing)
 
-module _ {Tree : Type 0} (Step : Tree → Entry → Tree → Type 0) (rules : Rules) (first : Tree) (parts : List Part) where
+module _ {Tree : Type 0} (EntryStep : Tree → Entry → Tree → Type 0) (rules : Rules) (first : Tree) (parts : List Part) where
   -- none is told
-  pub closes_none : (history : List Entry) (last : Tree) (waits : ℕ → List Taking) → AwaitsNewest Step rules first parts history last waits → IsClosed Step rules first parts [] last
+  pub closes_none : (history : List Entry) (last : Tree) (waits : ℕ → List Taking) → AwaitsNewest EntryStep rules first parts history last waits → IsClosed EntryStep rules first parts [] last
   closes_none history last waits so_far = record {
     history = history;
     whole = trace_of parts;
@@ -41,9 +41,9 @@ module _ {Tree : Type 0} (Step : Tree → Entry → Tree → Type 0) (rules : Ru
   }
 
   -- one more is, of a call that lacks a point
-  pub closes_more : (closing : List Point) (last next : Tree) (taking : Taking) (point : Point) (reply : List ℕ) → IsClosed Step rules first parts closing last → LacksPoint (trace_of parts) taking → point.call ≡ taking.call
-      → AllByRecursion (λ other. other.call ≢ point.call) closing → HasReadingSince point.call point.moment parts → Step last (entry_for taking point reply) next
-      → IsClosed Step rules first parts (closing ++ point ∷ []) next
+  pub closes_more : (closing : List Point) (last next : Tree) (taking : Taking) (point : Point) (reply : List ℕ) → IsClosed EntryStep rules first parts closing last → LacksPoint (trace_of parts) taking → point.call ≡ taking.call
+      → AllByRecursion (λ other. other.call ≢ point.call) closing → HasReadingSince point.call point.moment parts → EntryStep last (entry_for taking point reply) next
+      → IsClosed EntryStep rules first parts (closing ++ point ∷ []) next
   closes_more closing last next taking point reply so_far lacks of others moment step =
       let more : map Acted (closing ++ point ∷ []) ≡ map Acted closing ++ Acted point ∷ [] = map-append Acted closing (point ∷ []) in
       record {

@@ -11,10 +11,10 @@ use Rattle.bx_base.specs.declared.names.Actor.TheVariants.{Node, Replica, Server
 use Rattle.bx_disk.specs.Disks.{Disks}
 use Rattle.bx_disk.specs.declared.rack.Rack as racks
 use Rattle.bx_driver.specs.Lanes.{lane_cmp}
-use Rattle.bx_driver.specs.Steps.{Step, parts_with}
+use Rattle.bx_driver.specs.Steps.{EventStep, parts_with}
 use Rattle.bx_history.specs.Parts.{Part, trace_of}
 use Rattle.bx_model.specs.declared.tree.Tree.{Tree}
-use Rattle.bx_opens.specs.bx_cluster.specs.Steps.{greatest_with}
+use Rattle.bx_opens.specs.bx_cluster.specs.Steps.{greatest_reading}
 use Rattle.bx_opens.specs.bx_world_events.specs.Causes.{IsThere as IsInCluster}
 use Rattle.bx_opens.specs.bx_world_events.specs.Refusals.{Seen}
 use Rattle.bx_schedule.specs.Doing.{IsDone, IsLine}
@@ -28,21 +28,21 @@ use Rattle.bx_script.specs.declared.line.Line.TheVariants.{Heading, Call, Run, T
 use Rattle.bx_script.specs.declared.trace_line.TraceLine.{TraceLine}
 use Rattle.bx_replay.specs.Headline.{opening_of}
 use Rattle.bx_replay.specs.Lines.{Allows, IsInPlace, after_lines, devices_in}
-use Rattle.bx_replay.specs.Replay.{Reached, ShowsLines, Stands, StandsAfter}
+use Rattle.bx_replay.specs.Replay.{Reached, ShowsLines, ReplayStands, StandsAfter}
 use Rattle.bx_replay.proofs.Refusals.{TellsNone, line_allowed}
 use Rattle.bx_replay.proofs.TraceTexts.{trace_text-append}
 use Rattle.bx_replay.proofs.Weaker.{done_weaker, of_lines_weaker, rose_on, rose_since}
 
 -- what the lines of a schedule come to
 pub record LineLaws : Type 0 where
-  pub parts : (first now : ℕ) (held : set.FinSet lane_cmp) (before : List Line) (line : Line) (from to : Seen) (steps : List Step) → IsLine held line from steps to → (has_stopped steps ≡ true → Rose first now) → from.nodes ≡ nodes_after before → IsByLines (Rose first now) before from
+  pub parts : (first now : ℕ) (held : set.FinSet lane_cmp) (before : List Line) (line : Line) (from to : Seen) (steps : List EventStep) → IsLine held line from steps to → (has_stopped steps ≡ true → Rose first now) → from.nodes ≡ nodes_after before → IsByLines (Rose first now) before from
       → ArePartsOf (Rose first now) before line (parts_with steps [])
-  pub nodes : (held : set.FinSet lane_cmp) (before : List Line) (line : Line) (from to : Seen) (steps : List Step) → is_heading line ≡ false → IsLine held line from steps to → from.nodes ≡ nodes_after before → to.nodes ≡ nodes_after (line ∷ before)
-  pub many : (held : set.FinSet lane_cmp) (line : Line) (from to : Seen) (steps : List Step) → IsLine held line from steps to → HasAsMany from to
-  pub least : (held : set.FinSet lane_cmp) (line : Line) (from to : Seen) (steps : List Step) (who : Actor) (was : Bool) → IsLine held line from steps to → IsInCluster from who → (was ≡ true → from.down who ≡ true) → is_down_by line who was ≡ true → to.down who ≡ true
-  pub most : (first now : ℕ) (held : set.FinSet lane_cmp) (line : Line) (from to : Seen) (steps : List Step) (who : Actor) (was : Bool) → IsLine held line from steps to → IsInCluster from who → (has_stopped steps ≡ true → Rose first now)
+  pub nodes : (held : set.FinSet lane_cmp) (before : List Line) (line : Line) (from to : Seen) (steps : List EventStep) → is_heading line ≡ false → IsLine held line from steps to → from.nodes ≡ nodes_after before → to.nodes ≡ nodes_after (line ∷ before)
+  pub many : (held : set.FinSet lane_cmp) (line : Line) (from to : Seen) (steps : List EventStep) → IsLine held line from steps to → HasAsMany from to
+  pub least : (held : set.FinSet lane_cmp) (line : Line) (from to : Seen) (steps : List EventStep) (who : Actor) (was : Bool) → IsLine held line from steps to → IsInCluster from who → (was ≡ true → from.down who ≡ true) → is_down_by line who was ≡ true → to.down who ≡ true
+  pub most : (first now : ℕ) (held : set.FinSet lane_cmp) (line : Line) (from to : Seen) (steps : List EventStep) (who : Actor) (was : Bool) → IsLine held line from steps to → IsInCluster from who → (has_stopped steps ≡ true → Rose first now)
       → (from.down who ≡ true → (was ≡ true) ⊎ Rose first now) → to.down who ≡ true → (is_down_by line who was ≡ true) ⊎ Rose first now
-  pub apart : (steps : List Step) (parts : List Part) → parts_with steps parts ≡ parts_with steps [] ++ parts
+  pub apart : (steps : List EventStep) (parts : List Part) → parts_with steps parts ≡ parts_with steps [] ++ parts
 
 -- ---- lists
 
@@ -153,7 +153,7 @@ module _ {C R : Type 0} (seen_of : C → Seen) (led_of : C → Disks → Tree �
       shows = record {
         nodes = laws.nodes old.held done line (seen_of old.cluster) (seen_of new.cluster) is_done.goes.steps place.0.1 is_done.goes.is reached.shows.nodes;
         devices = many.devices ∙ reached.shows.devices ∙ sym (devices_same line done place.0.1);
-        clock = is_done.clock ∙ ap (greatest_with (reading_of line)) reached.shows.clock;
+        clock = is_done.clock ∙ ap (greatest_reading (reading_of line)) reached.shows.clock;
         down = λ who there is. laws.least old.held line (seen_of old.cluster) (seen_of new.cluster) is_done.goes.steps who (is_down_after done who) is_done.goes.is
             (there_before _ _ who many there) (λ was. reached.shows.down who (there_before _ _ who many there) was) is;
         stopped = λ who there is. laws.most start (ra.faults after) old.held line (seen_of old.cluster) (seen_of new.cluster) is_done.goes.steps who (is_down_after done who) is_done.goes.is
@@ -166,7 +166,7 @@ module _ {C R : Type 0} (seen_of : C → Seen) (led_of : C → Disks → Tree �
         stopped who (inr may) = inr (goes_on may)
 
   module _ (done : List Done) (reached : Reached Was (seen_of old.cluster) old.clock (lines_of done)) (start_text written : List ℕ) (tells : ra.tells before)
-      (stands : Stands Was (led_of old.cluster (ra.state before)) old.lacking done start_text written) where
+      (stands : ReplayStands Was (led_of old.cluster (ra.state before)) old.lacking done start_text written) where
     abbrev parts : List Part
     parts = parts_with is_done.goes.steps []
 
@@ -188,7 +188,7 @@ module _ {C R : Type 0} (seen_of : C → Seen) (led_of : C → Disks → Tree �
     traced : trace_of (parts_of (one ∷ done)) ≡ trace_of parts ++ trace_of (parts_of done)
     traced = trace_of-append parts (parts_of done)
 
-    stands_now : (text : List ℕ) → text ≡ trace_text (lines_by is_done.goes.steps) → Stands Now (led_of new.cluster (ra.state after)) new.lacking (one ∷ done) start_text (written ++ text)
+    stands_now : (text : List ℕ) → text ≡ trace_text (lines_by is_done.goes.steps) → ReplayStands Now (led_of new.cluster (ra.state after)) new.lacking (one ∷ done) start_text (written ++ text)
     stands_now text text_is = record {
       led = subst (λ (t : Tree). led_of new.cluster (ra.state after) t (parts_of (one ∷ done))) (sym opened)
           (subst (led_of new.cluster (ra.state after) tree) whole (is_done.goes.leads tree (parts_of done) tells stands.led));
@@ -216,7 +216,7 @@ module _ {C R : Type 0} (seen_of : C → Seen) (led_of : C → Disks → Tree �
     pub stands_all : old.text ≡ [] → (now : List ℕ) → now ≡ written ++ new.text → StandsAfter Now (led_of new.cluster (ra.state after)) new.lacking line done start_text now
     stands_all cleared now is = record {
       parts = parts;
-      stands = subst (Stands Now (led_of new.cluster (ra.state after)) new.lacking (one ∷ done) start_text) (sym is) (stands_now new.text (text_is cleared));
+      stands = subst (ReplayStands Now (led_of new.cluster (ra.state after)) new.lacking (one ∷ done) start_text) (sym is) (stands_now new.text (text_is cleared));
     }
       where
         text_is : old.text ≡ [] → new.text ≡ trace_text (lines_by is_done.goes.steps)

@@ -28,7 +28,7 @@ filter_same : {A : Type 0} (p q : A → Bool) (xs : List A) → ((x : A) → p x
 filter_same p q [] same = refl
 filter_same p q (x ∷ xs) same = rw (same x, filter_same p q xs same) refl
 
-module _ (Of : Tree → Entry → Tree → Type 0) (at_once : List ℕ → Type 0) (acts : (tree next : Tree) (entry : Entry) → Of tree entry next → runs.StepOf engine.Step tree entry next)
+module _ (Of : Tree → Entry → Tree → Type 0) (at_once : List ℕ → Type 0) (acts : (tree next : Tree) (entry : Entry) → Of tree entry next → runs.StepOf engine.StepOfTree tree entry next)
     (answers : (bytes : List ℕ) → IsAtOnce bytes → at_once bytes) (MayStop : Type 0) where
   pub heads : (Led : Tree → List Part → Type 0) → ((tree : Tree) (parts : List Part) → Led tree parts → runs.Account Of at_once tree parts) → Heads MayStop Led
   heads Led accounts done led is =

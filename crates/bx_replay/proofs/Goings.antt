@@ -21,7 +21,7 @@ use Rattle.bx_stops.specs.declared.stop.Reason.TheVariants.{Grammar}
 use Rattle.bx_replay.specs.Headline.{Headline, opening_of}
 use Rattle.bx_replay.specs.Lines.{IsInPlace, IsRefusedLine, after_lines}
 use Rattle.bx_replay.specs.Outcome.{IsBroken, IsCutOff, IsRefused, IsReplayed, closing_text}
-use Rattle.bx_replay.specs.Replay.{Going, IsRead, Reached, Stands, StandsAfter, Wrote}
+use Rattle.bx_replay.specs.Replay.{Going, IsRead, Reached, ReplayStands, StandsAfter, WroteOn}
 use Rattle.bx_replay.proofs.Allowed.{are_done, begins_newest}
 use Rattle.bx_replay.proofs.Headlines.{IsOfLines, no_headline}
 use Rattle.bx_replay.proofs.NextLines.{IsRefusedHere}
@@ -42,7 +42,7 @@ module _ (MayStop : Type 0) (Led : Tree → List Part → Type 0) (lacking : set
   pub of_lines : IsOfLines MayStop going.done
   of_lines = record { of_lines = going.stands.of_lines; in_range = going.stands.in_range }
 
-  pub stops_broken : Heads MayStop Led → Wrote start written (IsBroken MayStop text)
+  pub stops_broken : Heads MayStop Led → WroteOn start written (IsBroken MayStop text)
   stops_broken heads =
       let head = heads going.done going.stands.led of_lines in
       record {
@@ -62,7 +62,7 @@ module _ (MayStop : Type 0) (Led : Tree → List Part → Type 0) (lacking : set
         };
       }
 
-  pub stops_cut : Heads MayStop Led → (piece left : List ℕ) → rest ≡ piece ++ left → LacksFeed piece → length piece ≤ 18600 → Wrote start written (IsCutOff MayStop text left)
+  pub stops_cut : Heads MayStop Led → (piece left : List ℕ) → rest ≡ piece ++ left → LacksFeed piece → length piece ≤ 18600 → WroteOn start written (IsCutOff MayStop text left)
   stops_cut heads piece left e lacks short =
       let head = heads going.done going.stands.led of_lines in
       record {
@@ -71,7 +71,7 @@ module _ (MayStop : Type 0) (Led : Tree → List Part → Type 0) (lacking : set
         holds = record { cut = cut_at MayStop seen greatest text rest piece left number so_far e lacks short; trace = its_trace; last = head.0; headline = head.1; output-is = refl };
       }
 
-  pub stops_outside : Heads MayStop Led → IsRefusedHere rest (number + 1) → Wrote start written (IsRefused MayStop text (number + 1) Grammar)
+  pub stops_outside : Heads MayStop Led → IsRefusedHere rest (number + 1) → WroteOn start written (IsRefused MayStop text (number + 1) Grammar)
   stops_outside heads here =
       let head = heads going.done going.stands.led of_lines in
       record {
@@ -81,7 +81,7 @@ module _ (MayStop : Type 0) (Led : Tree → List Part → Type 0) (lacking : set
       }
 
   pub stops_refused : Heads MayStop Led → (reason : Reason) (line : Line) (next : List ℕ) → number < 4294967295 → BeginsWith rest (spelling line) next → IsInPlace false line → IsRefusedLine MayStop reason (after_lines (lines_of going.done)) line
-      → Wrote start written (IsRefused MayStop text (number + 1) reason)
+      → WroteOn start written (IsRefused MayStop text (number + 1) reason)
   stops_refused heads reason line next few begins place why =
       let head = heads going.done going.stands.led of_lines in
       record {
@@ -110,7 +110,7 @@ module _ (MayStop : Type 0) (Led : Tree → List Part → Type 0) (lacking : set
     }
 
     -- the line was done, and only a part of its trace was written
-    pub stops_torn : Heads Now Led_now → (text_new : List ℕ) (n : ℕ) → after ≡ written ++ take n text_new → StandsAfter Now Led_now lacking_now line going.done start (written ++ text_new) → Wrote start after (IsBroken Now text)
+    pub stops_torn : Heads Now Led_now → (text_new : List ℕ) (n : ℕ) → after ≡ written ++ take n text_new → StandsAfter Now Led_now lacking_now line going.done start (written ++ text_new) → WroteOn start after (IsBroken Now text)
     stops_torn heads text_new n part stands =
         let done : List Done = record { line = line; parts = stands.parts } ∷ going.done in
         let head = heads done stands.stands.led (record { of_lines = stands.stands.of_lines; in_range = stands.stands.in_range }) in
@@ -155,7 +155,7 @@ module _ (MayStop : Type 0) (Led : Tree → List Part → Type 0) (lacking : set
   closing = closing_text (map Acted points) tree
 
   -- a part of the end was written
-  pub stops_unfinished : (after : List ℕ) (n : ℕ) → after ≡ before ++ take n closing → Wrote start after (IsBroken MayStop text)
+  pub stops_unfinished : (after : List ℕ) (n : ℕ) → after ≡ before ++ take n closing → WroteOn start after (IsBroken MayStop text)
   stops_unfinished after n part = record {
     output = trace_text trace ++ take n closing;
     added = part ∙ ap (λ (w : List ℕ). w ++ take n closing) going.stands.output ∙ append_assoc start (trace_text trace) (take n closing);
@@ -174,8 +174,8 @@ module _ (MayStop : Type 0) (Led : Tree → List Part → Type 0) (lacking : set
   }
 
   -- all of it was
-  pub finishes : (Stands : Tree → List TraceLine → Type 0) (after : List ℕ) → after ≡ before ++ closing → Stands tree (map Acted points) → Wrote start after (IsReplayed MayStop text Stands)
-  finishes Stands after all stands = record {
+  pub finishes : (ReplayStands : Tree → List TraceLine → Type 0) (after : List ℕ) → after ≡ before ++ closing → ReplayStands tree (map Acted points) → WroteOn start after (IsReplayed MayStop text ReplayStands)
+  finishes ReplayStands after all stands = record {
     output = trace_text trace ++ closing;
     added = all ∙ ap (λ (w : List ℕ). w ++ closing) going.stands.output ∙ append_assoc start (trace_text trace) closing;
     holds = record {
@@ -192,28 +192,28 @@ module _ (MayStop : Type 0) (Led : Tree → List Part → Type 0) (lacking : set
 -- ---- the first line
 
 module _ (MayStop : Type 0) where
-  pub begins_broken : (text start : List ℕ) → Wrote start start (IsBroken MayStop text)
+  pub begins_broken : (text start : List ℕ) → WroteOn start start (IsBroken MayStop text)
   begins_broken text start = record {
     output = [];
     added = sym (append-nil start);
     holds = record { done = []; others = text_lines text; trace = []; closing = []; last = first_tree 0 1; more = []; read = refl; are_done = tt; headline = no_headline MayStop; part = inl refl };
   }
 
-  pub begins_cut : (text piece left start : List ℕ) → text ≡ piece ++ left → LacksFeed piece → length piece ≤ 18600 → Wrote start start (IsCutOff MayStop text left)
+  pub begins_cut : (text piece left start : List ℕ) → text ≡ piece ++ left → LacksFeed piece → length piece ≤ 18600 → WroteOn start start (IsCutOff MayStop text left)
   begins_cut text piece left start e lacks short = record {
     output = [];
     added = sym (append-nil start);
     holds = record { cut = cut_first MayStop text piece left e lacks short; trace = []; last = first_tree 0 1; headline = no_headline MayStop; output-is = refl };
   }
 
-  pub begins_empty : (text start : List ℕ) → text ≡ [] → Wrote start start (IsRefused MayStop text 1 Grammar)
+  pub begins_empty : (text start : List ℕ) → text ≡ [] → WroteOn start start (IsRefused MayStop text 1 Grammar)
   begins_empty text start e = record {
     output = [];
     added = sym (append-nil start);
     holds = record { first = refused_empty MayStop text e; trace = []; last = first_tree 0 1; headline = no_headline MayStop; output-is = refl };
   }
 
-  pub begins_outside : (text start : List ℕ) → IsRefusedHere text 1 → Wrote start start (IsRefused MayStop text 1 Grammar)
+  pub begins_outside : (text start : List ℕ) → IsRefusedHere text 1 → WroteOn start start (IsRefused MayStop text 1 Grammar)
   begins_outside text start here = record {
     output = [];
     added = sym (append-nil start);

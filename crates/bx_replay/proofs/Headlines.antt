@@ -24,7 +24,7 @@ use Rattle.bx_opens.specs.bx_cluster.specs.Runs as runs
 use Rattle.bx_schedule.specs.Placing.{AreOfLines, Done, parts_of, schedule_of}
 use Rattle.bx_opens.specs.AtOnce.{IsAtOnce}
 use Rattle.bx_steps.specs.Steps as engine
-use Rattle.bx_replay.specs.Headline.{rules, opening_of, AreTyped, Step, Headline}
+use Rattle.bx_replay.specs.Headline.{rules, opening_of, AreTyped, EntryStep, Headline}
 use Rattle.bx_replay.proofs.Accounting.{entered, typed_account}
 use Rattle.bx_replay.proofs.Allowed.{all_push}
 use Rattle.bx_replay.proofs.Closings.{IsClosed, closes_more, closes_none}
@@ -50,7 +50,7 @@ record Typed (first last : Tree) (bytes : List traces.Entry) : Type 0 where
   typed : AreTyped bytes history
   leads : LeadsNewest IsStep first history last
 
-typed : (first last : Tree) (bytes : List traces.Entry) → LeadsNewest Step first bytes last → Typed first last bytes
+typed : (first last : Tree) (bytes : List traces.Entry) → LeadsNewest EntryStep first bytes last → Typed first last bytes
 typed first last [] leads = record { history = []; typed = tt; leads = leads }
 typed first last (entry ∷ earlier) leads =
     let so_far = typed first leads.0 earlier leads.1 in
@@ -58,11 +58,11 @@ typed first last (entry ∷ earlier) leads =
 
 -- the same for a trace and a history with the oldest first
 one_told : (first last tree : Tree) (trace : List TraceLine) (history others : List traces.Entry)
-    → traces.FitsNewest rules.kept trace history → LeadsNewest Step first history last
-    → traces.FitsNewest rules.kept trace (reverse others) → LeadsNewest Step first (reverse others) tree
+    → traces.FitsNewest rules.kept trace history → LeadsNewest EntryStep first history last
+    → traces.FitsNewest rules.kept trace (reverse others) → LeadsNewest EntryStep first (reverse others) tree
     → (others ≡ reverse history) × (tree ≡ last)
 one_told first last tree trace history others fits leads fits' leads' =
-    let one = one_history Step step_once rules.kept first tree last trace (reverse others) history fits' leads' fits leads in
+    let one = one_history EntryStep step_once rules.kept first tree last trace (reverse others) history fits' leads' fits leads in
     (sym (reverse-reverse others) ∙ ap (λ (h : List traces.Entry). reverse h) one.0, one.1)
 
 -- what was done, and of which the trace is in range
@@ -72,7 +72,7 @@ pub record IsOfLines (MayStop : Type 0) (done : List Done) : Type 0 where
 
 -- points behind the trace close a history, as the headline says
 headline_of : (MayStop : Type 0) (done : List Done) (points : List Point) (history : List traces.Entry) (last next : Tree) → IsOfLines MayStop done
-    → AwaitsNewest Step rules (opening_of (schedule_of done)) (parts_of done) history last (waiting (parts_of done)) → IsClosed Step rules (opening_of (schedule_of done)) (parts_of done) points next
+    → AwaitsNewest EntryStep rules (opening_of (schedule_of done)) (parts_of done) history last (waiting (parts_of done)) → IsClosed EntryStep rules (opening_of (schedule_of done)) (parts_of done) points next
     → AllByRecursion InTraceRange (map Acted points) → Headline MayStop (schedule_of done) (reverse (trace_of (parts_of done))) (map Acted points) next
 headline_of MayStop done points history last next is accounts closes in_range =
     let first : Tree = opening_of (schedule_of done) in
@@ -98,7 +98,7 @@ headline_of MayStop done points history last next is accounts closes in_range =
           (one.0, one.1);
     }
 
-module _ (Of : Tree → traces.Entry → Tree → Type 0) (at_once : List ℕ → Type 0) (acts : (tree next : Tree) (entry : traces.Entry) → Of tree entry next → runs.StepOf engine.Step tree entry next)
+module _ (Of : Tree → traces.Entry → Tree → Type 0) (at_once : List ℕ → Type 0) (acts : (tree next : Tree) (entry : traces.Entry) → Of tree entry next → runs.StepOf engine.StepOfTree tree entry next)
     (answers : (bytes : List ℕ) → IsAtOnce bytes → at_once bytes) (MayStop : Type 0) (done : List Done) (stood : IsOfLines MayStop done) where
   abbrev opening : Tree
   opening = opening_of (schedule_of done)
@@ -110,7 +110,7 @@ module _ (Of : Tree → traces.Entry → Tree → Type 0) (at_once : List ℕ �
   pub headline : (account : runs.Account Of at_once (opening_of (schedule_of done)) (parts_of done)) → Headline MayStop (schedule_of done) (reverse (trace_of (parts_of done))) [] account.last
   headline account =
       let accounts = typed_account Of at_once acts answers opening account.last parts account.history (waiting parts) account.accounts in
-      headline_of MayStop done [] account.history account.last account.last stood accounts (closes_none Step rules opening parts account.history account.last (waiting parts) accounts) tt
+      headline_of MayStop done [] account.history account.last account.last stood accounts (closes_none EntryStep rules opening parts account.history account.last (waiting parts) accounts) tt
 
   -- a point that is told is that of a call in doubt in one of the first so many slots
   record IsOneOf (doubts : ℕ → Option Doubt) (slots : ℕ) (point : Point) : Type 0 where
@@ -128,16 +128,16 @@ module _ (Of : Tree → traces.Entry → Tree → Type 0) (at_once : List ℕ �
   module _ (account : runs.Account Of at_once (opening_of (schedule_of done)) (parts_of done)) (doubts : ℕ → Option Doubt)
       (doubted : (slot : ℕ) (doubt : Doubt) → doubts slot ≡ Some doubt → IsDoubted (parts_of done) doubt)
       (once : (slot other : ℕ) (doubt twin : Doubt) → doubts slot ≡ Some doubt → doubts other ≡ Some twin → twin.call.call ≡ doubt.call.call → other ≡ slot) where
-    abbrev accounts : AwaitsNewest Step rules opening parts account.history account.last (waiting parts)
+    abbrev accounts : AwaitsNewest EntryStep rules opening parts account.history account.last (waiting parts)
     accounts = typed_account Of at_once acts answers opening account.last parts account.history (waiting parts) account.accounts
 
     -- what is told at the end, by the calls in doubt in the first so many slots
     record ClosesSlots (slots : ℕ) (next : Tree) (opened : List Point) : Type 0 where
-      closes : IsClosed Step rules opening parts opened next
+      closes : IsClosed EntryStep rules opening parts opened next
       each : AllByRecursion (IsOneOf doubts slots) opened
 
     closing : (slots : ℕ) (next : Tree) (opened : List Point) → Tells Of doubts slots account.last next opened → ClosesSlots slots next opened
-    closing zero next opened told = rw (told.0, told.1) (record { closes = closes_none Step rules opening parts account.history account.last (waiting parts) accounts; each = tt })
+    closing zero next opened told = rw (told.0, told.1) (record { closes = closes_none EntryStep rules opening parts account.history account.last (waiting parts) accounts; each = tt })
     closing (suc slot) next opened (middle, earlier, before, now) = by (closing slot middle earlier before) now
       where
         by : ClosesSlots slot middle earlier → (((next ≡ middle) × (opened ≡ earlier)) ⊎ HasActed Of middle (doubts slot) next earlier opened) → ClosesSlots (suc slot) next opened
@@ -145,7 +145,7 @@ module _ (Of : Tree → traces.Entry → Tree → Type 0) (at_once : List ℕ �
         by so_far (inr told) =
             let was = doubted slot told.of told.is in
             rw (told.open_is) (record {
-              closes = closes_more Step rules opening parts earlier middle next told.of.call told.of.point told.acts.reply so_far.closes was.lacks was.of (others earlier so_far.each)
+              closes = closes_more EntryStep rules opening parts earlier middle next told.of.call told.of.point told.acts.reply so_far.closes was.lacks was.of (others earlier so_far.each)
                   (subst (λ (n : ℕ). HasReadingSince n told.of.point.moment parts) (sym was.of) was.since) (entered middle next _ (acts middle next _ told.acts.step));
               each = all_push (IsOneOf doubts (suc slot)) earlier told.of.point (all_of_more doubts slot earlier so_far.each) (record { slot = slot; below = omega arith; of = told.of; stands_there = told.is; at = refl });
             })
@@ -184,7 +184,7 @@ no_headline MayStop = record {
 
 -- ---- one output has one trace
 
-stepped : (first last : Tree) (bytes : List traces.Entry) (history : List Entry) → AreTyped bytes history → LeadsNewest IsStep first history last → LeadsNewest Step first bytes last
+stepped : (first last : Tree) (bytes : List traces.Entry) (history : List Entry) → AreTyped bytes history → LeadsNewest IsStep first history last → LeadsNewest EntryStep first bytes last
 stepped first last [] [] typed leads = leads
 stepped first last [] (entry ∷ earlier) typed leads = absurd typed
 stepped first last (bytes ∷ before) [] typed leads = absurd typed

@@ -18,19 +18,19 @@ use Rattle.bx_stops.specs.declared.stop.Stop.{Stop}
 use Rattle.bx_stops.specs.declared.stop.Stop.TheVariants as stops
 use Rattle.bx_replay.specs.Lines.{IsInPlace, after_lines}
 use Rattle.bx_replay.specs.Outcome.{IsBroken, IsReplayed, IsShownBy}
-use Rattle.bx_replay.specs.Replay.{Begins, DoesLine, Ends, GivesLine, Going, HasBeginCause, HasFinishCause, HasLineCause, HasStepCause, IsRead, IsRefusedFor, IsShownAs, IsUnread, Leaves, Reached, StandsAfter, Wrote}
+use Rattle.bx_replay.specs.Replay.{Begins, DoesLine, Ends, GivesLine, Going, HasBeginCause, HasFinishCause, HasLineCause, HasStepCause, IsRead, IsRefusedFor, IsShownAs, IsUnread, Leaves, Reached, StandsAfter, WroteOn}
 use Rattle.bx_replay.proofs.Goings.{ClosesSo, Heads, begins_broken, begins_cut, begins_empty, begins_outside, finishes, stops_broken, stops_cut, stops_outside, stops_refused, stops_torn, stops_unfinished}
 use Rattle.bx_replay.proofs.ReadLines.{all_read, cut_at, cut_first, refused_empty, refused_first, refused_line, refused_outside}
 
-pub begin_stops : (MayStop : Type 0) {A : Type 0} (seen : A → Seen) (greatest : A → ℕ) (Tells : Type 0) (Stands : Tree → List TraceLine → Type 0) (stop : Stop) (text rest left start : List ℕ) (before now bench_before bench_now : ℕ) → HasBeginCause stop before now bench_before bench_now
-    → Begins seen greatest (Err stop) text rest left → Leaves MayStop Tells Stands (Err stop) text left start start
-begin_stops MayStop seen greatest Tells Stands (stops.Refused line reason) text rest left start before now bench_before bench_now cause (inl e) = rw (cause.0, cause.1) (refused_empty MayStop text e, λ _. begins_empty MayStop text start e)
-begin_stops MayStop seen greatest Tells Stands (stops.Refused line reason) text rest left start before now bench_before bench_now cause (inr here) = rw (cause.0, cause.1) (refused_first MayStop text here, λ _. begins_outside MayStop text start here)
-begin_stops MayStop seen greatest Tells Stands stops.ReadFault text rest left start before now bench_before bench_now cause begins =
+pub begin_stops : (MayStop : Type 0) {A : Type 0} (seen : A → Seen) (greatest : A → ℕ) (Tells : Type 0) (ReplayStands : Tree → List TraceLine → Type 0) (stop : Stop) (text rest left start : List ℕ) (before now bench_before bench_now : ℕ) → HasBeginCause stop before now bench_before bench_now
+    → Begins seen greatest (Err stop) text rest left → Leaves MayStop Tells ReplayStands (Err stop) text left start start
+begin_stops MayStop seen greatest Tells ReplayStands (stops.Refused line reason) text rest left start before now bench_before bench_now cause (inl e) = rw (cause.0, cause.1) (refused_empty MayStop text e, λ _. begins_empty MayStop text start e)
+begin_stops MayStop seen greatest Tells ReplayStands (stops.Refused line reason) text rest left start before now bench_before bench_now cause (inr here) = rw (cause.0, cause.1) (refused_first MayStop text here, λ _. begins_outside MayStop text start here)
+begin_stops MayStop seen greatest Tells ReplayStands stops.ReadFault text rest left start before now bench_before bench_now cause begins =
     (cut_first MayStop text begins.0 left begins.1 begins.2 begins.3, λ _. begins_cut MayStop text begins.0 left start begins.1 begins.2 begins.3)
-begin_stops MayStop seen greatest Tells Stands stops.WriteFault text rest left start before now bench_before bench_now cause begins = absurd cause
-begin_stops MayStop seen greatest Tells Stands stops.DiskFault text rest left start before now bench_before bench_now cause begins = λ _. begins_broken MayStop text start
-begin_stops MayStop seen greatest Tells Stands stops.OutOfMemory text rest left start before now bench_before bench_now cause begins = λ _. begins_broken MayStop text start
+begin_stops MayStop seen greatest Tells ReplayStands stops.WriteFault text rest left start before now bench_before bench_now cause begins = absurd cause
+begin_stops MayStop seen greatest Tells ReplayStands stops.DiskFault text rest left start before now bench_before bench_now cause begins = λ _. begins_broken MayStop text start
+begin_stops MayStop seen greatest Tells ReplayStands stops.OutOfMemory text rest left start before now bench_before bench_now cause begins = λ _. begins_broken MayStop text start
 
 -- An end that comes behind the reading back of a tree, with its closing points; or a part of it.
 pub record IsEnding (MayStop : Type 0) (disks : Disks) (lacks : ℕ → Bool) (r : Result (Unit {0}) Stop) (old new : List ℕ) (done : List Done) : Type 0 where
@@ -38,10 +38,10 @@ pub record IsEnding (MayStop : Type 0) (disks : Disks) (lacks : ℕ → Bool) (r
   pub closes : (points : List Point) → IsShownAs disks lacks tree points → ClosesSo MayStop done tree points
   pub ends : Ends r disks lacks tree old new
 
-module _ (MayStop Tells : Type 0) (Stands : Tree → List TraceLine → Type 0) (Led : Tree → List Part → Type 0) (heads : Tells → Heads MayStop Led) (lacking : set.FinSet nat_cmp) (seen : Seen) (greatest : ℕ) where
+module _ (MayStop Tells : Type 0) (ReplayStands : Tree → List TraceLine → Type 0) (Led : Tree → List Part → Type 0) (heads : Tells → Heads MayStop Led) (lacking : set.FinSet nat_cmp) (seen : Seen) (greatest : ℕ) where
   pub line_stops : (stop : Stop) (text rest next left start written : List ℕ) (number before now : ℕ)
       → IsRead MayStop seen greatest text rest number → (Tells → Going MayStop Led lacking seen greatest text rest number start written) → HasLineCause stop (number + 1) before now → GivesLine (Err stop) (number + 1) rest next left
-      → Leaves MayStop Tells Stands (Err stop) text left start written
+      → Leaves MayStop Tells ReplayStands (Err stop) text left start written
   line_stops (stops.Refused line reason) text rest next left start written number before now so_far going cause gives =
       rw (cause.0, cause.1) (refused_outside MayStop seen greatest text rest number so_far gives, λ tells. stops_outside MayStop Led lacking seen greatest text rest number start written (going tells) (heads tells) gives)
   line_stops stops.ReadFault text rest next left start written number before now so_far going cause gives = (
@@ -58,7 +58,7 @@ module _ (MayStop Tells : Type 0) (Stands : Tree → List TraceLine → Type 0) 
       → (so_far : IsRead MayStop seen greatest text rest number) → (going : Tells → Going MayStop Led lacking seen greatest text rest number start old) → number < 4294967295 → BeginsWith rest (spelling line) next
       → IsInPlace false line → HasStepCause stop (number + 1) before now → IsRefusedFor MayStop stop (number + 1) (after_lines so_far.done) line → ((tells : Tells) → IsRefusedFor MayStop stop (number + 1) (after_lines (lines_of (going tells).done)) line)
       → ((tells : Tells) → DoesLine (Err stop) (λ written. Reached MayStop seen_now greatest_now (line ∷ lines_of (going tells).done) × StandsAfter MayStop Led_now lacking_now line (going tells).done start written) old new)
-      → Leaves MayStop Tells Stands (Err stop) text left start new
+      → Leaves MayStop Tells ReplayStands (Err stop) text left start new
   step_stops (stops.Refused n reason) text rest next left start old new number before now line Led_now heads_now lacking_now seen_now greatest_now so_far going few begins place cause refused refused_then does =
       rw cause (
         refused_line MayStop seen greatest text rest next number line so_far few begins place reason refused.1,
@@ -76,19 +76,19 @@ module _ (MayStop Tells : Type 0) (Stands : Tree → List TraceLine → Type 0) 
 
   module _ (disks : Disks) (lacks : ℕ → Bool) (text start old : List ℕ) (number : ℕ) (so_far : IsRead MayStop seen greatest text [] number) (going : Tells → Going MayStop Led lacking seen greatest text [] number start old) where
     -- the trace alone, or with a part of the end behind it
-    broken : (tells : Tells) → Wrote start old (IsBroken MayStop text)
+    broken : (tells : Tells) → WroteOn start old (IsBroken MayStop text)
     broken tells = stops_broken MayStop Led lacking seen greatest text [] number start old (going tells) (heads tells)
 
-    torn : (tells : Tells) (new : List ℕ) → IsEnding MayStop disks lacks (Err stops.WriteFault) old new (going tells).done → Wrote start new (IsBroken MayStop text)
+    torn : (tells : Tells) (new : List ℕ) → IsEnding MayStop disks lacks (Err stops.WriteFault) old new (going tells).done → WroteOn start new (IsBroken MayStop text)
     torn tells new it = stops_unfinished MayStop Led lacking seen greatest text number start old (going tells) it.tree it.ends.0 (it.closes it.ends.0 it.ends.1) new it.ends.2.0 it.ends.2.1
 
-    whole : (x : Unit {0}) (tells : Tells) (new : List ℕ) → IsEnding MayStop disks lacks (Ok x) old new (going tells).done → ((tree : Tree) (points : List Point) → IsShownAs disks lacks tree points → Stands tree (map Acted points)) → Wrote start new (IsReplayed MayStop text Stands)
+    whole : (x : Unit {0}) (tells : Tells) (new : List ℕ) → IsEnding MayStop disks lacks (Ok x) old new (going tells).done → ((tree : Tree) (points : List Point) → IsShownAs disks lacks tree points → ReplayStands tree (map Acted points)) → WroteOn start new (IsReplayed MayStop text ReplayStands)
     whole x tells new it shown =
-        finishes MayStop Led lacking seen greatest text number start old (going tells) it.tree it.ends.0 (it.closes it.ends.0 it.ends.1) Stands new it.ends.2 (shown it.tree it.ends.0 it.ends.1)
+        finishes MayStop Led lacking seen greatest text number start old (going tells) it.tree it.ends.0 (it.closes it.ends.0 it.ends.1) ReplayStands new it.ends.2 (shown it.tree it.ends.0 it.ends.1)
 
     pub finish_leaves : (r : Result (Unit {0}) Stop) (left new : List ℕ) (before now : ℕ) (Held : Type 0) (bench_before bench_now : ℕ) → left ≡ [] → IfErr r (λ stop. HasFinishCause stop before now Held bench_before bench_now)
         → ((tells : Tells) → IsEnding MayStop disks lacks r old new (going tells).done ⊎ (IsUnread r × (new ≡ old)))
-        → (Tells → OnOk r ((tree : Tree) (points : List Point) → IsShownAs disks lacks tree points → Stands tree (map Acted points))) → Leaves MayStop Tells Stands r text left start new
+        → (Tells → OnOk r ((tree : Tree) (points : List Point) → IsShownAs disks lacks tree points → ReplayStands tree (map Acted points))) → Leaves MayStop Tells ReplayStands r text left start new
     finish_leaves (Ok x) left new before now Held bench_before bench_now all cause ended shown =
         (all_read MayStop seen greatest text number so_far, all, λ tells. elim (ended tells) [ inl it ↦ whole x tells new it (shown tells) | inr none ↦ absurd none.0 ])
     finish_leaves (Err (stops.Refused n reason)) left new before now Held bench_before bench_now all cause ended shown = absurd cause

@@ -8,7 +8,7 @@ use Rattle.bx_model.specs.declared.tree.Tree.{Tree}
 use Rattle.bx_model.specs.Act.{act}
 use Rattle.bx_nfs.specs.Wire.{reply_text}
 use Rattle.bx_nfs.proofs.Reading.{reads_once}
-use Rattle.bx_replay.specs.Headline.{Step}
+use Rattle.bx_replay.specs.Headline.{EntryStep}
 
 some_is : {A : Type 0} (x y : A) (o : Option A) → o ≡ Some x → o ≡ Some y → x ≡ y
 some_is x y o e f = let g : Some x ≡ Some y = sym e ∙ f in cc
@@ -26,7 +26,7 @@ made_entry : (c d k l m n s u e f : ℕ) (x y v w : List ℕ) → c ≡ d → k 
     → ◌≡◌ {A = traces.Entry} (record { call = c; client = k; bytes = x; moment = m; spare = s; made = e; reply = v }) (record { call = d; client = l; bytes = y; moment = n; spare = u; made = f; reply = w })
 made_entry c d k l m n s u e f x y v w p1 p2 p3 p4 p5 p6 p7 = rw (p1, p2, p3, p4, p5, p6, p7) refl
 
-pub step_once : (tree : Tree) (a b : traces.Entry) (x y : Tree) → asked a ≡ asked b → Step tree a x → Step tree b y → (a ≡ b) × (x ≡ y)
+pub step_once : (tree : Tree) (a b : traces.Entry) (x y : Tree) → asked a ≡ asked b → EntryStep tree a x → EntryStep tree b y → (a ≡ b) × (x ≡ y)
 step_once tree a b x y same s t =
     let call : a.call ≡ b.call = ap (λ (q : Asked). q.point.call) same in
     let moment : a.moment ≡ b.moment = ap (λ (q : Asked). q.point.moment) same in

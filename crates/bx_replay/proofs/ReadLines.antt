@@ -14,7 +14,7 @@ use Rattle.bx_stops.specs.declared.stop.Reason.{Reason}
 use Rattle.bx_stops.specs.declared.stop.Reason.TheVariants.{Grammar, NoMachine, ClockBack, NoPacket, Up, Down, NothingToSync, StillNeeded}
 use Rattle.bx_opens.specs.bx_world_events.specs.Refusals.{Seen}
 use Rattle.bx_replay.specs.Lines.{IsInPlace, IsRefusedLine, after_lines}
-use Rattle.bx_replay.specs.Outcome.{IsCut, IsPlayable, IsReadTo, IsRefusal, IsRefusedAt, IsTurnedAway}
+use Rattle.bx_replay.specs.Outcome.{IsCut, IsPlayable, IsReadTo, IsReplayRefusal, IsRefusedAt, IsTurnedAway}
 use Rattle.bx_replay.specs.Replay.{IsRead}
 use Rattle.bx_replay.proofs.Allowed.{are_done, begins_newest, few_newest}
 use Rattle.bx_replay.proofs.NextLines.{IsRefusedHere}
@@ -103,7 +103,7 @@ module _ (MayStop : Type 0) where
   }
 
   abbrev pub refused_at : (seen : Seen) (greatest : ℕ) (text rest : List ℕ) (number : ℕ) (so_far : IsRead MayStop seen greatest text rest number) (reason : Reason) (others : List (List ℕ)) → lines_of rest ≡ others
-      → IsRefusedAt MayStop (reverse so_far.done) others reason → IsRefusal MayStop text (number + 1) reason
+      → IsRefusedAt MayStop (reverse so_far.done) others reason → IsReplayRefusal MayStop text (number + 1) reason
   refused_at seen greatest text rest number so_far reason others e refused = record {
     done = reverse so_far.done;
     others = others;
@@ -118,7 +118,7 @@ module _ (MayStop : Type 0) where
   outside done number first others some count (inl many) = inl (omega (arith, count, many, length-reverse done))
   outside done number first others some count (inr none) = inr (λ value place. none value (rw (not_first done number some count) place))
 
-  abbrev pub refused_outside : (seen : Seen) (greatest : ℕ) (text rest : List ℕ) (number : ℕ) → IsRead MayStop seen greatest text rest number → IsRefusedHere rest (number + 1) → IsRefusal MayStop text (number + 1) Grammar
+  abbrev pub refused_outside : (seen : Seen) (greatest : ℕ) (text rest : List ℕ) (number : ℕ) → IsRead MayStop seen greatest text rest number → IsRefusedHere rest (number + 1) → IsReplayRefusal MayStop text (number + 1) Grammar
   refused_outside seen greatest text rest number so_far here =
       refused_at seen greatest text rest number so_far Grammar (here.0 ∷ here.1) here.2 (outside so_far.done number here.0 here.1 so_far.reached.headed so_far.count here.3)
 
@@ -145,24 +145,24 @@ module _ (MayStop : Type 0) where
   line_refused_at done line others StillNeeded some few place why = turned_away done line StillNeeded some few place why
 
   abbrev pub refused_line : (seen : Seen) (greatest : ℕ) (text rest next : List ℕ) (number : ℕ) (line : Line) (so_far : IsRead MayStop seen greatest text rest number) → number < 4294967295 → BeginsWith rest (spelling line) next
-      → IsInPlace false line → (reason : Reason) → IsRefusedLine MayStop reason (after_lines so_far.done) line → IsRefusal MayStop text (number + 1) reason
+      → IsInPlace false line → (reason : Reason) → IsRefusedLine MayStop reason (after_lines so_far.done) line → IsReplayRefusal MayStop text (number + 1) reason
   refused_line seen greatest text rest next number line so_far few begins place reason why =
       refused_at seen greatest text rest number so_far reason (spelling line ∷ lines_of next) (lines_of-begins rest (spelling line) next begins)
       (line_refused_at so_far.done line (lines_of next) reason so_far.reached.headed (let count = so_far.count in omega (arith, few, count)) place why)
 
   -- ---- the first line
 
-  abbrev pub begins_refused : (text : List ℕ) (others : List (List ℕ)) → lines_of text ≡ others → IsRefusedAt MayStop [] others Grammar → IsRefusal MayStop text 1 Grammar
+  abbrev pub begins_refused : (text : List ℕ) (others : List (List ℕ)) → lines_of text ≡ others → IsRefusedAt MayStop [] others Grammar → IsReplayRefusal MayStop text 1 Grammar
   begins_refused text others e refused = record { done = []; others = others; read = e; are_done = tt; number-is = refl; refused = refused }
 
-  abbrev pub refused_empty : (text : List ℕ) → text ≡ [] → IsRefusal MayStop text 1 Grammar
+  abbrev pub refused_empty : (text : List ℕ) → text ≡ [] → IsReplayRefusal MayStop text 1 Grammar
   refused_empty text e = begins_refused text [] (ap lines_of e) (refl, refl)
 
   pub first_outside : (first : List ℕ) (others : List (List ℕ)) → (4294967295 < 1) ⊎ ((value : Line) → IsInPlace (1 == 1) value → first ≢ spelling value) → IsRefusedAt MayStop [] (first ∷ others) Grammar
   first_outside first others (inl many) = absurd (omega (arith, many))
   first_outside first others (inr none) = inr none
 
-  abbrev pub refused_first : (text : List ℕ) → IsRefusedHere text 1 → IsRefusal MayStop text 1 Grammar
+  abbrev pub refused_first : (text : List ℕ) → IsRefusedHere text 1 → IsReplayRefusal MayStop text 1 Grammar
   refused_first text here = begins_refused text (here.0 ∷ here.1) here.2 (first_outside here.0 here.1 here.3)
 
   abbrev pub cut_first : (text piece left : List ℕ) → text ≡ piece ++ left → LacksFeed piece → length piece ≤ 18600 → IsCut MayStop text left

@@ -19,7 +19,7 @@ use Rattle.bx_schedule.specs.Refusing.IsRefusal.{OfCrashes, OfEvent, OfLane, OfN
 use Rattle.bx_schedule.specs.Refusing.NamesLane.{Holds, Frees, Drops}
 use Rattle.bx_script.specs.Schedule.{reading_of}
 use Rattle.bx_script.specs.declared.line.Line.{Line}
-use Rattle.bx_replay.specs.Lines.{HasMachine, IsArrival, IsBackBy, IsFit, IsSteady, IsThere, Machines, needs_down, needs_up}
+use Rattle.bx_replay.specs.Lines.{HasMachine, IsArrival, IsBackBy, IsFit, IsSteady, AllAreThere, Machines, needs_down, needs_up}
 use Rattle.bx_replay.specs.Replay.{IsRefusedFor, ShowsLines}
 use Rattle.bx_replay.specs.Stops.{stop_of}
 use Rattle.bx_replay.proofs.Naming.{Names, listed, names}
@@ -101,7 +101,7 @@ module _ (MayStop : Type 0) (machines : Machines) (seen : Seen) (clock : ℕ) (s
     in_cluster : NoCause errors.NoSuchMachine → (who : Actor) → events.machine_of event ≡ Some who → IsInCluster here who
     in_cluster none who is = found here who (λ lacks. none (and_of (events.machine_of event) who (λ it. IsInCluster here it → ⊥) is lacks))
 
-    there : NoCause errors.NoSuchMachine → IsThere machines line
+    there : NoCause errors.NoSuchMachine → AllAreThere machines line
     there none = subst (AllByRecursion (HasMachine machines)) (sym named.machines) (by (events.machine_of event) (in_cluster none))
       where
         by : (one : Option Actor) → ((who : Actor) → one ≡ Some who → IsInCluster here who) → AllByRecursion (HasMachine machines) (listed one)
@@ -134,7 +134,7 @@ module _ (MayStop : Type 0) (machines : Machines) (seen : Seen) (clock : ℕ) (s
     before : (error other : EventError) → IsFirst here event error → place_of other < place_of error → NoCause other
     before error other first less cause = let most = first.first other cause in omega (arith, less, most)
 
-    lacks : IsSomeAnd (events.machine_of event) (λ who. IsInCluster here who → ⊥) → IsThere machines line → ⊥
+    lacks : IsSomeAnd (events.machine_of event) (λ who. IsInCluster here who → ⊥) → AllAreThere machines line → ⊥
     lacks missing all = by (events.machine_of event) missing (subst (AllByRecursion (HasMachine machines)) named.machines all)
       where
         by : (one : Option Actor) → IsSomeAnd one (λ who. IsInCluster here who → ⊥) → AllByRecursion (HasMachine machines) (listed one) → ⊥
@@ -201,7 +201,7 @@ module _ (MayStop : Type 0) (machines : Machines) (seen : Seen) (clock : ℕ) (s
 
   -- ---- readings and lanes
 
-  reading_back : (reading number : ℕ) (line : Line) (error : EventError) → reading_of line ≡ Some reading → IsThere machines line → Some error ≡ back_at clock reading → IsRefusedFor MayStop (stop_of number error) number machines line
+  reading_back : (reading number : ℕ) (line : Line) (error : EventError) → reading_of line ≡ Some reading → AllAreThere machines line → Some error ≡ back_at clock reading → IsRefusedFor MayStop (stop_of number error) number machines line
   reading_back reading number line error its there is = by (nat_lt (reading + 500) clock) refl is
     where
       by : (b : Bool) → nat_lt (reading + 500) clock ≡ b → Some error ≡ then_some b (errors.ClockBack (back_by clock reading)) → IsRefusedFor MayStop (stop_of number error) number machines line
@@ -219,15 +219,15 @@ module _ (MayStop : Type 0) (machines : Machines) (seen : Seen) (clock : ℕ) (s
       by true late same = cc
       by false late same = (let near = far_here reading far in grind (arith, nat_tests, late, near))
 
-  lane_there : (line : Line) (lane : Lane) → NamesLane line lane → IsInCluster here lane.from → IsInCluster here lane.to → IsThere machines line × (IsSteady machines line × IsFit MayStop machines line)
+  lane_there : (line : Line) (lane : Lane) → NamesLane line lane → IsInCluster here lane.from → IsInCluster here lane.to → AllAreThere machines line × (IsSteady machines line × IsFit MayStop machines line)
   lane_there line lane (Holds is) from to = rw is ((has lane.from from, (has lane.to to, tt)), (tt, (tt, tt)))
   lane_there line lane (Frees is) from to = rw is ((has lane.from from, (has lane.to to, tt)), (tt, (tt, tt)))
   lane_there line lane (Drops is) from to = rw is ((has lane.from from, (has lane.to to, tt)), (tt, (tt, tt)))
 
-  lane_lacks : (line : Line) (lane : Lane) → NamesLane line lane → IsThere machines line → HasMachine machines lane.from × HasMachine machines lane.to
-  lane_lacks line lane (Holds is) all = let each = subst (IsThere machines) is all in (each.0, each.1.0)
-  lane_lacks line lane (Frees is) all = let each = subst (IsThere machines) is all in (each.0, each.1.0)
-  lane_lacks line lane (Drops is) all = let each = subst (IsThere machines) is all in (each.0, each.1.0)
+  lane_lacks : (line : Line) (lane : Lane) → NamesLane line lane → AllAreThere machines line → HasMachine machines lane.from × HasMachine machines lane.to
+  lane_lacks line lane (Holds is) all = let each = subst (AllAreThere machines) is all in (each.0, each.1.0)
+  lane_lacks line lane (Frees is) all = let each = subst (AllAreThere machines) is all in (each.0, each.1.0)
+  lane_lacks line lane (Drops is) all = let each = subst (AllAreThere machines) is all in (each.0, each.1.0)
 
   -- ---- a line
 
@@ -244,7 +244,7 @@ module _ (MayStop : Type 0) (machines : Machines) (seen : Seen) (clock : ℕ) (s
   line_refused told number line error (OfCrashes noise is its) = cc
 
   -- it isn't
-  pub line_allowed : TellsNone → (line : Line) → IsRefusal here line None → IsThere machines line × (IsSteady machines line × IsFit MayStop machines line)
+  pub line_allowed : TellsNone → (line : Line) → IsRefusal here line None → AllAreThere machines line × (IsSteady machines line × IsFit MayStop machines line)
   line_allowed none line (OfEvent event is its) =
       let named = names here line event is in
       let no : (error : EventError) → IsCause here event error → ⊥ = λ error. none here event error (sym its) in

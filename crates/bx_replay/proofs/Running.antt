@@ -9,7 +9,7 @@ use Rattle.bx_opens.specs.bx_world_events.specs.Refusals.{Seen}
 use Rattle.bx_schedule.specs.Placing.{lines_of}
 use Rattle.bx_script.specs.ScheduleLine.{spelling}
 use Rattle.bx_script.specs.declared.line.Line.{Line}
-use Rattle.bx_replay.specs.Replay.{Going, IsBegun, IsRead, Reached, Stands}
+use Rattle.bx_replay.specs.Replay.{Going, IsBegun, IsRead, Reached, ReplayStands}
 use Rattle.bx_replay.proofs.ReadLines.{one_more, read_on}
 use Rattle.bx_replay.proofs.Weaker.{reached_weaker, stands_weaker}
 
@@ -34,7 +34,7 @@ module _ (MayStop : Type 0) (seen : Seen) (greatest : ℕ) (text rest : List ℕ
   pub read_first : IsRead MayStop seen greatest text rest 1
   read_first = record { done = begun.heading ∷ []; reached = reached_now; read = read_on text text rest [] begun.heading tt (inl refl) begun.begins; count = refl }
 
-  pub going_first : (Led : Tree → List Part → Type 0) (lacking : set.FinSet nat_cmp) (start : List ℕ) → Stands ⊥ Led lacking (record { line = begun.heading; parts = [] } ∷ []) start start → Going MayStop Led lacking seen greatest text rest 1 start start
+  pub going_first : (Led : Tree → List Part → Type 0) (lacking : set.FinSet nat_cmp) (start : List ℕ) → ReplayStands ⊥ Led lacking (record { line = begun.heading; parts = [] } ∷ []) start start → Going MayStop Led lacking seen greatest text rest 1 start start
   going_first Led lacking start stands = record {
     done = record { line = begun.heading; parts = [] } ∷ [];
     reached = reached_now;

@@ -16,7 +16,7 @@ use Rattle.bx_stops.specs.declared.stop.Reason.TheVariants.{Grammar, NoMachine, 
 use Rattle.bx_stops.specs.declared.stop.Stop.{Stop}
 use Rattle.bx_stops.specs.declared.stop.Stop.TheVariants as stops
 use Rattle.bx_replay.specs.Lines.{Allows, IsArrival, IsRefusedLine, Machines, after_lines, needs_down, needs_up}
-use Rattle.bx_replay.specs.Replay.{IsRefusedFor, Reached, Stands}
+use Rattle.bx_replay.specs.Replay.{IsRefusedFor, Reached, ReplayStands}
 
 -- a count that rose has risen later
 pub rose_on : (start now later : ℕ) → start ≤ now → now ≤ later → Rose start now → Rose start later
@@ -109,7 +109,7 @@ module _ (P Q : Type 0) (gives : P → Q) where
     of_lines_weaker before are.1,
   )
 
-  pub stands_weaker : (Led : Tree → List Part → Type 0) (lacking : set.FinSet nat_cmp) (done : List Done) (start written : List ℕ) → Stands P Led lacking done start written → Stands Q Led lacking done start written
+  pub stands_weaker : (Led : Tree → List Part → Type 0) (lacking : set.FinSet nat_cmp) (done : List Done) (start written : List ℕ) → ReplayStands P Led lacking done start written → ReplayStands Q Led lacking done start written
   stands_weaker Led lacking done start written stands = record {
     led = stands.led;
     lacks = stands.lacks;

@@ -44,7 +44,7 @@ AreTyped (bytes ∷ all_bytes) [] = ⊥
 AreTyped (bytes ∷ all_bytes) (entry ∷ entries) = IsTyped bytes entry × AreTyped all_bytes entries
 
 -- One step of the tree by an entry in bytes.
-pub record Step (tree : Tree) (bytes : traces.Entry) (next : Tree) : Type 0 where
+pub record EntryStep (tree : Tree) (bytes : traces.Entry) (next : Tree) : Type 0 where
   pub entry : Entry
   pub typed : IsTyped bytes entry
   pub step : IsStep tree entry next
@@ -60,5 +60,5 @@ pub record Headline (MayStop : Type 0) (schedule : List Line) (trace closing : L
   pub legal : Leads IsStep (opening_of schedule) history last
   pub placed : IsPlaced MayStop rules schedule trace closing
   pub in_range : AllByRecursion InTraceRange (trace ++ closing)
-  pub only : (others : List traces.Entry) (tree : Tree) → traces.Fits rules.kept (trace ++ closing) others → Leads Step (opening_of schedule) others tree
+  pub only : (others : List traces.Entry) (tree : Tree) → traces.Fits rules.kept (trace ++ closing) others → Leads EntryStep (opening_of schedule) others tree
       → (others ≡ bytes) × (tree ≡ last)

@@ -5,7 +5,7 @@ use Rattle.bx_base.specs.declared.names.Actor.{Actor}
 use Rattle.bx_base.specs.declared.names.Actor.TheVariants.{Node, Replica, Server, Member}
 use Rattle.bx_history.specs.Along.{AllowedNewest}
 use Rattle.bx_lease.specs.Readings.{IsTooFarBack, back_by}
-use Rattle.bx_opens.specs.bx_cluster.specs.Steps.{greatest_with}
+use Rattle.bx_opens.specs.bx_cluster.specs.Steps.{greatest_reading}
 use Rattle.bx_schedule.specs.Placing.{is_down_after, nodes_after}
 use Rattle.bx_script.specs.Schedule.{HasPlace, reading_of}
 use Rattle.bx_script.specs.declared.line.Line.{Line}
@@ -86,7 +86,7 @@ pub record Machines : Type 0 where
 
 abbrev pub greatest_of : List Line → ℕ
 greatest_of [] = 0
-greatest_of (line ∷ before) = greatest_with (reading_of line) (greatest_of before)
+greatest_of (line ∷ before) = greatest_reading (reading_of line) (greatest_of before)
 
 -- how many devices the heading has
 abbrev pub devices_in : List Line → ℕ
@@ -108,8 +108,8 @@ HasMachine machines (Member n) = n / 2 < machines.devices
 -- ---- what may come
 
 -- the machines that a line names are there
-abbrev pub IsThere : Machines → Line → Type 0
-IsThere machines line = AllByRecursion (HasMachine machines) (machines_of line)
+abbrev pub AllAreThere : Machines → Line → Type 0
+AllAreThere machines line = AllByRecursion (HasMachine machines) (machines_of line)
 
 -- the reading of a line lies at most 500 ms behind the greatest one before it
 abbrev pub IsSteady : Machines → Line → Type 0
@@ -124,7 +124,7 @@ IsFit MayStop machines line = IfSome (needs_up line) (λ who. machines.down who 
 pub record Allows (MayStop : Type 0) (before : List Line) (line : Line) : Type 0 where
   pub few : length before < 4294967295
   pub in_place : IsInPlace (length before == 0) line
-  pub there : IsThere (after_lines before) line
+  pub there : AllAreThere (after_lines before) line
   pub steady : IsSteady (after_lines before) line
   pub fit : IsFit MayStop (after_lines before) line
 
@@ -142,24 +142,24 @@ IsBackBy greatest reading by = IsSomeAnd reading (λ r. IsTooFarBack greatest r 
 -- down is up; one that has to be up is down; no write waits; the disk is needed still.
 abbrev pub IsRefusedLine : Type 0 → Reason → Machines → Line → Type 0
 IsRefusedLine MayStop Grammar machines line = ⊥
-IsRefusedLine MayStop NoMachine machines line = IsThere machines line → ⊥
-IsRefusedLine MayStop (ClockBack by) machines line = IsThere machines line × IsBackBy machines.greatest (reading_of line) by
+IsRefusedLine MayStop NoMachine machines line = AllAreThere machines line → ⊥
+IsRefusedLine MayStop (ClockBack by) machines line = AllAreThere machines line × IsBackBy machines.greatest (reading_of line) by
 IsRefusedLine MayStop (NoPacket number) machines line = IsSteady machines line × MayName line number
-IsRefusedLine MayStop Up machines line = IsThere machines line × IsSteady machines line × IsSomeAnd (needs_down line) (λ who. machines.down who ≡ false)
-IsRefusedLine MayStop Down machines line = IsThere machines line × IsSteady machines line × (IsArrival line ⊎ IsSomeAnd (needs_up line) (λ who. (machines.down who ≡ true) ⊎ MayStop))
-IsRefusedLine MayStop NothingToSync machines line = IsThere machines line × IsSteady machines line × IsFit MayStop machines line × IsSync line
-IsRefusedLine MayStop StillNeeded machines line = IsThere machines line × IsSteady machines line × IsFit MayStop machines line × IsBlank line
+IsRefusedLine MayStop Up machines line = AllAreThere machines line × IsSteady machines line × IsSomeAnd (needs_down line) (λ who. machines.down who ≡ false)
+IsRefusedLine MayStop Down machines line = AllAreThere machines line × IsSteady machines line × (IsArrival line ⊎ IsSomeAnd (needs_up line) (λ who. (machines.down who ≡ true) ⊎ MayStop))
+IsRefusedLine MayStop NothingToSync machines line = AllAreThere machines line × IsSteady machines line × IsFit MayStop machines line × IsSync line
+IsRefusedLine MayStop StillNeeded machines line = AllAreThere machines line × IsSteady machines line × IsFit MayStop machines line × IsBlank line
 
 -- a reason that lines tell, whatever machines did by themselves
-abbrev pub IsByLines : Reason → Type 0
-IsByLines Grammar = Unit {0}
-IsByLines NoMachine = Unit {0}
-IsByLines (ClockBack by) = Unit {0}
-IsByLines (NoPacket number) = ⊥
-IsByLines Up = ⊥
-IsByLines Down = ⊥
-IsByLines NothingToSync = ⊥
-IsByLines StillNeeded = ⊥
+abbrev pub IsReasonByLines : Reason → Type 0
+IsReasonByLines Grammar = Unit {0}
+IsReasonByLines NoMachine = Unit {0}
+IsReasonByLines (ClockBack by) = Unit {0}
+IsReasonByLines (NoPacket number) = ⊥
+IsReasonByLines Up = ⊥
+IsReasonByLines Down = ⊥
+IsReasonByLines NothingToSync = ⊥
+IsReasonByLines StillNeeded = ⊥
 
 -- A reason that lines don't tell, for a line that may be done as they tell: there is no such packet, or the machine that it is for is down; a machine stopped by itself, and so isn't up, or isn't yet
 -- one that stopped where it has to be down; no write waits; the disk is needed still.

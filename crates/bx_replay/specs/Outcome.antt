@@ -41,14 +41,14 @@ pub record IsShownBy (disks : Disks) (tree : Tree) (closing : List TraceLine) : 
   pub closing_open : AreOfOpen disks closing
 
 -- The output is the trace of such a text, `end`, closing lines, and the listing of the tree after it, which stand so.
-pub record IsReplayed (MayStop : Type 0) (text : List ℕ) (Stands : Tree → List TraceLine → Type 0) (output : List ℕ) : Type 0 where
+pub record IsReplayed (MayStop : Type 0) (text : List ℕ) (ReplayStands : Tree → List TraceLine → Type 0) (output : List ℕ) : Type 0 where
   pub input : IsPlayable MayStop text
   pub trace : List TraceLine
   pub closing : List TraceLine
   pub last : Tree
   pub headline : Headline MayStop input.schedule trace closing last
   pub output-is : output ≡ trace_text trace ++ closing_text closing last
-  pub stands : Stands last closing
+  pub stands : ReplayStands last closing
 
 -- the text spells a line that has its place behind these lines, and that is refused so
 pub record IsTurnedAway (MayStop : Type 0) (before : List Line) (text : List ℕ) (reason : Reason) : Type 0 where
@@ -75,7 +75,7 @@ IsRefusedAt MayStop done [] reason = (done ≡ []) × (reason ≡ Grammar)
 IsRefusedAt MayStop done (line ∷ lines) reason = Refuses MayStop done line reason
 
 -- The lines before the one with this number may be done, and it is refused behind them, for this reason.
-pub record IsRefusal (MayStop : Type 0) (text : List ℕ) (number : ℕ) (reason : Reason) : Type 0 where
+pub record IsReplayRefusal (MayStop : Type 0) (text : List ℕ) (number : ℕ) (reason : Reason) : Type 0 where
   pub done : List Line
   pub others : List (List ℕ)
   pub read : lines_of text ≡ map spelling done ++ others
@@ -87,7 +87,7 @@ pub record IsRefusal (MayStop : Type 0) (text : List ℕ) (number : ℕ) (reason
 pub record IsRefusedByRun (MayStop : Type 0) (text : List ℕ) : Type 0 where
   pub number : ℕ
   pub reason : Reason
-  pub refused : IsRefusal MayStop text number reason
+  pub refused : IsReplayRefusal MayStop text number reason
   pub line : Line
   pub rest : List (List ℕ)
   pub next : refused.others ≡ spelling line ∷ rest
@@ -96,7 +96,7 @@ pub record IsRefusedByRun (MayStop : Type 0) (text : List ℕ) : Type 0 where
 
 -- That line is refused so, and the output is the trace of the lines before.
 pub record IsRefused (MayStop : Type 0) (text : List ℕ) (number : ℕ) (reason : Reason) (output : List ℕ) : Type 0 where
-  pub first : IsRefusal MayStop text number reason
+  pub first : IsReplayRefusal MayStop text number reason
   pub trace : List TraceLine
   pub last : Tree
   pub headline : Headline MayStop first.done trace [] last

@@ -27,7 +27,7 @@ use Rattle.bx_stops.specs.declared.stop.Stop.{Stop}
 use Rattle.bx_stops.specs.declared.stop.Stop.TheVariants as stops
 use Rattle.bx_replay.specs.Headline.{opening_of}
 use Rattle.bx_replay.specs.Lines.{Allows, IsInPlace, IsRefusedLine, Machines, after_lines}
-use Rattle.bx_replay.specs.Outcome.{IsBroken, IsCut, IsCutOff, IsPlayable, IsReadTo, IsRefusal, IsRefused, IsReplayed, closing_text}
+use Rattle.bx_replay.specs.Outcome.{IsBroken, IsCut, IsCutOff, IsPlayable, IsReadTo, IsReplayRefusal, IsRefused, IsReplayed, closing_text}
 
 -- A cluster shows what lines tell of its machines: no other is down, unless one may have stopped by itself.
 pub record ShowsLines (MayStop : Type 0) (machines : Machines) (seen : Seen) (greatest : ℕ) : Type 0 where
@@ -45,7 +45,7 @@ pub record Reached (MayStop : Type 0) (seen : Seen) (greatest : ℕ) (done : Lis
 
 -- These lines were done, the newest first: their parts led to the cluster from the tree that the heading opens, these calls lack their points, and what was written since the start is the trace of the parts, whose
 -- lines are in range.
-pub record Stands (MayStop : Type 0) (Led : Tree → List Part → Type 0) (lacking : set.FinSet nat_cmp) (done : List Done) (start written : List ℕ) : Type 0 where
+pub record ReplayStands (MayStop : Type 0) (Led : Tree → List Part → Type 0) (lacking : set.FinSet nat_cmp) (done : List Done) (start written : List ℕ) : Type 0 where
   pub led : Led (opening_of (schedule_of done)) (parts_of done)
   pub lacks : AreLacking lacking (parts_of done)
   pub of_lines : AreOfLines MayStop done
@@ -65,10 +65,10 @@ pub record Going (MayStop : Type 0) (Led : Tree → List Part → Type 0) (lacki
   pub reached : Reached MayStop seen greatest (lines_of done)
   pub read : IsReadTo text (schedule_of done) rest
   pub count : number ≡ length (lines_of done)
-  pub stands : Stands MayStop Led lacking done start written
+  pub stands : ReplayStands MayStop Led lacking done start written
 
 -- no fault of a sink, and of a bench, is forgotten, and both go on to tell what they told
-pub record GoesOn (sink_told sink_tells : Type 0) (sink_before sink_now : ℕ) (bench_told bench_tells_now : Type 0) (bench_before bench_now : ℕ) : Type 0 where
+pub record BenchGoesOn (sink_told sink_tells : Type 0) (sink_before sink_now : ℕ) (bench_told bench_tells_now : Type 0) (bench_before bench_now : ℕ) : Type 0 where
   pub later : sink_before ≤ sink_now
   pub keeps_telling : sink_told → sink_tells
   pub bench_later : bench_before ≤ bench_now
@@ -150,7 +150,7 @@ Begins seen greatest (Err stops.OutOfMemory) text rest left = Unit {0}
 -- The heading that the text begins with has no events: with it the cluster stands for what was written before.
 abbrev pub BeginsLed : {A : Type 0} → (A → Tree → List Part → Type 0) → (A → set.FinSet nat_cmp) → Result A Stop → List ℕ → Type 0
 BeginsLed Led lacking (Ok begun) text = (heading : Line) (rest start : List ℕ) → IsInPlace true heading → BeginsWith text (spelling heading) rest
-    → Stands ⊥ (Led begun) (lacking begun) (record { line = heading; parts = [] } ∷ []) start start
+    → ReplayStands ⊥ (Led begun) (lacking begun) (record { line = heading; parts = [] } ∷ []) start start
 BeginsLed Led lacking (Err stop) text = Unit {0}
 
 -- why a replay doesn't begin: the faults of the source and of the bench, before and now
@@ -166,7 +166,7 @@ HasBeginCause stops.OutOfMemory source_before source_now bench_before bench_now 
 -- These lines and one more were done, with some parts.
 pub record StandsAfter (MayStop : Type 0) (Led : Tree → List Part → Type 0) (lacking : set.FinSet nat_cmp) (line : Line) (done : List Done) (start written : List ℕ) : Type 0 where
   pub parts : List Part
-  pub stands : Stands MayStop Led lacking (record { line = line; parts = parts } ∷ done) start written
+  pub stands : ReplayStands MayStop Led lacking (record { line = line; parts = parts } ∷ done) start written
 
 -- What doing a line leaves on the output, by what it leaves where it is done: all of its lines; or nothing, where it is refused; or a part of them.
 abbrev pub DoesLine : Result (Unit {0}) Stop → (List ℕ → Type 0) → List ℕ → List ℕ → Type 0
@@ -259,7 +259,7 @@ HasFinishCause stops.DiskFault before now Held bench_before bench_now = IsDiskCa
 HasFinishCause stops.OutOfMemory before now Held bench_before bench_now = Unit {0}
 
 -- behind the old bytes the new ones have an output with this property
-pub record Wrote (old new : List ℕ) (P : List ℕ → Type 0) : Type 0 where
+pub record WroteOn (old new : List ℕ) (P : List ℕ → Type 0) : Type 0 where
   pub output : List ℕ
   pub added : new ≡ old ++ output
   pub holds : P output
@@ -267,12 +267,12 @@ pub record Wrote (old new : List ℕ) (P : List ℕ → Type 0) : Type 0 where
 -- What a replay leaves, by what it was given and what is left of that; and, where the sink and the bench tell, by what the sink had and has. The tree that a replay to the end leaves stands on the bench so, with what is told
 -- behind `end`.
 abbrev pub Leaves : Type 0 → Type 0 → (Tree → List TraceLine → Type 0) → Result (Unit {0}) Stop → List ℕ → List ℕ → List ℕ → List ℕ → Type 0
-Leaves MayStop Tells Stands (Ok _) text left old new = IsPlayable MayStop text × (left ≡ []) × (Tells → Wrote old new (IsReplayed MayStop text Stands))
-Leaves MayStop Tells Stands (Err (stops.Refused number reason)) text left old new = IsRefusal MayStop text number reason × (Tells → Wrote old new (IsRefused MayStop text number reason))
-Leaves MayStop Tells Stands (Err stops.ReadFault) text left old new = IsCut MayStop text left × (Tells → Wrote old new (IsCutOff MayStop text left))
-Leaves MayStop Tells Stands (Err stops.WriteFault) text left old new = Tells → Wrote old new (IsBroken MayStop text)
-Leaves MayStop Tells Stands (Err stops.DiskFault) text left old new = Tells → Wrote old new (IsBroken MayStop text)
-Leaves MayStop Tells Stands (Err stops.OutOfMemory) text left old new = Tells → Wrote old new (IsBroken MayStop text)
+Leaves MayStop Tells ReplayStands (Ok _) text left old new = IsPlayable MayStop text × (left ≡ []) × (Tells → WroteOn old new (IsReplayed MayStop text ReplayStands))
+Leaves MayStop Tells ReplayStands (Err (stops.Refused number reason)) text left old new = IsReplayRefusal MayStop text number reason × (Tells → WroteOn old new (IsRefused MayStop text number reason))
+Leaves MayStop Tells ReplayStands (Err stops.ReadFault) text left old new = IsCut MayStop text left × (Tells → WroteOn old new (IsCutOff MayStop text left))
+Leaves MayStop Tells ReplayStands (Err stops.WriteFault) text left old new = Tells → WroteOn old new (IsBroken MayStop text)
+Leaves MayStop Tells ReplayStands (Err stops.DiskFault) text left old new = Tells → WroteOn old new (IsBroken MayStop text)
+Leaves MayStop Tells ReplayStands (Err stops.OutOfMemory) text left old new = Tells → WroteOn old new (IsBroken MayStop text)
 
 -- why a replay stops short: the faults of the source, of the sink and of the bench, before and now, and whether the bench tells
 abbrev pub HasCause : Stop → ℕ → ℕ → ℕ → ℕ → Type 0 → ℕ → ℕ → Type 0

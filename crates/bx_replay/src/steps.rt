@@ -9,7 +9,7 @@ ghost use Rattle.bx_schedule.specs.Places.{CanGo, place_of};
 ghost use Rattle.bx_schedule.specs.Placing.{Done, lines_of};
 ghost use Rattle.bx_script.specs.declared.line.Line.{Line};
 ghost use Rattle.bx_replay.specs.Lines.{IsInPlace, after_lines};
-ghost use Rattle.bx_replay.specs.Replay.{DoesLine, HasStepCause, IsRefusedFor, Reached, Stands, StandsAfter, UnlessWrite};
+ghost use Rattle.bx_replay.specs.Replay.{DoesLine, HasStepCause, IsRefusedFor, Reached, ReplayStands, StandsAfter, UnlessWrite};
 
 use crate::stops::stop_of;
 use bx_disk::CrashRack;
@@ -49,7 +49,7 @@ pub(crate) fn step<C: Cluster, K: Sink, B: CrashRack>(
         → IfErr result (λ stop. IsRefusedFor (Rose start (B.faults bench.old)) stop at.entry.number (after_lines done) at.entry.line.now) }
     ensures does { (start : ℕ) (done : List Done) (begun : List ℕ) → K.tells out.old → B.tells bench.old → start ≤ B.faults bench.old → length (lines_of done) < 4294967295
         → Reached (Rose start (B.faults bench.old)) (C.seen schedule.old.cluster) (place_of schedule.old).clock (lines_of done)
-        → Stands (Rose start (B.faults bench.old)) (C.led schedule.old.cluster (B.state bench.old)) (place_of schedule.old).lacking done begun (K.written out.old)
+        → ReplayStands (Rose start (B.faults bench.old)) (C.led schedule.old.cluster (B.state bench.old)) (place_of schedule.old).lacking done begun (K.written out.old)
         → DoesLine result (λ written. Reached (Rose start (B.faults bench.new)) (C.seen schedule.new.cluster) (place_of schedule.new).clock (at.entry.line.now ∷ lines_of done)
         × StandsAfter (Rose start (B.faults bench.new)) (C.led schedule.new.cluster (B.state bench.new)) (place_of schedule.new).lacking at.entry.line.now done begun written) (K.written out.old) (K.written out.new) }
     ensures leads { (tree : Tree) (parts : List Part) → B.tells bench.old → C.led schedule.old.cluster (B.state bench.old) tree parts → OnOk result ((now : List Part) × C.led schedule.new.cluster (B.state bench.new) tree now) }

@@ -1,7 +1,7 @@
 -- Each step of a proposer is one of the events of voting.
 use Rattle.std.proofs.Common.{◌≡◌, ◌≢◌, ℕ, ◌+◌, ◌<◌, max, Option, Some, None, IfSome, IsSomeAnd, refl, sym, ap, subst, ◌∙◌, inl, inr, arith}
 use Rattle.std.specs.Option.{option_map}
-use Rattle.bx_agreement.specs.Events.{Machine, Stands, Turns}
+use Rattle.bx_agreement.specs.Events.{Machine, HistoryStands, Turns}
 use Rattle.bx_agreement.specs.History.{ComesBy, ComesNext, HasPromised, HasVoted, History, IsChosen, IsProposed, Promised}
 use Rattle.bx_agreement.specs.Passing.{HasSaid, MayPass, promised_by}
 use Rattle.bx_agreement.specs.Round.{Counts as CountsIn, IsProposer, IsRound, Round, sending}
@@ -20,7 +20,7 @@ use Rattle.bx_packets.specs.declared.message.Message.{Message}
 use Rattle.bx_packets.specs.declared.message.Message.TheVariants.{Ask, Decided, Prepare, Promise as Promising, Accept, Accepted, Refused}
 use Rattle.bx_packets.specs.declared.message.Promise.{Promise}
 use Rattle.bx_rows.specs.declared.ballot.Ballot.{Ballot}
-use Rattle.bx_rounds.specs.Agreement.{Agrees, GoesOn, IsProposing, MayTell, machine_of, round_by, round_in, round_of}
+use Rattle.bx_rounds.specs.Agreement.{Agrees, HistoryGoesOn, IsProposing, MayTell, machine_of, round_by, round_in, round_of}
 use Rattle.bx_rounds.specs.Courses.{started, stopped}
 use Rattle.bx_rounds.specs.Steps.{Counts, FromReplica, Gathers, Hears, HearsPromise, HearsRefusal, HearsVote, IsVote, Learns, PromiseAt, Proposes, RefusedAt, TickAt, Ticks, VoteAt, fresh, learned, noting, preparing, promised_in, with_out}
 use Rattle.bx_rounds.specs.declared.course.Course.{Course}
@@ -88,12 +88,12 @@ same_round : (b : Option Ballot) (p : Proposal) → round_by b p ≡ round_by b 
 same_round None p = refl
 same_round (Some b) p = refl
 
-same : (h : History) → GoesOn h h
+same : (h : History) → HistoryGoesOn h h
 same h = record { grows = inl refl; proposed = refl; proposals = λ b s k. k; promises = refl; votes = refl }
 
-module _ (h : History) (cells : ℕ → Option Held) (old new : ℕ → Machine) (me : ℕ) (stands : Stands h cells old) (to : Course) (turns : Turns me (machine_of to) old new) where
+module _ (h : History) (cells : ℕ → Option Held) (old new : ℕ → Machine) (me : ℕ) (stands : HistoryStands h cells old) (to : Course) (turns : Turns me (machine_of to) old new) where
   -- nothing was sent, and the proposer still is one
-  stays : (x : Course) → to ≡ x → IsProposing h me x → Stands h cells new × IsProposing h me to
+  stays : (x : Course) → to ≡ x → IsProposing h me x → HistoryStands h cells new × IsProposing h me to
   stays x e is = let here : IsProposing h me to = subst (IsProposing h me) (sym e) is in
       (record { sound = stands.sound; each = turned h old new me (machine_of to) turns here.is (λ m apart. stands.each m) }, here)
 
@@ -288,22 +288,22 @@ module _ (h : History) (cells : ℕ → Option Held) (old new : ℕ → Machine)
   pub ticks : (c : Course) (move : Move) → IsProposing h me c → Ticks me c to move → Agrees h cells new me to
   ticks c move is x = ticked c.out c move refl is x
 
-  pub stops : (c : Course) → IsProposing h me c → to ≡ stopped c → Stands h cells new × IsProposing h me to
+  pub stops : (c : Course) → IsProposing h me c → to ≡ stopped c → HistoryStands h cells new × IsProposing h me to
   stops c is e = stays (stopped c) e (record { is = record { place = is.is.place; before = is.is.before; round = λ r k. absurd cc }; own = tt })
 
-  pub starts : (c : Course) (later reading : ℕ) (first : GlobalState) → IsProposing h me c → c.boot < later → IsPlace h.chain first → to ≡ started later reading first → Stands h cells new × IsProposing h me to
+  pub starts : (c : Course) (later reading : ℕ) (first : GlobalState) → IsProposing h me c → c.boot < later → IsPlace h.chain first → to ≡ started later reading first → HistoryStands h cells new × IsProposing h me to
   starts c later reading first is above place e = stays (started later reading first) e (record { is = restarts h me c.boot c.seen later c.known first (round_of c.out) is.is above place; own = tt })
 
 -- ---- a change is handed in, and proposed
 
-pub proposes : (h : History) (cells : ℕ → Option Held) (old new : ℕ → Machine) (me : ℕ) (c to : Course) (change : Change) (move : Move) → Stands h cells old → IsProposing h me c → IsLegal c.known change → Proposes me c change to move
-    → Turns me (machine_of to) old new → Stands (with_change change h) cells new × IsProposing (with_change change h) me to
+pub proposes : (h : History) (cells : ℕ → Option Held) (old new : ℕ → Machine) (me : ℕ) (c to : Course) (change : Change) (move : Move) → HistoryStands h cells old → IsProposing h me c → IsLegal c.known change → Proposes me c change to move
+    → Turns me (machine_of to) old new → HistoryStands (with_change change h) cells new × IsProposing (with_change change h) me to
 proposes h cells old new me c to change move stands is legal does turns = by does
   where
     with_it : History
     with_it = with_change change h
 
-    now : Stands with_it cells old
+    now : HistoryStands with_it cells old
     now = at_change h cells old change stands
 
     still : IsProposer with_it me c.boot c.seen c.known (round_of c.out)
@@ -315,7 +315,7 @@ proposes h cells old new me c to change move stands is legal does turns = by doe
     made : Proposal
     made = fresh (effect c.known change) c.reading
 
-    by : Proposes me c change to move → Stands with_it cells new × IsProposing with_it me to
+    by : Proposes me c change to move → HistoryStands with_it cells new × IsProposing with_it me to
     by (inl (room, e, says)) = stays with_it cells old new me now to turns (preparing me made c) e (record { is = prepares with_it me c.boot c.seen c.known made.own (round_of c.out) still next; own = next })
     by (inr (none, e, silent)) = stays with_it cells old new me now to turns (with_out made c) e (record { is = record { place = still.place; before = still.before; round = λ r k. absurd cc }; own = next })
 

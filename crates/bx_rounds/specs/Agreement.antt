@@ -1,7 +1,7 @@
 -- A proposer among the voters: the round that it has out, and what holds of it by what was sent.
 use Rattle.std.specs.Prelude.{◌≡◌, ℕ, ◌⊎◌, Option, Some, None, IfSome}
 use Rattle.std.specs.Option.{option_map}
-use Rattle.bx_agreement.specs.Events.{Is, Machine, Stands}
+use Rattle.bx_agreement.specs.Events.{Is, Machine, HistoryStands}
 use Rattle.bx_agreement.specs.History.{ComesNext, History, IsProposed}
 use Rattle.bx_agreement.specs.Round.{Round}
 use Rattle.bx_facts.specs.Chains.{GrowsBy, IsPlace, last}
@@ -34,7 +34,7 @@ pub record IsProposing (h : History) (me : ℕ) (c : Course) : Type 0 where
   pub own : IfSome c.out (λ p. ComesNext h.chain h.proposed p.own)
 
 -- The history goes on: at most one accept was sent, or one change came into the chain.
-pub record GoesOn (h new : History) : Type 0 where
+pub record HistoryGoesOn (h new : History) : Type 0 where
   pub grows : GrowsBy h.proposed h.chain new.chain
   pub proposed : new.proposed ≡ h.proposed
   pub proposals : (b : Ballot) (s : GlobalState) → IsProposed h.proposals b s → IsProposed new.proposals b s
@@ -44,9 +44,9 @@ pub record GoesOn (h new : History) : Type 0 where
 -- A proposer goes on: so does the history, and all stands with it. The chain grows only by what the proposer knows then.
 pub record Agrees (h : History) (cells : ℕ → Option Held) (new : ℕ → Machine) (me : ℕ) (c : Course) : Type 0 where
   pub history : History
-  pub goes_on : GoesOn h history
+  pub goes_on : HistoryGoesOn h history
   pub told : (history.chain ≡ h.chain) ⊎ (c.known ≡ last history.chain)
-  pub stands : Stands history cells new
+  pub stands : HistoryStands history cells new
   pub proposing : IsProposing history me c
 
 -- What is known, and what was sent to be accepted, may be under way.

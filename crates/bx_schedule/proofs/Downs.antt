@@ -8,7 +8,7 @@ use Rattle.bx_base.specs.declared.names.Actor.{Actor}
 use Rattle.bx_base.specs.declared.names.Actor.TheVariants.{Node, Replica, Server, Member}
 use Rattle.bx_cluster.specs.Steps.{Shown, arrives_in, down_with}
 use Rattle.bx_driver.specs.Lanes.{lane_cmp}
-use Rattle.bx_driver.specs.Steps.{Along, IsDueNow, Step}
+use Rattle.bx_driver.specs.Steps.{Along, IsDueNow, EventStep}
 use Rattle.bx_facts.specs.Machines.{put_at}
 use Rattle.bx_history.specs.Parts.{Arrival}
 use Rattle.bx_post.specs.Machines.{is_same}
@@ -78,7 +78,7 @@ or_right false b is = is
 
 -- ---- a run
 
-pub run_down : (held : set.FinSet lane_cmp) (reading : ℕ) (from to : Seen) (steps : List Step) (who : Actor) → Along (IsDueNow held reading) from steps to → (to.down who ≡ from.down who) ⊎ (has_stopped steps ≡ true)
+pub run_down : (held : set.FinSet lane_cmp) (reading : ℕ) (from to : Seen) (steps : List EventStep) (who : Actor) → Along (IsDueNow held reading) from steps to → (to.down who ≡ from.down who) ⊎ (has_stopped steps ≡ true)
 run_down held reading from to [] who along = inl (ap (λ (s : Seen). s.down who) along)
 run_down held reading from to (step ∷ earlier) who (middle, along, due, goes) = by (shown_down step.event step.outcome.stopped middle to who goes.shown) (run_down held reading from middle earlier who along)
   where
@@ -92,7 +92,7 @@ run_down held reading from to (step ∷ earlier) who (middle, along, due, goes) 
 
 -- ---- all machines
 
-pub turns_many : (event : Actor → Event) (down : Bool) (these : List Actor) (from to : Seen) (steps : List Step) → AreTurns event down these from steps to → HasAsMany from to
+pub turns_many : (event : Actor → Event) (down : Bool) (these : List Actor) (from to : Seen) (steps : List EventStep) → AreTurns event down these from steps to → HasAsMany from to
 turns_many event down [] from to steps are = subst (HasAsMany from) (sym are.1) (record { nodes = refl; devices = refl })
 turns_many event down (who ∷ before) from to steps (middle, earlier, are, Does its step same is goes) =
     many_both from middle to (turns_many event down before from middle earlier are) (record { nodes = goes.shown.nodes; devices = goes.shown.devices })
@@ -145,14 +145,14 @@ restart_shown reading at who None from to shown (inr own) =
     inl (shown.down who ∙ ap (λ b. if b then false else from.down who) it)
 
 -- a machine that was down stays so where all crash
-pub crashes_keep : (these : List Actor) (from to : Seen) (steps : List Step) (who : Actor) → AreTurns Crash false these from steps to → from.down who ≡ true → to.down who ≡ true
+pub crashes_keep : (these : List Actor) (from to : Seen) (steps : List EventStep) (who : Actor) → AreTurns Crash false these from steps to → from.down who ≡ true → to.down who ≡ true
 crashes_keep [] from to steps who are was = ap (λ (s : Seen). s.down who) are.1 ∙ was
 crashes_keep (at ∷ before) from to steps who (middle, earlier, are, Does its step same is goes) was =
     crash_shown at who step.outcome.stopped middle to (subst (λ e. Shown e step.outcome.stopped middle to) is goes.shown) (inl (crashes_keep before from middle earlier who are was))
 crashes_keep (at ∷ before) from to steps who (middle, earlier, are, Passes its same here) was = ap (λ (s : Seen). s.down who) here ∙ crashes_keep before from middle earlier who are was
 
 -- each that had its turn is down
-pub crashes_all : (these : List Actor) (from to : Seen) (steps : List Step) (who : Actor) → AreTurns Crash false these from steps to → Contains these who → to.down who ≡ true
+pub crashes_all : (these : List Actor) (from to : Seen) (steps : List EventStep) (who : Actor) → AreTurns Crash false these from steps to → Contains these who → to.down who ≡ true
 crashes_all [] from to steps who are inside = absurd (none_in who inside)
 crashes_all (at ∷ before) from to steps who (middle, earlier, are, Does its step same is goes) inside =
     crash_shown at who step.outcome.stopped middle to (subst (λ e. Shown e step.outcome.stopped middle to) is goes.shown) (by (λ rest. crashes_all before from middle earlier who are rest) (in_cases at who before inside))
@@ -167,13 +167,13 @@ crashes_all (at ∷ before) from to steps who (middle, earlier, are, Passes its 
     by recur (inr rest) = recur rest
 
 -- one that is down recur was so, or crashed, or a machine stopped
-pub crashes_why : (these : List Actor) (from to : Seen) (steps : List Step) (who : Actor) → AreTurns Crash false these from steps to → to.down who ≡ true → (from.down who ≡ true) ⊎ (HasCrash steps who ⊎ (has_stopped steps ≡ true))
+pub crashes_why : (these : List Actor) (from to : Seen) (steps : List EventStep) (who : Actor) → AreTurns Crash false these from steps to → to.down who ≡ true → (from.down who ≡ true) ⊎ (HasCrash steps who ⊎ (has_stopped steps ≡ true))
 crashes_why [] from to steps who are now = inl (sym (ap (λ (s : Seen). s.down who) are.1) ∙ now)
 crashes_why (at ∷ before) from to steps who (middle, earlier, are, Does its step same is goes) now =
     subst (λ l. (from.down who ≡ true) ⊎ (HasCrash l who ⊎ (has_stopped l ≡ true))) (sym same)
     (by (λ down. crashes_why before from middle earlier who are down) (shown_down (Crash at) step.outcome.stopped middle to who (subst (λ e. Shown e step.outcome.stopped middle to) is goes.shown)))
   where
-    Why : List Step → Type 0
+    Why : List EventStep → Type 0
     Why l = (from.down who ≡ true) ⊎ (HasCrash l who ⊎ (has_stopped l ≡ true))
 
     later : Why earlier → Why (step ∷ earlier)
@@ -192,13 +192,13 @@ crashes_why (at ∷ before) from to steps who (middle, earlier, are, Passes its 
     subst (λ l. (from.down who ≡ true) ⊎ (HasCrash l who ⊎ (has_stopped l ≡ true))) (sym same) (crashes_why before from middle earlier who are (sym (ap (λ (s : Seen). s.down who) here) ∙ now))
 
 -- a machine that was up stays so where all start again, and each that had its turn is; or a machine stopped
-pub restarts_up : (reading : ℕ) (these : List Actor) (from to : Seen) (steps : List Step) (who : Actor) → AreTurns (Restart reading) true these from steps to → (from.down who ≡ false) ⊎ Contains these who → (to.down who ≡ false) ⊎ (has_stopped steps ≡ true)
+pub restarts_up : (reading : ℕ) (these : List Actor) (from to : Seen) (steps : List EventStep) (who : Actor) → AreTurns (Restart reading) true these from steps to → (from.down who ≡ false) ⊎ Contains these who → (to.down who ≡ false) ⊎ (has_stopped steps ≡ true)
 restarts_up reading [] from to steps who are (inl was) = inl (ap (λ (s : Seen). s.down who) are.1 ∙ was)
 restarts_up reading [] from to steps who are (inr inside) = absurd (none_in who inside)
 restarts_up reading (at ∷ before) from to steps who (middle, earlier, are, Does its step same is goes) were =
     subst (λ l. (to.down who ≡ false) ⊎ (has_stopped l ≡ true)) (sym same) (by (mid (λ up. restarts_up reading before from middle earlier who are up) were))
   where
-    Up : Seen → List Step → Type 0
+    Up : Seen → List EventStep → Type 0
     Up s l = (s.down who ≡ false) ⊎ (has_stopped l ≡ true)
 
     mid : ((from.down who ≡ false) ⊎ Contains before who → Up middle earlier) → (from.down who ≡ false) ⊎ Contains (at ∷ before) who → Up middle earlier ⊎ (at ≡ who)

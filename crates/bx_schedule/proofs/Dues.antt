@@ -7,7 +7,7 @@ use Rattle.bx_cluster.specs.Steps.{Counted, IsMoment}
 use Rattle.bx_driver.specs.Lanes.{lane_cmp}
 use Rattle.bx_driver.specs.Runs.{IsDue}
 use Rattle.bx_driver.specs.Runs.IsDue.{Arrives, Syncs, Rests}
-use Rattle.bx_driver.specs.Steps.{Along, IsDueNow, IsRun, IsStep, Step}
+use Rattle.bx_driver.specs.Steps.{Along, IsDueNow, IsRun, IsStep, EventStep}
 use Rattle.bx_world_events.specs.Events.{reading_of}
 use Rattle.bx_world_events.specs.Refusals.{Seen, clock_back}
 use Rattle.bx_world_events.specs.declared.event.Event.{Event}
@@ -37,16 +37,16 @@ pub due_in_time : (held : set.FinSet lane_cmp) (reading : ℕ) (seen : Seen) (ev
 due_in_time held reading seen event under due = not_back reading seen event under (due_at held reading seen event due)
 
 -- so many steps of a run
-abbrev pub AreDue : set.FinSet lane_cmp → ℕ → ℕ → Seen → List Step → Seen → Type 0
+abbrev pub AreDue : set.FinSet lane_cmp → ℕ → ℕ → Seen → List EventStep → Seen → Type 0
 AreDue held reading count from steps to = Along (IsDueNow held reading) from steps to × (length steps ≡ count)
 
-pub due_more : (held : set.FinSet lane_cmp) (reading count : ℕ) (event : Event) (from mid to : Seen) (steps : List Step) → IsDueNow held reading mid event → AreDue held reading count from steps mid
-    → (step : Step) → step.event ≡ event → IsStep mid step to → AreDue held reading (count + 1) from (step ∷ steps) to
+pub due_more : (held : set.FinSet lane_cmp) (reading count : ℕ) (event : Event) (from mid to : Seen) (steps : List EventStep) → IsDueNow held reading mid event → AreDue held reading count from steps mid
+    → (step : EventStep) → step.event ≡ event → IsStep mid step to → AreDue held reading (count + 1) from (step ∷ steps) to
 due_more held reading count event from mid to steps due are step is goes =
     let many : length (step ∷ steps) ≡ count + 1 = let was = are.1 in omega (arith, was) in
     ((mid, are.0, subst (IsDueNow held reading mid) (sym is) due, goes), many)
 
-pub run_is : (held : set.FinSet lane_cmp) (reading limit count : ℕ) (from to : Seen) (steps : List Step) → count ≤ limit → (count ≡ limit) ⊎ IsDue to held reading None → AreDue held reading count from steps to → IsRun held reading limit from steps to
+pub run_is : (held : set.FinSet lane_cmp) (reading limit count : ℕ) (from to : Seen) (steps : List EventStep) → count ≤ limit → (count ≡ limit) ⊎ IsDue to held reading None → AreDue held reading count from steps to → IsRun held reading limit from steps to
 run_is held reading limit count from to steps within over are = record { along = are.0; within = let many = are.1 in omega (arith, many, within); over = by over }
   where
     by : (count ≡ limit) ⊎ IsDue to held reading None → (length steps ≡ limit) ⊎ IsDue to held reading None

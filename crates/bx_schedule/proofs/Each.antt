@@ -8,7 +8,7 @@ use Rattle.bx_base.specs.Actors.{ComesBefore}
 use Rattle.bx_base.specs.declared.names.Actor.{Actor}
 use Rattle.bx_cluster.specs.Steps.{Shown}
 use Rattle.bx_driver.specs.Machines.{IsDown, IsUp}
-use Rattle.bx_driver.specs.Steps.{Step}
+use Rattle.bx_driver.specs.Steps.{EventStep}
 use Rattle.bx_post.specs.Machines.{is_same}
 use Rattle.bx_facts.specs.Machines.{put_at}
 use Rattle.bx_world_events.specs.Refusals.{Seen}
@@ -79,7 +79,7 @@ differs at who before apart = by (is_same at who) refl
     by true same = absurd (apart (subst (Contains (at ∷ before)) (same_is at who same) (first_in at before)))
     by false other = other
 
-turns_keep : (down : Bool) (reading : ℕ) (these : List Actor) (from to : Seen) (steps : List Step) (who : Actor) → AreTurns (turn_of down reading) down these from steps to → (Contains these who → ⊥) → from.down who ≡ down → (down ≡ false → has_stopped steps ≡ false) → to.down who ≡ down
+turns_keep : (down : Bool) (reading : ℕ) (these : List Actor) (from to : Seen) (steps : List EventStep) (who : Actor) → AreTurns (turn_of down reading) down these from steps to → (Contains these who → ⊥) → from.down who ≡ down → (down ≡ false → has_stopped steps ≡ false) → to.down who ≡ down
 turns_keep down reading [] from to steps who are apart was none = ap (λ (s : Seen). s.down who) are.1 ∙ was
 turns_keep down reading (at ∷ before) from to steps who (middle, earlier, are, Does its step same is goes) apart was none =
     let none_now : (down ≡ false → has_stopped (step ∷ earlier) ≡ false) = subst (λ l. down ≡ false → has_stopped l ≡ false) same none in
@@ -93,25 +93,25 @@ not_both : (b : Bool) → b ≡ not b → ⊥
 not_both true is = cc
 not_both false is = cc
 
-turns_each : (down : Bool) (reading : ℕ) (these : List Actor) (from to : Seen) (steps : List Step) → AreTurns (turn_of down reading) down these from steps to → AreApart these → ((who : Actor) → Contains these who → from.down who ≡ down) → (down ≡ false → has_stopped steps ≡ false)
+turns_each : (down : Bool) (reading : ℕ) (these : List Actor) (from to : Seen) (steps : List EventStep) → AreTurns (turn_of down reading) down these from steps to → AreApart these → ((who : Actor) → Contains these who → from.down who ≡ down) → (down ≡ false → has_stopped steps ≡ false)
     → map (λ step. step.event) steps ≡ map (turn_of down reading) these
-turns_each down reading [] from to steps are apart were none = ap (λ (l : List Step). map (λ step. step.event) l) are.0
+turns_each down reading [] from to steps are apart were none = ap (λ (l : List EventStep). map (λ step. step.event) l) are.0
 turns_each down reading (at ∷ before) from to steps (middle, earlier, are, Does its step same is goes) apart were none =
     let none_now : (down ≡ false → has_stopped (step ∷ earlier) ≡ false) = subst (λ l. down ≡ false → has_stopped l ≡ false) same none in
     let rest = turns_each down reading before from middle earlier are apart.1 (λ who inside. were who (rest_in at who before inside)) (λ up. none_second (is_some step.outcome.stopped) (has_stopped earlier) (none_now up)) in
-    ap (λ (l : List Step). map (λ one. one.event) l) same ∙ ap (λ (e : Event). e ∷ map (λ (one : Step). one.event) earlier) is ∙ ap (λ (l : List Event). turn_of down reading at ∷ l) rest
+    ap (λ (l : List EventStep). map (λ one. one.event) l) same ∙ ap (λ (e : Event). e ∷ map (λ (one : EventStep). one.event) earlier) is ∙ ap (λ (l : List Event). turn_of down reading at ∷ l) rest
 turns_each down reading (at ∷ before) from to steps (middle, earlier, are, Passes its same here) apart were none =
     let kept = turns_keep down reading before from middle earlier at are apart.0 (were at (first_in at before)) (subst (λ l. down ≡ false → has_stopped l ≡ false) same none) in
     absurd (not_both down (sym kept ∙ its))
 
 -- ---- all of them
 
-pub each_crashes : (from to : Seen) (steps : List Step) (all : AllCrash from steps to) → has_stopped steps ≡ false → map (λ step. step.event) steps ≡ map Crash (reverse all.machines)
+pub each_crashes : (from to : Seen) (steps : List EventStep) (all : AllCrash from steps to) → has_stopped steps ≡ false → map (λ step. step.event) steps ≡ map Crash (reverse all.machines)
 each_crashes from to steps all none =
     turns_each false 0 (reverse all.machines) from to steps all.goes (turned_apart all.machines (rising_apart all.machines all.turn.rise))
     (λ who inside. (All-contains (IsUp from) all.machines who all.turn.each (back_in all.machines who inside)).1) (λ up. none)
 
-pub each_restarts : (reading : ℕ) (from to : Seen) (steps : List Step) (all : AllRestart reading from steps to) → map (λ step. step.event) steps ≡ map (Restart reading) (reverse all.machines)
+pub each_restarts : (reading : ℕ) (from to : Seen) (steps : List EventStep) (all : AllRestart reading from steps to) → map (λ step. step.event) steps ≡ map (Restart reading) (reverse all.machines)
 each_restarts reading from to steps all =
     turns_each true reading (reverse all.machines) from to steps all.goes (turned_apart all.machines (rising_apart all.machines all.turn.rise))
     (λ who inside. (All-contains (IsDown from) all.machines who all.turn.each (back_in all.machines who inside)).1) (λ up. cc)

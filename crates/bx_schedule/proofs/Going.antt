@@ -10,7 +10,7 @@ use Rattle.bx_disk.specs.Disks.{Disks}
 use Rattle.bx_disk.specs.declared.noise.Noise.{Noise}
 use Rattle.bx_disk.specs.declared.rack.Rack as racks
 use Rattle.bx_driver.specs.Racks.{KeepsRack}
-use Rattle.bx_driver.specs.Steps.{IsOne, IsStep, Step, parts_with}
+use Rattle.bx_driver.specs.Steps.{IsOne, IsStep, EventStep, parts_with}
 use Rattle.bx_history.specs.Parts.{Part}
 use Rattle.bx_model.specs.declared.tree.Tree.{Tree}
 use Rattle.bx_script.specs.TraceText.{trace_text}
@@ -23,7 +23,7 @@ use Rattle.bx_schedule.proofs.Telling.{range_more, text_more}
 
 module _ {C R : Type 0} (seen_of : C → Seen) (led_of : C → Disks → Tree → List Part → Type 0) (ra : racks.Ghosts R) where
   -- nothing was done
-  pub goes_none : (Is : Seen → List Step → Seen → Type 0) (noise : Noise) (old new : Place C) (before after : R)
+  pub goes_none : (Is : Seen → List EventStep → Seen → Type 0) (noise : Noise) (old new : Place C) (before after : R)
       → Is (seen_of old.cluster) [] (seen_of new.cluster) → ((tree : Tree) (parts : List Part) → led_of old.cluster (ra.state before) tree parts → led_of new.cluster (ra.state after) tree parts)
       → new.lacking ≡ old.lacking → new.text ≡ old.text → ra.state after ≡ ra.state before → KeepsRack ra before after
       → Goes seen_of led_of ra Is noise old before new after
@@ -40,8 +40,8 @@ module _ {C R : Type 0} (seen_of : C → Seen) (led_of : C → Disks → Tree �
   }
 
   -- one event behind others
-  pub goes_more : (Is More : Seen → List Step → Seen → Type 0) (noise : Noise) (event : Event) (old mid new : Place C) (before between after : R)
-      → ((steps : List Step) → Is (seen_of old.cluster) steps (seen_of mid.cluster) → (step : Step) → step.event ≡ event → IsStep (seen_of mid.cluster) step (seen_of new.cluster) → More (seen_of old.cluster) (step ∷ steps) (seen_of new.cluster))
+  pub goes_more : (Is More : Seen → List EventStep → Seen → Type 0) (noise : Noise) (event : Event) (old mid new : Place C) (before between after : R)
+      → ((steps : List EventStep) → Is (seen_of old.cluster) steps (seen_of mid.cluster) → (step : EventStep) → step.event ≡ event → IsStep (seen_of mid.cluster) step (seen_of new.cluster) → More (seen_of old.cluster) (step ∷ steps) (seen_of new.cluster))
       → Goes seen_of led_of ra Is noise old before mid between → Acts seen_of led_of ra noise event mid between new after → Goes seen_of led_of ra More noise old before new after
   goes_more Is More noise event old mid new before between after more one two = record {
     steps = step ∷ one.steps;
@@ -58,7 +58,7 @@ module _ {C R : Type 0} (seen_of : C → Seen) (led_of : C → Disks → Tree �
     keeps = keeps_both ra before between after one.keeps two.keeps;
   }
     where
-      step : Step
+      step : EventStep
       step = record { event = event; outcome = two.outcome }
 
       by : (is_some two.outcome.stopped ≡ true) ⊎ (has_stopped one.steps ≡ true) → Rose (ra.faults before) (ra.faults after)
@@ -66,8 +66,8 @@ module _ {C R : Type 0} (seen_of : C → Seen) (led_of : C → Disks → Tree �
       by (inr then) = rose_before _ _ _ one.keeps.later.all two.keeps.later.all (one.blamed then)
 
   -- it is more than that
-  pub goes_as : (These Those : Seen → List Step → Seen → Type 0) (noise : Noise) (old new : Place C) (before after : R)
-      → ((steps : List Step) → These (seen_of old.cluster) steps (seen_of new.cluster) → Those (seen_of old.cluster) steps (seen_of new.cluster))
+  pub goes_as : (These Those : Seen → List EventStep → Seen → Type 0) (noise : Noise) (old new : Place C) (before after : R)
+      → ((steps : List EventStep) → These (seen_of old.cluster) steps (seen_of new.cluster) → Those (seen_of old.cluster) steps (seen_of new.cluster))
       → Goes seen_of led_of ra These noise old before new after → Goes seen_of led_of ra Those noise old before new after
   goes_as These Those noise old new before after more one =
       record { steps = one.steps; is = more one.steps one.is; leads = one.leads; lacks = one.lacks; text = one.text; in_range = one.in_range; disks = one.disks; blamed = one.blamed; keeps = one.keeps }
@@ -78,4 +78,4 @@ module _ {C R : Type 0} (seen_of : C → Seen) (led_of : C → Disks → Tree �
   goes_alone noise event old clock new before after acts =
       let mid : Place C = record { cluster = old.cluster; held = old.held; clock = clock; lacking = old.lacking; text = old.text } in
       let none = goes_none AreNone noise old mid before before (refl, refl) (λ tree parts led. led) refl refl refl (keeps_none ra before) in
-      goes_more AreNone (IsOne event) noise event old mid new before before after (λ steps none step is goes. record { step = step; alone = ap (λ (l : List Step). step ∷ l) none.0; is = is; goes = goes }) none acts
+      goes_more AreNone (IsOne event) noise event old mid new before before after (λ steps none step is goes. record { step = step; alone = ap (λ (l : List EventStep). step ∷ l) none.0; is = is; goes = goes }) none acts

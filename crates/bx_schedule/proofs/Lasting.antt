@@ -4,7 +4,7 @@ use Rattle.std.specs.FinSet as set
 use Rattle.bx_base.specs.declared.names.Actor.{Actor}
 use Rattle.bx_cluster.specs.Steps.{down_with}
 use Rattle.bx_driver.specs.Lanes.{lane_cmp}
-use Rattle.bx_driver.specs.Steps.{Along, IsDueNow, Step}
+use Rattle.bx_driver.specs.Steps.{Along, IsDueNow, EventStep}
 use Rattle.bx_post.specs.Machines.{is_same}
 use Rattle.bx_script.specs.declared.line.Line.{Line}
 use Rattle.bx_script.specs.declared.line.Line.TheVariants as lines
@@ -45,14 +45,14 @@ more_down (lines.Restart reading machine) who a b goes is = and_mono (is_same ma
 more_down (lines.RestartAll reading) who a b goes is = is
 more_down (lines.Blank machine) who a b goes is = goes is
 
-run_keeps : (held : set.FinSet lane_cmp) (reading : ℕ) (from to : Seen) (steps : List Step) (who : Actor) → Along (IsDueNow held reading) from steps to → from.down who ≡ true → to.down who ≡ true
+run_keeps : (held : set.FinSet lane_cmp) (reading : ℕ) (from to : Seen) (steps : List EventStep) (who : Actor) → Along (IsDueNow held reading) from steps to → from.down who ≡ true → to.down who ≡ true
 run_keeps held reading from to [] who along was = ap (λ (s : Seen). s.down who) along ∙ was
 run_keeps held reading from to (step ∷ earlier) who (middle, along, due, goes) was =
     let same : down_with step.event middle.down who ≡ middle.down who = by_due (λ e. down_with e middle.down who ≡ middle.down who) held reading middle step.event (λ number. refl) (λ at. refl) due in
     goes.shown.down who ∙ stays_down step.outcome.stopped (down_with step.event middle.down) who (same ∙ run_keeps held reading from middle earlier who along was)
 
 -- what is down by a line, over what was down at most, is down behind it
-pub at_least : (held : set.FinSet lane_cmp) (line : Line) (from to : Seen) (steps : List Step) (who : Actor) (was : Bool) → IsLine held line from steps to → IsThere from who → (was ≡ true → from.down who ≡ true) → is_down_by line who was ≡ true → to.down who ≡ true
+pub at_least : (held : set.FinSet lane_cmp) (line : Line) (from to : Seen) (steps : List EventStep) (who : Actor) (was : Bool) → IsLine held line from steps to → IsThere from who → (was ≡ true → from.down who ≡ true) → is_down_by line who was ≡ true → to.down who ≡ true
 at_least held line from to steps who was (OneEvent event is one) there goes down =
     one.goes.shown.down who
     ∙ stays_down one.step.outcome.stopped (down_with one.step.event from.down) who (ap (λ (e : Event). down_with e from.down who) one.is ∙ event_down from line event from.down who is ∙ more_down line who was (from.down who) goes down)
@@ -69,7 +69,7 @@ at_least held line from to steps who was (Frees lane same none) there goes down 
 at_least held line from to steps who was (Drops lane same none) there goes down = ap (λ (s : Seen). s.down who) none.1 ∙ goes (sym (ap (λ l. is_down_by l who was) same) ∙ down)
 
 -- and no other is, unless a machine stopped
-pub at_most : (MayStop : Type 0) (held : set.FinSet lane_cmp) (line : Line) (from to : Seen) (steps : List Step) (who : Actor) (was : Bool) → IsLine held line from steps to → IsThere from who → (has_stopped steps ≡ true → MayStop)
+pub at_most : (MayStop : Type 0) (held : set.FinSet lane_cmp) (line : Line) (from to : Seen) (steps : List EventStep) (who : Actor) (was : Bool) → IsLine held line from steps to → IsThere from who → (has_stopped steps ≡ true → MayStop)
     → (from.down who ≡ true → (was ≡ true) ⊎ MayStop) → to.down who ≡ true → (is_down_by line who was ≡ true) ⊎ MayStop
 at_most MayStop held line from to steps who was is there may goes down = by (line_moves MayStop [] from to steps may held line who is there)
   where

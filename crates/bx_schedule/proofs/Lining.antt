@@ -4,7 +4,7 @@ use Rattle.std.specs.Prelude.{IfErr, OnOk}
 use Rattle.std.specs.FinSet as set
 use Rattle.bx_base.specs.declared.names.Actor.{Actor}
 use Rattle.bx_base.specs.declared.names.Actor.TheVariants.{Node, Replica, Server, Member}
-use Rattle.bx_cluster.specs.Steps.{Counted, IsMoment, IsTime, greatest_with}
+use Rattle.bx_cluster.specs.Steps.{Counted, IsMoment, IsTime, greatest_reading}
 use Rattle.bx_disk.specs.Disks.{Disks}
 use Rattle.bx_disk.specs.declared.noise.Noise.{Noise}
 use Rattle.bx_disk.specs.declared.noise.Noise.TheVariants.{Keep}
@@ -141,7 +141,7 @@ module _ {C R : Type 0} (seen_of : C → Seen) (led_of : C → Disks → Tree �
   -- a line of one event
   pub ends_alone : (result : Result (Unit {0}) EventError) (line : Line) (event : Event) (old : Place C) (before : R) (new : Place C) (after : R)
       → IsEventOf (seen_of old.cluster) line event → OnOk result (refusal (at_clock old.clock (seen_of old.cluster)) event ≡ None)
-      → OnOk result (Goes seen_of led_of ra (IsOne event) (noise_of line) old before new after) → OnOk result (new.clock ≡ greatest_with (event_reading event) old.clock) → OnOk result (new.held ≡ old.held)
+      → OnOk result (Goes seen_of led_of ra (IsOne event) (noise_of line) old before new after) → OnOk result (new.clock ≡ greatest_reading (event_reading event) old.clock) → OnOk result (new.held ≡ old.held)
       → IfErr result (λ error. (error ≡ OutOfMemory) ⊎ ((refusal (at_clock old.clock (seen_of old.cluster)) event ≡ Some error) × IsSame ra old before new after))
       → KeepsRack ra before after → Ends seen_of led_of ra result line old before new after
   ends_alone (Ok _) line event old before new after is allowed goes clock held refused keeps = record {
@@ -149,7 +149,7 @@ module _ {C R : Type 0} (seen_of : C → Seen) (led_of : C → Disks → Tree �
       allowed = OfEvent event (at_any old.clock (seen_of old.cluster) line event is) (sym allowed);
       goes = goes_as seen_of led_of ra (IsOne event) (IsLine old.held line) (noise_of line) old new before after (λ steps one. OneEvent event is one) goes;
       held = held ∙ sym (same_held (seen_of old.cluster) line event old.held is);
-      clock = clock ∙ ap (λ r. greatest_with r old.clock) (same_reading (seen_of old.cluster) line event is);
+      clock = clock ∙ ap (λ r. greatest_reading r old.clock) (same_reading (seen_of old.cluster) line event is);
     };
     refused = tt;
     keeps = keeps;

@@ -6,7 +6,7 @@ use Rattle.std.specs.Prelude.{if◌then◌else◌, is_some}
 use Rattle.bx_base.specs.declared.names.Actor.{Actor}
 use Rattle.bx_cluster.specs.Steps.{arrives_in, ends_in, ends_with, part_at}
 use Rattle.bx_driver.specs.Lanes.{lane_cmp}
-use Rattle.bx_driver.specs.Steps.{Along, IsDueNow, IsOne, Step, parts_with}
+use Rattle.bx_driver.specs.Steps.{Along, IsDueNow, IsOne, EventStep, parts_with}
 use Rattle.bx_history.specs.Along.{ends_one}
 use Rattle.bx_history.specs.Parts.{Arrival, Part}
 use Rattle.bx_script.specs.declared.line.Line.{Line}
@@ -25,24 +25,24 @@ use Rattle.bx_schedule.proofs.Holding.{first_in, in_cases, none_in, rest_in}
 
 -- ---- of each step a fact of its event
 
-abbrev pub AllEvents : (Event → Type 0) → List Step → Type 0
+abbrev pub AllEvents : (Event → Type 0) → List EventStep → Type 0
 AllEvents Is [] = Unit {0}
 AllEvents Is (step ∷ earlier) = Is step.event × AllEvents Is earlier
 
-pub each_part : (line : Line) (Is : Event → Type 0) → ((event : Event) → Is event → (arrives_in event ≡ arrival_of line) × HasReadingOf line (event_reading event)) → (steps : List Step) → AllEvents Is steps → AllByRecursion (IsPartOf line) (parts_with steps [])
+pub each_part : (line : Line) (Is : Event → Type 0) → ((event : Event) → Is event → (arrives_in event ≡ arrival_of line) × HasReadingOf line (event_reading event)) → (steps : List EventStep) → AllEvents Is steps → AllByRecursion (IsPartOf line) (parts_with steps [])
 each_part line Is goes [] all = tt
 each_part line Is goes (step ∷ earlier) all =
     let both = goes step.event all.0 in
     (record { arrives = both.0; reading = both.1; single = refl }, each_part line Is goes earlier all.1)
 
-pub one_event : (Is : Event → Type 0) (event : Event) (from to : Seen) (steps : List Step) → Is event → IsOne event from steps to → AllEvents Is steps
+pub one_event : (Is : Event → Type 0) (event : Event) (from to : Seen) (steps : List EventStep) → Is event → IsOne event from steps to → AllEvents Is steps
 one_event Is event from to steps is one = subst (AllEvents Is) (sym one.alone) (subst Is (sym one.is) is, tt)
 
-pub due_events : (Is : Event → Type 0) (held : set.FinSet lane_cmp) (reading : ℕ) (from to : Seen) (steps : List Step) → ((number : ℕ) → Is (Deliver reading number)) → ((at : Actor) → Is (Sync at)) → Along (IsDueNow held reading) from steps to → AllEvents Is steps
+pub due_events : (Is : Event → Type 0) (held : set.FinSet lane_cmp) (reading : ℕ) (from to : Seen) (steps : List EventStep) → ((number : ℕ) → Is (Deliver reading number)) → ((at : Actor) → Is (Sync at)) → Along (IsDueNow held reading) from steps to → AllEvents Is steps
 due_events Is held reading from to [] one two along = tt
 due_events Is held reading from to (step ∷ earlier) one two (middle, along, due, goes) = (by_due Is held reading middle step.event one two due, due_events Is held reading from middle earlier one two along)
 
-pub turn_events : (Is : Event → Type 0) (event : Actor → Event) (down : Bool) (these : List Actor) (from to : Seen) (steps : List Step) → ((who : Actor) → Is (event who)) → AreTurns event down these from steps to → AllEvents Is steps
+pub turn_events : (Is : Event → Type 0) (event : Actor → Event) (down : Bool) (these : List Actor) (from to : Seen) (steps : List EventStep) → ((who : Actor) → Is (event who)) → AreTurns event down these from steps to → AllEvents Is steps
 turn_events Is event down [] from to steps goes are = subst (AllEvents Is) (sym are.0) tt
 turn_events Is event down (who ∷ before) from to steps goes (middle, earlier, are, Does its step same is go) =
     subst (AllEvents Is) (sym same) (subst Is (sym is) (goes who), turn_events Is event down before from middle earlier goes are)
@@ -52,7 +52,7 @@ turn_events Is event down (who ∷ before) from to steps goes (middle, earlier, 
 -- ---- which nodes end
 
 -- the nodes that end in parts end by their events, or a machine stopped
-pub ends_only : (Is : Event → Type 0) (steps : List Step) (node : ℕ) → AllEvents Is steps → EndsIn (parts_with steps []) node → ((event : Event) × Is event × (ends_in event node ≡ true)) ⊎ (has_stopped steps ≡ true)
+pub ends_only : (Is : Event → Type 0) (steps : List EventStep) (node : ℕ) → AllEvents Is steps → EndsIn (parts_with steps []) node → ((event : Event) × Is event × (ends_in event node ≡ true)) ⊎ (has_stopped steps ≡ true)
 ends_only Is [] node all (part, inside, ends) = absurd (none_in part inside)
 ends_only Is (step ∷ earlier) node all (part, inside, ends) =
     by (λ rest. ends_only Is earlier node all.1 (part, rest, ends)) (in_cases (part_at step.event step.outcome) part (parts_with earlier []) inside)
@@ -78,7 +78,7 @@ ends_only Is (step ∷ earlier) node all (part, inside, ends) =
             stopped_before false b is = is
 
 -- a step crashed a machine
-abbrev pub HasCrash : List Step → Actor → Type 0
+abbrev pub HasCrash : List EventStep → Actor → Type 0
 HasCrash [] who = ⊥
 HasCrash (step ∷ earlier) who = (step.event ≡ Crash who) ⊎ HasCrash earlier who
 
@@ -91,7 +91,7 @@ ends_of (Some who) others node is = by (ends_one who node) refl
     by false its = ap (λ b. if b then true else others node) its ∙ is
 
 -- a machine that crashed ended
-pub crash_ends : (steps : List Step) (who : Actor) (node : ℕ) → ends_one who node ≡ true → HasCrash steps who → EndsIn (parts_with steps []) node
+pub crash_ends : (steps : List EventStep) (who : Actor) (node : ℕ) → ends_one who node ≡ true → HasCrash steps who → EndsIn (parts_with steps []) node
 crash_ends [] who node its has = absurd has
 crash_ends (step ∷ earlier) who node its (inl is) =
     let own = ap (λ (event : Event). ends_in event node) is ∙ its in

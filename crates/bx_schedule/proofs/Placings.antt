@@ -12,7 +12,7 @@ use Rattle.bx_cluster.specs.Steps.{arrives_in, down_with, ends_in}
 use Rattle.bx_driver.proofs.Stepping.{devices_stay, nodes_stay}
 use Rattle.bx_driver.specs.Lanes.{lane_cmp}
 use Rattle.bx_disk.specs.declared.noise.Noise.{Noise}
-use Rattle.bx_driver.specs.Steps.{IsDueNow, IsOne, IsRun, Step, parts_with}
+use Rattle.bx_driver.specs.Steps.{IsDueNow, IsOne, IsRun, EventStep, parts_with}
 use Rattle.bx_history.specs.Along.{ends_one}
 use Rattle.bx_script.specs.Schedule.{is_heading}
 use Rattle.bx_script.specs.declared.line.Line.{Line}
@@ -43,13 +43,13 @@ turned_in (y ∷ ys) x inside = by (λ rest. turned_in ys x rest) (in_cases y x 
     by recur (inl same) = subst (Contains (reverse (y ∷ ys))) same (subst (λ l. Contains l y) (sym whole) (Contains-push (reverse ys) y))
     by recur (inr rest) = subst (λ l. Contains l x) (sym whole) (Contains-append_left (reverse ys) (y ∷ []) x (recur rest))
 
-as_many_parts : (steps : List Step) → length (parts_with steps []) ≡ length steps
+as_many_parts : (steps : List EventStep) → length (parts_with steps []) ≡ length steps
 as_many_parts [] = refl
 as_many_parts (step ∷ earlier) = let e = as_many_parts earlier in let both : length (parts_with (step ∷ earlier) []) ≡ length (step ∷ earlier) = omega (arith, e) in both
 
 -- ---- there are as many machines as there were
 
-pub line_many : (held : set.FinSet lane_cmp) (line : Line) (from to : Seen) (steps : List Step) → IsLine held line from steps to → HasAsMany from to
+pub line_many : (held : set.FinSet lane_cmp) (line : Line) (from to : Seen) (steps : List EventStep) → IsLine held line from steps to → HasAsMany from to
 line_many held line from to steps (OneEvent event is one) = record { nodes = one.goes.shown.nodes; devices = one.goes.shown.devices }
 line_many held line from to steps (Runs reading limit same run) = record { nodes = nodes_stay (IsDueNow held reading) from steps to run.along; devices = devices_stay (IsDueNow held reading) from steps to run.along }
 line_many held line from to steps (Crashes noise same all) = turns_many Crash false (reverse all.machines) from to steps all.goes
@@ -77,7 +77,7 @@ same_nodes (lines.Blank machine) before is = refl
 
 -- ---- the parts
 
-only_by : (MayStop : Type 0) (Is : Event → Type 0) (line : Line) (steps : List Step) → AllEvents Is steps → ((event : Event) (node : ℕ) → Is event → ends_in event node ≡ true → Ends line node) → (has_stopped steps ≡ true → MayStop)
+only_by : (MayStop : Type 0) (Is : Event → Type 0) (line : Line) (steps : List EventStep) → AllEvents Is steps → ((event : Event) (node : ℕ) → Is event → ends_in event node ≡ true → Ends line node) → (has_stopped steps ≡ true → MayStop)
     → (node : ℕ) → EndsIn (parts_with steps []) node → Ends line node ⊎ MayStop
 only_by MayStop Is line steps all ends may node inside = by (ends_only Is steps node all inside)
   where
@@ -89,14 +89,14 @@ never : (a : Bool) → a ≡ false → a ≡ true → ⊥
 never a off on = cc
 
 -- a line that does no event
-none_placed : (MayStop : Type 0) (before : List Line) (line : Line) (steps : List Step) → steps ≡ [] → ((node : ℕ) → Ends line node → ⊥) → HasCount line 0 → ArePartsOf MayStop before line (parts_with steps [])
+none_placed : (MayStop : Type 0) (before : List Line) (line : Line) (steps : List EventStep) → steps ≡ [] → ((node : ℕ) → Ends line node → ⊥) → HasCount line 0 → ArePartsOf MayStop before line (parts_with steps [])
 none_placed MayStop before line steps none ends count = subst (λ l. ArePartsOf MayStop before line (parts_with l [])) (sym none) (record {
   each = tt;
   count = count;
   ends = record { only = λ node inside. absurd (none_in inside.0 inside.1); each = λ node under up its. absurd (ends node its) };
 })
 
-module _ (MayStop : Type 0) (before : List Line) (from to : Seen) (steps : List Step) (may : has_stopped steps ≡ true → MayStop) where
+module _ (MayStop : Type 0) (before : List Line) (from to : Seen) (steps : List EventStep) (may : has_stopped steps ≡ true → MayStop) where
   run_placed : (held : set.FinSet lane_cmp) (reading limit : ℕ) → IsRun held reading limit from steps to → ArePartsOf MayStop before (lines.Run reading limit) (parts_with steps [])
   run_placed held reading limit run =
       record {
@@ -151,7 +151,7 @@ module _ (MayStop : Type 0) (before : List Line) (from to : Seen) (steps : List 
   event_placed line event is one =
       record {
         each = each_part line (IsEventOf from line) (event_part from line) steps all;
-        count = one_part from line event (length (parts_with steps [])) is (ap (λ (l : List Step). length (parts_with l [])) one.alone);
+        count = one_part from line event (length (parts_with steps [])) is (ap (λ (l : List EventStep). length (parts_with l [])) one.alone);
         ends = record {
           only = only_by MayStop (IsEventOf from line) line steps all (event_ends from line) may;
           each = λ node under up ends.

@@ -3,7 +3,7 @@ use Rattle.std.specs.Prelude.{◌≡◌, ℕ, true, List, [], ◌∷◌, Option,
 use Rattle.bx_disk.specs.Crash.{crashed}
 use Rattle.bx_disk.specs.Disks.{Disks, blanked}
 use Rattle.bx_disk.specs.declared.noise.Noise.{Noise}
-use Rattle.bx_driver.specs.Steps.{IsStep, Step}
+use Rattle.bx_driver.specs.Steps.{IsStep, EventStep}
 use Rattle.bx_facts.specs.Machines.{disk_of}
 use Rattle.bx_world_events.specs.Refusals.{Seen, refusal}
 use Rattle.bx_world_events.specs.declared.event.Event.{Event}
@@ -42,7 +42,7 @@ IsBehind seen (Restart reading at) = Unit {0}
 IsBehind seen (Blank at) = Unit {0}
 
 -- What disks hold behind steps, the newest first: right behind each event, which leaves some disks, the disk of its machine crashes, or is replaced.
-abbrev pub AreDisks : Noise → Seen → List Step → Disks → Disks → Type 0
+abbrev pub AreDisks : Noise → Seen → List EventStep → Disks → Disks → Type 0
 AreDisks noise to [] old new = new ≡ old
 AreDisks noise to (step ∷ earlier) old new =
     (from : Seen) × (held : Disks) × (left : Disks) × AreDisks noise from earlier old held × IsStep from step to × (left.sizes ≡ held.sizes) × (new ≡ moved to noise step.event left)

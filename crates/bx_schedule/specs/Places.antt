@@ -11,7 +11,7 @@ use Rattle.bx_disk.specs.declared.noise.Noise.{Noise}
 use Rattle.bx_disk.specs.declared.rack.Rack as racks
 use Rattle.bx_driver.specs.Lanes.{lane_cmp}
 use Rattle.bx_driver.specs.Racks.{KeepsRack}
-use Rattle.bx_driver.specs.Steps.{IsStep, Step, parts_with}
+use Rattle.bx_driver.specs.Steps.{IsStep, EventStep, parts_with}
 use Rattle.bx_history.specs.Parts.{Part, trace_of}
 use Rattle.bx_model.specs.declared.tree.Tree.{Tree}
 use Rattle.bx_script.specs.TraceText.{InTraceRange, trace_text}
@@ -44,11 +44,11 @@ abbrev pub IsWithin : ℕ → Event → Type 0
 IsWithin clock event = IfSome (reading_of event) (λ reading. reading ≤ clock)
 
 -- the lines of the trace that steps come to, the oldest first
-abbrev pub lines_by : List Step → List TraceLine
+abbrev pub lines_by : List EventStep → List TraceLine
 lines_by steps = reverse (trace_of (parts_with steps []))
 
 -- a fault stopped a machine in one of these steps
-abbrev pub has_stopped : List Step → Bool
+abbrev pub has_stopped : List EventStep → Bool
 has_stopped steps = list_any (λ step. is_some step.outcome.stopped) steps
 
 -- at most four nodes and four devices
@@ -95,8 +95,8 @@ module _ {C R : Type 0} (seen_of : C → Seen) (led_of : C → Disks → Tree �
 
   -- Steps that are so were done, each with what was done to the disk of its machine: what led to the cluster and which calls lack their points goes on by their parts, their lines
   -- of the trace, which are in range, come behind the text, and where one stopped a machine a fault of a disk rose.
-  pub record Goes (Is : Seen → List Step → Seen → Type 0) (noise : Noise) (old : Place C) (before : R) (new : Place C) (after : R) : Type 0 where
-    pub steps : List Step
+  pub record Goes (Is : Seen → List EventStep → Seen → Type 0) (noise : Noise) (old : Place C) (before : R) (new : Place C) (after : R) : Type 0 where
+    pub steps : List EventStep
     pub is : Is (seen_of old.cluster) steps (seen_of new.cluster)
     pub leads : (tree : Tree) (parts : List Part) → ra.tells before → led_of old.cluster (ra.state before) tree parts → led_of new.cluster (ra.state after) tree (parts_with steps parts)
     pub lacks : (tree : Tree) (parts : List Part) → ra.tells before → led_of old.cluster (ra.state before) tree parts → AreLacking old.lacking parts → AreLacking new.lacking (parts_with steps parts)

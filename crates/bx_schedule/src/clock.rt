@@ -1,7 +1,7 @@
 //! The clock of a schedule.
 
 ghost use Rattle.std.specs.Prelude.{◌≡◌, IfErr, IfSome, None, OnErr, OnOk, Some, max};
-ghost use Rattle.bx_cluster.specs.Steps.{greatest_with};
+ghost use Rattle.bx_cluster.specs.Steps.{greatest_reading};
 ghost use Rattle.bx_schedule.specs.Refusing.{back_at};
 
 use bx_lease::BackBy;
@@ -22,7 +22,7 @@ pub(crate) fn take_reading(clock: &mut ClockRule, reading: u64) -> Result<(), Ev
 /// The clock behind an event that isn't refused for its reading. It takes no memory.
 pub(crate) fn clock_after(clock: ClockRule, reading: Option<u64>) -> ClockRule
     requires { IfSome reading (λ its. back_at clock its ≡ None) }
-    ensures { result ≡ greatest_with reading clock }
+    ensures { result ≡ greatest_reading reading clock }
 {
     let Some(its) = reading else {
         return clock;

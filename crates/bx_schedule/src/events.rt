@@ -2,7 +2,7 @@
 
 ghost use Rattle.std.specs.Prelude.{◌≡◌, ◌<◌, ◌++◌, ◌⊎◌, IfErr, None, OnOk, Some, reverse};
 ghost use Rattle.std.specs.List.{AllByRecursion};
-ghost use Rattle.bx_cluster.specs.Steps.{Counted, IsMoment, greatest_with, lines_in};
+ghost use Rattle.bx_cluster.specs.Steps.{Counted, IsMoment, greatest_reading, lines_in};
 ghost use Rattle.bx_driver.specs.Racks.{KeepsRack};
 ghost use Rattle.bx_driver.specs.Steps.{IsOne};
 ghost use Rattle.bx_script.specs.TraceText.{InTraceRange, trace_text};
@@ -79,7 +79,7 @@ impl<C: Cluster> Schedule<C> {
         ensures goes { OnOk result (CanGo C.seen C.room R.Rack (place_of self.new) rack.new) }
         ensures allowed { OnOk result (refusal (at_clock self.old.clock (C.seen self.old.cluster)) event.now ≡ None) }
         ensures does { OnOk result (Goes C.seen C.led R.Rack (IsOne event.now) noise (place_of self.old) rack.old (place_of self.new) rack.new) }
-        ensures clock { OnOk result (self.new.clock ≡ greatest_with (reading_of event.now) self.old.clock) }
+        ensures clock { OnOk result (self.new.clock ≡ greatest_reading (reading_of event.now) self.old.clock) }
         ensures held { OnOk result (self.new.held ≡ self.old.held) }
         ensures counted { OnOk result (Counted event.now (C.events self.old.cluster) (C.events self.new.cluster)) }
         ensures refused { IfErr result (λ error. (error ≡ NoMemory) ⊎ ((refusal (at_clock self.old.clock (C.seen self.old.cluster)) event.now ≡ Some error) × IsSame R.Rack (place_of self.old) rack.old (place_of self.new) rack.new)) }

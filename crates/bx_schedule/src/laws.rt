@@ -5,7 +5,7 @@ ghost use Rattle.std.specs.FinSet as set;
 ghost use Rattle.bx_base.specs.Faults.{Rose};
 ghost use Rattle.bx_base.specs.declared.names.Actor.{Actor};
 ghost use Rattle.bx_driver.specs.Lanes.{lane_cmp};
-ghost use Rattle.bx_driver.specs.Steps.{Step, parts_with};
+ghost use Rattle.bx_driver.specs.Steps.{EventStep, parts_with};
 ghost use Rattle.bx_history.specs.Parts.{Part};
 ghost use Rattle.bx_script.specs.Schedule.{is_heading};
 ghost use Rattle.bx_script.specs.declared.line.Line.{Line};
@@ -20,29 +20,29 @@ ghost use Rattle.bx_schedule.specs.Refusing.{IsRefusal};
 
 /// The parts of a line's steps are those of the line, and which machines are down goes on by the lines, unless a fault rose by which a machine may have stopped.
 pub fn lines_are_placed()
-    ensures parts { (first now : ℕ) (held : set.FinSet lane_cmp) (before : List Line) (line : Line) (from to : Seen) (steps : List Step) → IsLine held line from steps to → (has_stopped steps ≡ true → Rose first now) → from.nodes ≡ nodes_after before → IsByLines (Rose first now) before from
+    ensures parts { (first now : ℕ) (held : set.FinSet lane_cmp) (before : List Line) (line : Line) (from to : Seen) (steps : List EventStep) → IsLine held line from steps to → (has_stopped steps ≡ true → Rose first now) → from.nodes ≡ nodes_after before → IsByLines (Rose first now) before from
         → ArePartsOf (Rose first now) before line (parts_with steps []) }
-    ensures down { (first now : ℕ) (held : set.FinSet lane_cmp) (before : List Line) (line : Line) (from to : Seen) (steps : List Step) → IsLine held line from steps to → (has_stopped steps ≡ true → Rose first now) → IsByLines (Rose first now) before from → IsByLines (Rose first now) (line ∷ before) to }
-    ensures nodes { (held : set.FinSet lane_cmp) (before : List Line) (line : Line) (from to : Seen) (steps : List Step) → is_heading line ≡ false → IsLine held line from steps to → from.nodes ≡ nodes_after before → to.nodes ≡ nodes_after (line ∷ before) }
-    ensures many { (held : set.FinSet lane_cmp) (line : Line) (from to : Seen) (steps : List Step) → IsLine held line from steps to → HasAsMany from to }
+    ensures down { (first now : ℕ) (held : set.FinSet lane_cmp) (before : List Line) (line : Line) (from to : Seen) (steps : List EventStep) → IsLine held line from steps to → (has_stopped steps ≡ true → Rose first now) → IsByLines (Rose first now) before from → IsByLines (Rose first now) (line ∷ before) to }
+    ensures nodes { (held : set.FinSet lane_cmp) (before : List Line) (line : Line) (from to : Seen) (steps : List EventStep) → is_heading line ≡ false → IsLine held line from steps to → from.nodes ≡ nodes_after before → to.nodes ≡ nodes_after (line ∷ before) }
+    ensures many { (held : set.FinSet lane_cmp) (line : Line) (from to : Seen) (steps : List EventStep) → IsLine held line from steps to → HasAsMany from to }
 {}
 
 /// A machine that is down by a line, over those that were down at least, is down behind it; and no other is, over those that were down at most, unless a fault rose by which it may have stopped.
 pub fn down_by_lines()
-    ensures least { (held : set.FinSet lane_cmp) (line : Line) (from to : Seen) (steps : List Step) (who : Actor) (was : Bool) → IsLine held line from steps to → IsThere from who → (was ≡ true → from.down who ≡ true) → is_down_by line who was ≡ true → to.down who ≡ true }
-    ensures most { (first now : ℕ) (held : set.FinSet lane_cmp) (line : Line) (from to : Seen) (steps : List Step) (who : Actor) (was : Bool) → IsLine held line from steps to → IsThere from who → (has_stopped steps ≡ true → Rose first now)
+    ensures least { (held : set.FinSet lane_cmp) (line : Line) (from to : Seen) (steps : List EventStep) (who : Actor) (was : Bool) → IsLine held line from steps to → IsThere from who → (was ≡ true → from.down who ≡ true) → is_down_by line who was ≡ true → to.down who ≡ true }
+    ensures most { (first now : ℕ) (held : set.FinSet lane_cmp) (line : Line) (from to : Seen) (steps : List EventStep) (who : Actor) (was : Bool) → IsLine held line from steps to → IsThere from who → (has_stopped steps ≡ true → Rose first now)
         → (from.down who ≡ true → (was ≡ true) ⊎ Rose first now) → to.down who ≡ true → (is_down_by line who was ≡ true) ⊎ Rose first now }
 {}
 
 /// The parts of steps come in front of those that there were.
 pub fn parts_stand_apart()
-    ensures { (steps : List Step) (parts : List Part) → parts_with steps parts ≡ parts_with steps [] ++ parts }
+    ensures { (steps : List EventStep) (parts : List Part) → parts_with steps parts ≡ parts_with steps [] ++ parts }
 {}
 
 /// Where all machines crash, each that was up has its turn, in their order, if no fault stopped one meanwhile; where all start again, each that was down has it.
 pub fn each_has_its_turn()
-    ensures crash { (from to : Seen) (steps : List Step) (all : AllCrash from steps to) → has_stopped steps ≡ false → map (λ step. step.event) steps ≡ map Crash (reverse all.machines) }
-    ensures restart { (reading : ℕ) (from to : Seen) (steps : List Step) (all : AllRestart reading from steps to) → map (λ step. step.event) steps ≡ map (Restart reading) (reverse all.machines) }
+    ensures crash { (from to : Seen) (steps : List EventStep) (all : AllCrash from steps to) → has_stopped steps ≡ false → map (λ step. step.event) steps ≡ map Crash (reverse all.machines) }
+    ensures restart { (reading : ℕ) (from to : Seen) (steps : List EventStep) (all : AllRestart reading from steps to) → map (λ step. step.event) steps ≡ map (Restart reading) (reverse all.machines) }
 {}
 
 /// A line has one cause for which it is refused, or none.

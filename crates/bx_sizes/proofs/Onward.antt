@@ -18,7 +18,7 @@ use Rattle.bx_places.specs.Places.{is_block}
 use Rattle.bx_truth.specs.Keys.{content_key}
 use Rattle.bx_truth.specs.PageTrees.{PageTree, map_of}
 use Rattle.bx_sizes.specs.Clearing.{HasNone}
-use Rattle.bx_sizes.specs.FirstPieces.{GoesOn, GoesOnTo, HasPiece, IsLeastIndex}
+use Rattle.bx_sizes.specs.FirstPieces.{ClearingGoesOn, GoesOnTo, HasPiece, IsLeastIndex}
 use Rattle.bx_sizes.proofs.Digits.{not_before}
 
 no_true : false ≡ true → ⊥
@@ -173,6 +173,6 @@ module _ (tree : PageTree) (at : ℕ) (fits : at < 2 ^ 32) (page : Contents) (le
       }
 
 -- a need of a block of the volume says nothing of the pieces
-pub need_goes_on : (map : List Entry) (at areas block : ℕ) (stop : Stop) → IsNeed areas block stop → is_block areas block ≡ true → GoesOn map at (Err stop)
-need_goes_on map at areas block stop (inl need) there = subst (λ (s : Stop). GoesOn map at (Err s)) (sym need.1) tt
+pub need_goes_on : (map : List Entry) (at areas block : ℕ) (stop : Stop) → IsNeed areas block stop → is_block areas block ≡ true → ClearingGoesOn map at (Err stop)
+need_goes_on map at areas block stop (inl need) there = subst (λ (s : Stop). ClearingGoesOn map at (Err s)) (sym need.1) tt
 need_goes_on map at areas block stop (inr none) there = let both : true ≡ false = sym there ∙ none.0 in absurd cc

@@ -3,7 +3,7 @@ use Rattle.std.specs.Prelude.{◌≡◌, ℕ, ◌+◌, ◌/◌, ◌<◌, ◌≤�
 use Rattle.std.specs.Int.{div_ceil}
 use Rattle.bx_base.specs.declared.names.Mode.{Mode}
 use Rattle.bx_base.specs.declared.names.Mode.TheVariants.{Exclusive}
-use Rattle.bx_changes.specs.bx_files.specs.Paths.{Finds, OnSearch}
+use Rattle.bx_changes.specs.bx_files.specs.Paths.{LandsAtValue, OnSearch}
 use Rattle.bx_inodes.specs.declared.stop.Stop.{Stop}
 use Rattle.bx_inodes.specs.declared.stop.Stop.TheVariants.{Need, Inner, Status, OutOfMemory}
 use Rattle.bx_layout.specs.declared.inode.Inode.{Inode}
@@ -50,7 +50,7 @@ pub record IsFoundBy (held : Held) (hints : Hints) (root from end index names : 
   pub above : from ≤ index
   pub below : index < end
   pub value : List ℕ
-  pub found : Finds held hints root (content_key index) (Some value)
+  pub found : LandsAtValue held hints root (content_key index) (Some value)
   pub names_is : names ≡ handle_in value
 
 -- the same of what is answered

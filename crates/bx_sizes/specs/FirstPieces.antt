@@ -41,12 +41,12 @@ pub record GoesOnTo (map : List Entry) (at next : ℕ) : Type 0 where
   pub there : next ≡ at → HasPiece map at
 
 -- the same of what is answered
-abbrev pub GoesOn : List Entry → ℕ → Result ℕ Stop → Type 0
-GoesOn map at (Ok next) = GoesOnTo map at next
-GoesOn map at (Err (Need block mode)) = Unit {0}
-GoesOn map at (Err (Inner blocks)) = ⊥
-GoesOn map at (Err (Status status)) = ⊥
-GoesOn map at (Err OutOfMemory) = Unit {0}
+abbrev pub ClearingGoesOn : List Entry → ℕ → Result ℕ Stop → Type 0
+ClearingGoesOn map at (Ok next) = GoesOnTo map at next
+ClearingGoesOn map at (Err (Need block mode)) = Unit {0}
+ClearingGoesOn map at (Err (Inner blocks)) = ⊥
+ClearingGoesOn map at (Err (Status status)) = ⊥
+ClearingGoesOn map at (Err OutOfMemory) = Unit {0}
 
 -- the least index of a piece whose key isn't below a key
 abbrev pub IsLeastIndex : List ℕ → ℕ → Type 0

@@ -12,7 +12,7 @@ use Rattle.bx_views.specs.Truths.{Held, Hints}
 use Rattle.bx_sizes.specs.Clearing.{OnClearing}
 
 -- from the inode that is named, and held, on: where a size is given, the path of clearing
-pub record OnBehind (held : Held) (hints : Hints) (volume areas : ℕ) (bytes : List ℕ) (size at : ℕ) (mode : Mode) : Type 0 where
+pub record OnNamedBehind (held : Held) (hints : Hints) (volume areas : ℕ) (bytes : List ℕ) (size at : ℕ) (mode : Mode) : Type 0 where
   pub given : is_given size ≡ true
   pub handle : ℕ
   pub inode : Inode
@@ -22,4 +22,4 @@ pub record OnBehind (held : Held) (hints : Hints) (volume areas : ℕ) (bytes : 
 
 -- The path of SETATTR, by its size: the inode of the file that is named, exclusively, and that from there on.
 abbrev pub OnSetting : Held → Hints → ℕ → ℕ → List ℕ → ℕ → ℕ → Mode → Type 0
-OnSetting held hints volume areas bytes size at mode = OnInode volume bytes Exclusive at mode ⊎ OnBehind held hints volume areas bytes size at mode
+OnSetting held hints volume areas bytes size at mode = OnInode volume bytes Exclusive at mode ⊎ OnNamedBehind held hints volume areas bytes size at mode

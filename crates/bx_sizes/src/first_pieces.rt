@@ -9,7 +9,7 @@ ghost use Rattle.bx_page.specs.Keys.{IsBelow};
 ghost use Rattle.bx_truth.specs.Keys.{content_key as key_of_content};
 ghost use Rattle.bx_truth.specs.PageTrees.{PageTree, map_of};
 ghost use Rattle.bx_sizes.specs.Clearing.{OnIndexes};
-ghost use Rattle.bx_sizes.specs.FirstPieces.{FindsFirst, GoesOn, IsLeastIndex, IsWithin};
+ghost use Rattle.bx_sizes.specs.FirstPieces.{FindsFirst, ClearingGoesOn, IsLeastIndex, IsWithin};
 
 use bx_blink::{BlinkError, leaf_at};
 use bx_changes::files::{content_key, needed};
@@ -63,7 +63,7 @@ pub(crate) fn first_piece<V: View>(
 ///
 /// `Need` names a block of the volume that isn't held, shared: one on the path of the search for that piece.
 fn next_from<V: View>(alloc: Global, areas: u16, view: &V, root: u64, at: u32) -> Result<u64, Stop>
-    ensures map { (truth : Truth) (tree : PageTree) → Under areas (V.held view.now) (V.hints view.now) truth [] root tree → GoesOn (map_of tree) at result }
+    ensures map { (truth : Truth) (tree : PageTree) → Under areas (V.held view.now) (V.hints view.now) truth [] root tree → ClearingGoesOn (map_of tree) at result }
     ensures onward { IfOk result (λ next. at ≤ next) }
     ensures need { NeedsOn areas (V.held view.now) (OnSearch (V.held view.now) (V.hints view.now) root (key_of_content at)) result }
     ensures inner { NeverInner result }

@@ -8,7 +8,7 @@ use Rattle.bx_layout.specs.declared.block.Block.{Block}
 use Rattle.bx_page.specs.declared.entry.Entry.{Entry}
 use Rattle.bx_page.specs.Keys.{is_below, IsBelow}
 use Rattle.bx_page.specs.Contents.{Contents, first, half, first_half, other_half}
-use Rattle.bx_truth.specs.PageTrees.{Chunks, Node, IsIn, HasPage, IsNode, Leads, IsChain, IsLevel, NamesChild, IsInterior, PageTree, IsTree, entries_of}
+use Rattle.bx_truth.specs.PageTrees.{Chunks, Node, IsIn, HasPage, IsNode, PagesLead, IsChain, IsLevel, NamesChild, IsInterior, PageTree, IsTree, entries_of}
 use Rattle.bx_blink.proofs.Chains.{entries_at}
 use Rattle.bx_leaves.proofs.Apart.{same_page}
 use Rattle.bx_leaves.proofs.Members.{in_left, in_right, in_split, in_cases, in_tail, in_middle}
@@ -31,14 +31,14 @@ pub record Cuts (chunks chunks' : Chunks) (handle right : ℕ) (left_block right
   pub others : (other : ℕ) → (other ≡ handle → ⊥) → (other ≡ right → ⊥) → chunks' other ≡ chunks other
 
 module _ (node : Node) (right : ℕ) (middle : List ℕ) (high : (first_half node.page right).high ≡ Some middle) where
-  right_leads : (behind : List Node) → Leads node behind → Leads (right_of node right middle) behind
+  right_leads : (behind : List Node) → PagesLead node behind → PagesLead (right_of node right middle) behind
   right_leads [] l = record { right = l.right; high = l.high }
   right_leads (next ∷ more) l = (record { right = l.0.right; high = l.0.high }, l.1)
 
-  left_leads : (behind : List Node) → Leads node behind → Leads (left_of node right) (right_of node right middle ∷ behind)
+  left_leads : (behind : List Node) → PagesLead node behind → PagesLead (left_of node right) (right_of node right middle ∷ behind)
   left_leads behind l = (record { right = refl; high = high }, right_leads behind l)
 
-  leads_cut : (x : Node) (before behind : List Node) → Leads x (before ++ node ∷ behind) → Leads x (before ++ left_of node right ∷ (right_of node right middle ∷ behind))
+  leads_cut : (x : Node) (before behind : List Node) → PagesLead x (before ++ node ∷ behind) → PagesLead x (before ++ left_of node right ∷ (right_of node right middle ∷ behind))
   leads_cut x [] behind l = (record { right = l.0.right; high = l.0.high }, left_leads behind l.1)
   leads_cut x (y ∷ ys) behind l = (l.0, leads_cut y ys behind l.1)
 

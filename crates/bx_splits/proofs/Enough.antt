@@ -7,10 +7,10 @@ use Rattle.bx_page.proofs.Room.{size-le}
 use Rattle.bx_truth.specs.PageTrees.{Node}
 use Rattle.bx_blink.proofs.Handles.{not_below_empty}
 use Rattle.bx_blink.specs.Walks.{Reads}
-use Rattle.bx_splits.specs.Cutting.{IsOwned}
+use Rattle.bx_splits.specs.Cutting.{IsOwnPage}
 use Rattle.bx_splits.proofs.Middles.{middle as middle_of, is_middle}
 
-pub enough : (reads : Reads) (handle : ℕ) (page : Contents) → IsOwned reads handle page → 4096 < size page + 544 → 2 ≤ length page.entries
+pub enough : (reads : Reads) (handle : ℕ) (page : Contents) → IsOwnPage reads handle page → 4096 < size page + 544 → 2 ≤ length page.entries
 enough reads handle page owned full = let le = size-le page ((owned.has).spells).is in omega (arith, full, le)
 
 some_same : (a b : List ℕ) → Some a ≡ Some b → a ≡ b

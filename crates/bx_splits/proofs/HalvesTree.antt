@@ -8,7 +8,7 @@ use Rattle.bx_truth.specs.Chunks.{IsChunked, chunks_of}
 use Rattle.bx_truth.specs.PageTrees.{IsNode, Node, PageTree, IsPageOf}
 use Rattle.bx_views.specs.Truths.{Truth, Held, Hints, with_draft}
 use Rattle.bx_chunks.specs.declared.error.ChunkError.TheVariants.{Full as ChunkFull}
-use Rattle.bx_chunks.specs.Allocating.{Adds, AllocatesAt}
+use Rattle.bx_chunks.specs.Allocating.{AddsChunk, AllocatesAt}
 use Rattle.bx_chunks.specs.Counting.{free_slots}
 use Rattle.bx_chunks.proofs.Allocates.{allocates_in}
 use Rattle.bx_blink.specs.declared.error.BlinkError.{BlinkError}
@@ -27,7 +27,7 @@ module _ (areas near : ℕ) (held : Held) (hints : Hints) (truth : Truth) (old n
     (node : Node) (i : IsPageOf tree node) (there : node.handle ≡ handle) (contents : Contents) (same : contents ≡ node.page) where
   pub page_halves : 2 ≤ length node.page.entries → handle ≢ root → (c : CutsPage held old new handle contents near areas) → GrowsHalves areas held hints truth old new root tree handle (λ x. x ≡ c.right) contents handle c.right
   page_halves more other c =
-      let a : Adds areas (with_draft truth old) (with_draft truth c.one) c.right = allocates_in areas near held truth old c.one u.few u.same u.chunked (Ok c.right) c.allots in
+      let a : AddsChunk areas (with_draft truth old) (with_draft truth c.one) c.right = allocates_in areas near held truth old c.one u.few u.same u.chunked (Ok c.right) c.allots in
       let right_is : (with_draft truth c.one a.block).handle ≡ c.right = ap (λ (b : Block). b.handle) a.here in
       let p : PutsPage c.one c.two (with_draft truth c.one a.block).handle (other_half node.page) =
       subst (λ (h : ℕ). PutsPage c.one c.two h (other_half node.page)) (sym right_is) (subst (λ (x : Contents). PutsPage c.one c.two c.right (other_half x)) same c.puts_other) in
@@ -43,8 +43,8 @@ module _ (areas near : ℕ) (held : Held) (hints : Hints) (truth : Truth) (old n
       → GrowsHalves areas held hints truth old new root tree handle (λ x. (x ≡ c.left) ⊎ (x ≡ c.right)) contents c.left c.right
   root_halves more at_root c =
       let one : List Changed = (c.allots).0 in
-      let a : Adds areas (with_draft truth old) (with_draft truth one) c.left = allocates_in areas near held truth old one u.few u.same u.chunked (Ok c.left) (c.allots).1 in
-      let b : Adds areas (with_draft truth one) (with_draft truth c.two) c.right = allocates_in areas near held truth one c.two u.few u.same a.chunked (Ok c.right) (c.allots).2 in
+      let a : AddsChunk areas (with_draft truth old) (with_draft truth one) c.left = allocates_in areas near held truth old one u.few u.same u.chunked (Ok c.left) (c.allots).1 in
+      let b : AddsChunk areas (with_draft truth one) (with_draft truth c.two) c.right = allocates_in areas near held truth one c.two u.few u.same a.chunked (Ok c.right) (c.allots).2 in
       let left_is : (with_draft truth one a.block).handle ≡ c.left = ap (λ (x : Block). x.handle) a.here in
       let right_is : (with_draft truth c.two b.block).handle ≡ c.right = ap (λ (x : Block). x.handle) b.here in
       let high : (first_half node.page (with_draft truth c.two b.block).handle).high ≡ Some c.middle = subst (λ (x : Contents). (first_half x c.right).high ≡ Some c.middle) same c.high in

@@ -8,7 +8,7 @@ use Rattle.bx_layout.specs.declared.block.Block.{Block}
 use Rattle.bx_page.specs.Contents.{Contents}
 use Rattle.bx_truth.specs.Chunks.{block_at, IsName}
 use Rattle.bx_truth.specs.PageTrees.{Chunks, Node, IsIn, PageTree}
-use Rattle.bx_blink.specs.Hints.{Place, LeadsDown, IsOld, StandsAt, HintsAgree}
+use Rattle.bx_blink.specs.Hints.{Place, LeadsDown, IsOld, PlaceStands, HintsAgree}
 use Rattle.bx_leaves.proofs.Members.{in_left, in_right, in_split, in_cases, in_middle, in_head, in_tail}
 use Rattle.bx_leaves.proofs.Replaced.{with_level}
 use Rattle.bx_splits.proofs.Cut.{left_of, right_of, Cuts}
@@ -86,7 +86,7 @@ module _ (areas : ℕ) (hint : Hints) (chunks chunks' : Chunks) (root : ℕ) (tr
   used : (handle : ℕ) (b : Block) → (handle ≡ right → ⊥) → chunks' handle ≡ Some b → (d : Block) × (chunks handle ≡ Some d)
   used handle b ne e = elim (cases_eq handle node.handle) [ inl same ↦ (old_block, ap chunks same ∙ was) | inr apart ↦ (b, sym (c.others handle apart ne) ∙ e) ]
 
-  right_stands : StandsAt (with_level tree level (before ++ left_of node right ∷ (right_of node right middle ∷ behind))) right (record { level = level; begins = middle })
+  right_stands : PlaceStands (with_level tree level (before ++ left_of node right ∷ (right_of node right middle ∷ behind))) right (record { level = level; begins = middle })
   right_stands = record {
     node = right_of node right middle;
     within = omega arith;
@@ -95,15 +95,15 @@ module _ (areas : ℕ) (hint : Hints) (chunks chunks' : Chunks) (root : ℕ) (tr
     begins_is = refl;
   }
 
-  stands' : (handle : ℕ) (p : Place) (b : Block) → now handle ≡ Some p → chunks' handle ≡ Some b → StandsAt (with_level tree level (before ++ left_of node right ∷ (right_of node right middle ∷ behind))) handle p
+  stands' : (handle : ℕ) (p : Place) (b : Block) → now handle ≡ Some p → chunks' handle ≡ Some b → PlaceStands (with_level tree level (before ++ left_of node right ∷ (right_of node right middle ∷ behind))) handle p
   stands' handle p b home_is e = by (cases_eq handle right)
     where
-      by : (handle ≡ right) ⊎ (handle ≡ right → ⊥) → StandsAt (with_level tree level (before ++ left_of node right ∷ (right_of node right middle ∷ behind))) handle p
+      by : (handle ≡ right) ⊎ (handle ≡ right → ⊥) → PlaceStands (with_level tree level (before ++ left_of node right ∷ (right_of node right middle ∷ behind))) handle p
       by (inl same) =
           let both : ◌≡◌ {A = Option Place} (Some (record { level = level; begins = middle })) (Some p) = sym is_new ∙ ap now (sym same) ∙ home_is in
           let place : (record { level = level; begins = middle }) ≡ p = cc in
-          subst (λ (q : Place). StandsAt (with_level tree level (before ++ left_of node right ∷ (right_of node right middle ∷ behind))) handle q) place
-          (subst (λ (k : ℕ). StandsAt (with_level tree level (before ++ left_of node right ∷ (right_of node right middle ∷ behind))) k (record { level = level; begins = middle })) (sym same) right_stands)
+          subst (λ (q : Place). PlaceStands (with_level tree level (before ++ left_of node right ∷ (right_of node right middle ∷ behind))) handle q) place
+          (subst (λ (k : ℕ). PlaceStands (with_level tree level (before ++ left_of node right ∷ (right_of node right middle ∷ behind))) k (record { level = level; begins = middle })) (sym same) right_stands)
       by (inr apart) = elim (by_home handle p home_is) [
         | inl both ↦ absurd (apart both.0)
         | inr before_is ↦ (

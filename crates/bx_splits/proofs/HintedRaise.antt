@@ -7,7 +7,7 @@ use Rattle.bx_layout.specs.declared.block.Block.{Block}
 use Rattle.bx_page.specs.Contents.{Contents, first_half, other_half}
 use Rattle.bx_truth.specs.Chunks.{block_at, IsName}
 use Rattle.bx_truth.specs.PageTrees.{Chunks, Node, IsIn, PageTree, IsTree}
-use Rattle.bx_blink.specs.Hints.{Place, IsOld, StandsAt, HintsAgree}
+use Rattle.bx_blink.specs.Hints.{Place, IsOld, PlaceStands, HintsAgree}
 use Rattle.bx_leaves.proofs.Members.{in_cases, in_head, in_tail, in_none}
 use Rattle.bx_splits.proofs.HintedCut.{with_home, home_still, old_still}
 use Rattle.bx_splits.specs.Splits.{root_page}
@@ -96,10 +96,10 @@ module _ (areas : ℕ) (hint : Hints) (chunks chunks' : Chunks) (root : ℕ) (tr
             ]
           ]
 
-  stands_old : (handle : ℕ) (p : Place) → h.home handle ≡ Some p → StandsAt tree handle p → StandsAt raised handle p
+  stands_old : (handle : ℕ) (p : Place) → h.home handle ≡ Some p → PlaceStands tree handle p → PlaceStands raised handle p
   stands_old handle p e s = by_level (cases_lt p.level tree.height)
     where
-      by_level : (p.level < tree.height) ⊎ (tree.height ≤ p.level) → StandsAt raised handle p
+      by_level : (p.level < tree.height) ⊎ (tree.height ≤ p.level) → PlaceStands raised handle p
       by_level (inl lt) = record { node = s.node; within = omega (arith, lt); there = subst (λ (ns : List Node). IsIn s.node ns) (sym (level_low p.level lt)) s.there; handle_is = s.handle_is; begins_is = s.begins_is }
       by_level (inr ge) =
           let same : p.level ≡ tree.height = (let w = s.within in omega (arith, w)) in
@@ -115,15 +115,15 @@ module _ (areas : ℕ) (hint : Hints) (chunks chunks' : Chunks) (root : ℕ) (tr
   used : (handle : ℕ) (b : Block) → (handle ≡ left → ⊥) → (handle ≡ right → ⊥) → (handle ≡ root → ⊥) → chunks' handle ≡ Some b → chunks handle ≡ Some b
   used handle b nl nr nt e = sym (c.others handle nt nl nr) ∙ e
 
-  stands' : (handle : ℕ) (p : Place) (b : Block) → now handle ≡ Some p → chunks' handle ≡ Some b → StandsAt raised handle p
+  stands' : (handle : ℕ) (p : Place) (b : Block) → now handle ≡ Some p → chunks' handle ≡ Some b → PlaceStands raised handle p
   stands' handle p b home_is e = by_where (where_is handle p home_is)
     where
       pair : (n : Node) → IsIn n (left_node ∷ right_node ∷ []) → IsIn n (raised.level tree.height)
       pair n i = subst (λ (ns : List Node). IsIn n ns) (sym level_height) i
 
-      by_where : Where handle p → StandsAt raised handle p
-      by_where (at_left a q) = subst (λ (k : Place). StandsAt raised handle k) (sym q) (record { node = left_node; within = omega arith; there = pair left_node (in_head left_node (right_node ∷ [])); handle_is = sym a; begins_is = refl })
-      by_where (at_right a q) = subst (λ (k : Place). StandsAt raised handle k) (sym q) (record { node = right_node; within = omega arith; there = pair right_node (in_tail right_node left_node (right_node ∷ []) (in_head right_node [])); handle_is = sym a; begins_is = refl })
+      by_where : Where handle p → PlaceStands raised handle p
+      by_where (at_left a q) = subst (λ (k : Place). PlaceStands raised handle k) (sym q) (record { node = left_node; within = omega arith; there = pair left_node (in_head left_node (right_node ∷ [])); handle_is = sym a; begins_is = refl })
+      by_where (at_right a q) = subst (λ (k : Place). PlaceStands raised handle k) (sym q) (record { node = right_node; within = omega arith; there = pair right_node (in_tail right_node left_node (right_node ∷ []) (in_head right_node [])); handle_is = sym a; begins_is = refl })
       by_where (before q) =
           let not_left : handle ≡ left → ⊥ = λ x. clash (ap h.home (sym x) ∙ q) left_home in
           let not_right : handle ≡ right → ⊥ = λ x. clash (ap h.home (sym x) ∙ q) right_home in

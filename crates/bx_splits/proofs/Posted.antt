@@ -12,7 +12,7 @@ use Rattle.bx_page.specs.Keys.{is_below}
 use Rattle.bx_page.specs.Contents.{Contents, first, below, above, with_entry, with_value}
 use Rattle.bx_page.proofs.Cuts.{filter_none}
 use Rattle.bx_truth.specs.Chunks.{block_at, chunks_of}
-use Rattle.bx_truth.specs.PageTrees.{Node, IsIn, IsNode, Leads, NamesChild, IsInterior, PageTree, map_of}
+use Rattle.bx_truth.specs.PageTrees.{Node, IsIn, IsNode, PagesLead, NamesChild, IsInterior, PageTree, map_of}
 use Rattle.bx_views.specs.Truths.{Truth, Held, Hints, with_draft}
 use Rattle.bx_blink.specs.Hints.{Under}
 use Rattle.bx_blink.specs.Places.{IsPlaceOf}
@@ -38,7 +38,7 @@ pub record HasNext (nodes : List Node) (node : Node) (high : List ℕ) : Type 0 
 some_key : (a b : List ℕ) → Some a ≡ Some b → a ≡ b
 some_key a b e = cc
 
-pub next_of : (before : List Node) (node : Node) (behind : List Node) (high : List ℕ) → Leads node behind → node.page.high ≡ Some high → HasNext (before ++ node ∷ behind) node high
+pub next_of : (before : List Node) (node : Node) (behind : List Node) (high : List ℕ) → PagesLead node behind → node.page.high ≡ Some high → HasNext (before ++ node ∷ behind) node high
 next_of before node [] high leads e = absurd (none_some high (sym leads.high ∙ e))
 next_of before node (next ∷ more) high leads e =
     record { next = next; there = in_second before; handle_is = leads.0.right; begins_is = some_key next.begins high (sym leads.0.high ∙ e) }

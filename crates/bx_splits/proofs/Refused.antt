@@ -10,7 +10,7 @@ use Rattle.bx_views.specs.Truths.{Held, Hints}
 use Rattle.bx_blink.specs.Walks.{Reads, reads_with, most, start}
 use Rattle.bx_blink.proofs.Landings.{landing}
 use Rattle.bx_leaves.specs.Leaves.{RefusesEntry}
-use Rattle.bx_splits.specs.Cutting.{IsOwned}
+use Rattle.bx_splits.specs.Cutting.{IsOwnPage}
 
 some_same : (a b : Block) → Some a ≡ Some b → a ≡ b
 some_same a b e = cc
@@ -19,7 +19,7 @@ same_page : (a b : Block) (p q : Contents) → a ≡ b → HasPage p a → HasPa
 same_page a b p q e hp hq = one_page p q b.payload (subst (λ (x : Block). HasPage p x) e hp).spells hq.spells
 
 pub refused_full : (held : Held) (hints : Hints) (root : ℕ) (key value : List ℕ) (handle : ℕ) → ((at : ℕ) (block : Block) → held at Exclusive ≡ Some block → held at Shared ≡ Some block) → length key + length value ≤ 268
-    → RefusesEntry held (reads_with held hints []) root key value handle → (contents : Contents) → IsOwned (reads_with held hints []) handle contents → 4096 < size contents + 544
+    → RefusesEntry held (reads_with held hints []) root key value handle → (contents : Contents) → IsOwnPage (reads_with held hints []) handle contents → 4096 < size contents + 544
 refused_full held hints root key value handle shares both r contents o = elim r.full [
   | inl n ↦ (
       let same : n.page ≡ contents = same_page n.block o.block n.page contents (some_same n.block o.block (sym n.there ∙ o.there)) n.has o.has in

@@ -14,14 +14,14 @@ use Rattle.bx_blink.specs.declared.error.BlinkError.TheVariants.{Need, Stale, Fu
 use Rattle.bx_blink.specs.Walks.{Reads, reads_with}
 use Rattle.bx_blink.specs.Hints.{Under}
 use Rattle.bx_blink.proofs.Under.{agrees}
-use Rattle.bx_splits.specs.Cutting.{IsOwned, IsOther, CutsOwned, SplitsAt}
+use Rattle.bx_splits.specs.Cutting.{IsOwnPage, IsOther, CutsOwned, SplitsAt}
 use Rattle.bx_splits.specs.Splits.{page, top, SplitsIn}
 use Rattle.bx_splits.proofs.Enough.{enough}
 use Rattle.bx_splits.proofs.HalvesTree.{halves_fail, page_halves, root_halves}
 
 module _ (areas near : ℕ) (held : Held) (hints : Hints) (truth : Truth) (old new : List Changed) (root : ℕ) (tree : PageTree) (handle : ℕ) (u : Under areas held hints truth old root tree)
     (node : Node) (i : IsPageOf tree node) (there : node.handle ≡ handle)
-    (full : (contents : Contents) → IsOwned (reads_with held hints old) handle contents → 4096 < size contents + 544) where
+    (full : (contents : Contents) → IsOwnPage (reads_with held hints old) handle contents → 4096 < size contents + 544) where
   abbrev reads : Reads
   reads = reads_with held hints old
 
@@ -35,7 +35,7 @@ module _ (areas near : ℕ) (held : Held) (hints : Hints) (truth : Truth) (old n
   same_block : (block : Block) → reads.held (block_at handle) Exclusive ≡ Some block → block ≡ n.block
   same_block block e = ((agrees areas held hints truth old root tree u).sees).same handle Exclusive block n.block e (ap chunks (sym there) ∙ n.chunk)
 
-  same_contents : (contents : Contents) → IsOwned (reads_with held hints old) handle contents → contents ≡ node.page
+  same_contents : (contents : Contents) → IsOwnPage (reads_with held hints old) handle contents → contents ≡ node.page
   same_contents contents o = one_page contents node.page (n.block).payload (subst (λ (b : Block). HasPage contents b) (same_block o.block o.there) o.has).spells (n.has).spells
 
   not_other : IsOther (reads_with held hints old) handle → ⊥
@@ -44,7 +44,7 @@ module _ (areas near : ℕ) (held : Held) (hints : Hints) (truth : Truth) (old n
     | inr none ↦ none node.page (subst (λ (b : Block). HasPage node.page b) (sym (same_block o.block o.there)) n.has)
   ]
 
-  more : (contents : Contents) → IsOwned (reads_with held hints old) handle contents → 2 ≤ length node.page.entries
+  more : (contents : Contents) → IsOwnPage (reads_with held hints old) handle contents → 2 ≤ length node.page.entries
   more contents o = subst (λ (c : Contents). 2 ≤ length c.entries) (same_contents contents o) (enough reads handle contents o (full contents o))
 
   owned_in : (result : Result Unit BlinkError) → CutsOwned held hints old new root handle near areas result → SplitsIn areas held hints truth old new root tree handle result
@@ -58,7 +58,7 @@ module _ (areas near : ℕ) (held : Held) (hints : Hints) (truth : Truth) (old n
   owned_in (Err e) c = halves_fail areas near held hints truth old new root tree handle u node i there c.page (same_contents c.page c.owned) e c.cuts
 
 pub splits_in : (areas near : ℕ) (held : Held) (hints : Hints) (truth : Truth) (old new : List Changed) (root : ℕ) (tree : PageTree) (handle : ℕ) → Under areas held hints truth old root tree
-    → (node : Node) → IsPageOf tree node → node.handle ≡ handle → ((contents : Contents) → IsOwned (reads_with held hints old) handle contents → 4096 < size contents + 544)
+    → (node : Node) → IsPageOf tree node → node.handle ≡ handle → ((contents : Contents) → IsOwnPage (reads_with held hints old) handle contents → 4096 < size contents + 544)
     → (result : Result Unit BlinkError) → SplitsAt held hints old new root handle near areas result → SplitsIn areas held hints truth old new root tree handle result
 splits_in areas near held hints truth old new root tree handle u node i there full (Ok done) s = owned_in areas near held hints truth old new root tree handle u node i there full (Ok done) s
 splits_in areas near held hints truth old new root tree handle u node i there full (Err (Full spare)) s = elim s [ inl o ↦ absurd o | inr c ↦ owned_in areas near held hints truth old old root tree handle u node i there full (Err (Full spare)) c ]

@@ -131,7 +131,7 @@ RaisesAt held old new root page near areas (Ok done) = CutsRoot held old new roo
 RaisesAt held old new root page near areas (Err e) = RaiseFails held old root page near areas e
 
 -- a page is held exclusively under a handle
-pub record IsOwned (reads : Reads) (handle : ℕ) (page : Contents) : Type 0 where
+pub record IsOwnPage (reads : Reads) (handle : ℕ) (page : Contents) : Type 0 where
   pub block : Block
   pub there : reads.held (block_at handle) Exclusive ≡ Some block
   pub header : block.handle ≡ handle
@@ -145,7 +145,7 @@ pub record IsOther (reads : Reads) (handle : ℕ) : Type 0 where
 
 -- what reading a page to be changed answers
 abbrev pub OwnsAt : Reads → ℕ → Result Contents BlinkError → Type 0
-OwnsAt reads handle (Ok page) = IsOwned reads handle page
+OwnsAt reads handle (Ok page) = IsOwnPage reads handle page
 OwnsAt reads handle (Err (Need at mode)) = (at ≡ block_at handle) × (mode ≡ Exclusive) × (reads.held (block_at handle) Exclusive ≡ None)
 OwnsAt reads handle (Err Stale) = IsOther reads handle
 OwnsAt reads handle (Err OutOfMemory) = Unit {0}
@@ -158,7 +158,7 @@ OwnsAt reads handle (Err Crowded) = ⊥
 -- a page that was read is cut, as the root or as another
 pub record CutsOwned (held : Held) (hints : Hints) (old new : List Changed) (root handle near areas : ℕ) (result : Result Unit BlinkError) : Type 0 where
   pub page : Contents
-  pub owned : IsOwned (reads_with held hints old) handle page
+  pub owned : IsOwnPage (reads_with held hints old) handle page
   pub cuts : ((handle ≡ root) × RaisesAt held old new root page near areas result) ⊎ ((handle ≢ root) × CutsAt held old new handle page near areas result)
 
 -- What `split` answers: of a page that can't be read why not, and else what comes of cutting it.

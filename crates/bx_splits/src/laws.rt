@@ -16,7 +16,7 @@ ghost use Rattle.bx_blink.specs.Places.{IsPlaceOf};
 ghost use Rattle.bx_blink.specs.Walks.{reads_with};
 ghost use Rattle.bx_leaves.specs.Changes.{MakesMap};
 ghost use Rattle.bx_leaves.specs.Leaves.{PutsPage, RefusesEntry};
-ghost use Rattle.bx_splits.specs.Cutting.{IsOwned};
+ghost use Rattle.bx_splits.specs.Cutting.{IsOwnPage};
 ghost use Rattle.bx_splits.specs.Splits.{GrowsTree, root_page};
 
 /// A page that isn't the root is cut in two: a slot is taken, the page with the other half is put under its handle, and the page with the
@@ -46,7 +46,7 @@ pub fn the_root_is_cut()
 /// A leaf that refuses an entry for want of room, over an empty draft, meets what `split` asks for.
 pub fn a_full_leaf_may_be_split()
     ensures { (held : Held) (hints : Hints) (root : ℕ) (key value : List ℕ) (handle : ℕ) → ((at : ℕ) (block : Block) → held at Exclusive ≡ Some block → held at Shared ≡ Some block) → length key + length value ≤ 268
-        → RefusesEntry held (reads_with held hints []) root key value handle → (contents : Contents) → IsOwned (reads_with held hints []) handle contents → 4096 < size contents + 544 }
+        → RefusesEntry held (reads_with held hints []) root key value handle → (contents : Contents) → IsOwnPage (reads_with held hints []) handle contents → 4096 < size contents + 544 }
 {}
 
 /// A separator is posted: into the page of the next level in whose range the high key of a page is, an entry is put for that key, which

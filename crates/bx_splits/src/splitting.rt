@@ -9,7 +9,7 @@ ghost use Rattle.bx_chunks.specs.Taking.{TakesSlots};
 ghost use Rattle.bx_splits.specs.Splits.{SplitsIn};
 ghost use Rattle.bx_page.specs.Contents.{Contents, size};
 ghost use Rattle.bx_blink.specs.Walks.{reads_with};
-ghost use Rattle.bx_splits.specs.Cutting.{IsOwned, NeedsForSplit, SplitsAt};
+ghost use Rattle.bx_splits.specs.Cutting.{IsOwnPage, NeedsForSplit, SplitsAt};
 
 use crate::halves::put_halves;
 use crate::steps::owned_page;
@@ -34,7 +34,7 @@ pub fn split<V: View>(
     near: u16,
     areas: u16,
 ) -> Result<(), BlinkError>
-    requires { (contents : Contents) → IsOwned (reads_with (V.held view.now) (V.hints view.now) draft.old) page contents → 4096 < size contents + 544 }
+    requires { (contents : Contents) → IsOwnPage (reads_with (V.held view.now) (V.hints view.now) draft.old) page contents → 4096 < size contents + 544 }
     ensures unchanged { OnErr result (draft.new ≡ draft.old) }
     ensures at { SplitsAt (V.held view.now) (V.hints view.now) draft.old draft.new root page near areas result }
     ensures map { (truth : Truth) (tree : PageTree) (node : Node) → Under areas (V.held view.now) (V.hints view.now) truth draft.old root tree → IsPageOf tree node → node.handle ≡ page → SplitsIn areas (V.held view.now) (V.hints view.now) truth draft.old draft.new root tree page result }

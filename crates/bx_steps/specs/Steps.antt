@@ -19,7 +19,7 @@ pub record StandsWith (volume areas : ℕ) (truth : Truth) (hints : Hints) (tree
 
 -- One step of the tree by a deed: its bytes read as a call, which the tree takes at its moment, with so many blocks free and the handle
 -- that it made, and the reply's bytes are the text of what the tree answers. Whose call it is doesn't matter.
-pub record Step (tree : Tree) (deed : Deed) (next : Tree) : Type 0 where
+pub record StepOfTree (tree : Tree) (deed : Deed) (next : Tree) : Type 0 where
   pub xid : ℕ
   pub call : Call
   pub reply : Reply

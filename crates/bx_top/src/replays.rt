@@ -7,9 +7,9 @@ ghost use Rattle.bx_script.specs.declared.line.Line.{Line};
 ghost use Rattle.bx_script.specs.Schedule.{IsSchedule};
 ghost use Rattle.bx_stops.specs.declared.stop.Reason.{Reason};
 ghost use Rattle.bx_stops.specs.declared.stop.Stop.TheVariants as stops;
-ghost use Rattle.bx_replay.specs.Lines.{AreDone, IsByLines};
-ghost use Rattle.bx_replay.specs.Outcome.{IsBroken, IsCut, IsCutOff, IsPlayable, IsRefusal, IsRefused, IsRefusedByRun, IsReplayed, IsShownBy};
-ghost use Rattle.bx_replay.specs.Replay.{IsDiskCause, Wrote};
+ghost use Rattle.bx_replay.specs.Lines.{AreDone, IsReasonByLines};
+ghost use Rattle.bx_replay.specs.Outcome.{IsBroken, IsCut, IsCutOff, IsPlayable, IsReplayRefusal, IsRefused, IsRefusedByRun, IsReplayed, IsShownBy};
+ghost use Rattle.bx_replay.specs.Replay.{IsDiskCause, WroteOn};
 ghost use Rattle.bx_statuses.specs.Report.{IsAmong, IsTold, line_of, message};
 
 use bx_disk::CrashRack;
@@ -33,27 +33,27 @@ pub(crate) fn replay_bench<S: Source, K: Sink, B: CrashRack>(
 
     // The headline. A machine may have stopped by itself where a disk of the bench failed.
     ensures replayed { result ≡ 0 → S.tells input.old → IsPlayable (Rose (B.faults bench.old) (B.faults bench.new)) (S.left input.old) × (S.left input.new ≡ [])
-        × (K.tells out.old × B.tells bench.old → Wrote (K.written out.old) (K.written out.new)
+        × (K.tells out.old × B.tells bench.old → WroteOn (K.written out.old) (K.written out.new)
         (IsReplayed (Rose (B.faults bench.old) (B.faults bench.new)) (S.left input.old) (IsShownBy (B.state bench.new)))) }
     ensures dropped { result ≡ 0 → B.tells bench.old → (d s : ℕ) → (B.state bench.new).unsure d s ≡ false }
     ensures silent { result ≡ 0 → err.new ≡ err.old }
 
     // The first line that is refused, and the trace of the lines before.
     ensures refused { result ≡ 2 → (number : ℕ) × (reason : Reason)
-        × (S.tells input.old → IsRefusal (Rose (B.faults bench.old) (B.faults bench.new)) (S.left input.old) number reason
-        × (K.tells out.old × B.tells bench.old → Wrote (K.written out.old) (K.written out.new)
+        × (S.tells input.old → IsReplayRefusal (Rose (B.faults bench.old) (B.faults bench.new)) (S.left input.old) number reason
+        × (K.tells out.old × B.tells bench.old → WroteOn (K.written out.old) (K.written out.new)
         (IsRefused (Rose (B.faults bench.old) (B.faults bench.new)) (S.left input.old) number reason)))
         × (K.tells err.old → IsTold (K.written err.old) (K.written err.new) (K.faults err.old) (K.faults err.new) (message (stops.Refused number reason))) }
 
-    ensures refuses { S.tells input.old → (number : ℕ) (reason : Reason) → IsByLines reason
-        → IsRefusal (Rose (B.faults bench.old) (B.faults bench.new)) (S.left input.old) number reason
+    ensures refuses { S.tells input.old → (number : ℕ) (reason : Reason) → IsReasonByLines reason
+        → IsReplayRefusal (Rose (B.faults bench.old) (B.faults bench.new)) (S.left input.old) number reason
         → (Rose (S.faults input.old) (S.faults input.new) → ⊥) → (Rose (K.faults out.old) (K.faults out.new) → ⊥)
         → (result ≡ 2) ⊎ ((result ≡ 9) ⊎ ((result ≡ 5) × (out.new ≡ out.old))) }
 
     // A fault of the source, and the trace of the lines before.
     ensures read_fault { result ≡ 3 → Rose (S.faults input.old) (S.faults input.new) }
     ensures cut_off { result ≡ 3 → S.tells input.old → IsCut (Rose (B.faults bench.old) (B.faults bench.new)) (S.left input.old) (S.left input.new)
-        × (K.tells out.old × B.tells bench.old → Wrote (K.written out.old) (K.written out.new)
+        × (K.tells out.old × B.tells bench.old → WroteOn (K.written out.old) (K.written out.new)
         (IsCutOff (Rose (B.faults bench.old) (B.faults bench.new)) (S.left input.old) (S.left input.new))) }
 
     // A fault of the output or of the bench, or no memory: a part of a trace.
@@ -62,7 +62,7 @@ pub(crate) fn replay_bench<S: Source, K: Sink, B: CrashRack>(
     ensures disk_when { result ≡ 5 → S.tells input.old →
         (out.new ≡ out.old) ⊎ (IsPlayable (Rose (B.faults bench.old) (B.faults bench.new)) (S.left input.old) × (S.left input.new ≡ [])) }
     ensures broken { (result ≡ 4) ⊎ ((result ≡ 5) ⊎ (result ≡ 9)) → S.tells input.old → K.tells out.old × B.tells bench.old →
-        Wrote (K.written out.old) (K.written out.new) (IsBroken (Rose (B.faults bench.old) (B.faults bench.new)) (S.left input.old)) }
+        WroteOn (K.written out.old) (K.written out.new) (IsBroken (Rose (B.faults bench.old) (B.faults bench.new)) (S.left input.old)) }
 
     // The line that tells the status.
     ensures told { result ≢ 0 → result ≢ 2 → K.tells err.old →

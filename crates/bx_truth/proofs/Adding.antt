@@ -12,7 +12,7 @@ use Rattle.bx_truth.specs.Chunks.{chunks_of}
 use Rattle.bx_truth.specs.Keys.{name_key, name_value, entry_key, entry_value}
 use Rattle.bx_truth.specs.Stands.{StandsFor}
 use Rattle.bx_truth.specs.Stored.{AreNames, IsOfName}
-use Rattle.bx_truth.specs.PageTrees.{Chunks, PageTree, map_of, without_entry}
+use Rattle.bx_truth.specs.PageTrees.{Chunks, PageTree, map_of, map_without}
 use Rattle.bx_views.specs.Truths.{Truth}
 use Rattle.bx_truth.specs.Edits.{SameSlots, TreeAnew, HasPagesOf}
 use Rattle.bx_truth.proofs.Names.{names_added, names_taken, value_with, value_without}
@@ -58,9 +58,9 @@ pub entry_taken : (areas : ℕ) (truth mid now : Truth) (tree : Tree) (handle : 
     → (is : StandsFor areas truth tree) → file_at tree.files handle ≡ Some file → file.body ≡ Names parent next names
     → AreNames (map_of (is.stored handle).tree) names
     → SameSlots areas truth mid → TreeAnew (chunks_of areas truth) (chunks_of areas mid) (is.stored handle).inode.tree (is.stored handle).tree one
-    → map_of one ≡ without_entry (map_of (is.stored handle).tree) (name_key n.name)
+    → map_of one ≡ map_without (map_of (is.stored handle).tree) (name_key n.name)
     → SameSlots areas mid now → TreeAnew (chunks_of areas mid) (chunks_of areas now) (is.stored handle).inode.tree one two
-    → map_of two ≡ without_entry (map_of one) (entry_key n.number)
+    → map_of two ≡ map_without (map_of one) (entry_key n.number)
     → Contains names n → ((x : Name) → Contains left x → Contains names x × (x.number ≢ n.number)) → ((x : Name) → Contains names x → x.number ≢ n.number → Contains left x)
     → AllPairs (λ a b. a.number < b.number) left
     → StandsFor areas now (record tree { files = with_file tree.files (record file { body = Names parent next left }) })

@@ -12,7 +12,7 @@ use Rattle.bx_page.specs.Contents.{with_entry, Contents, value_of}
 use Rattle.bx_page.proofs.Maps.{put_value, taken_value}
 use Rattle.bx_truth.specs.Keys.{name_key, name_value, entry_key, entry_value}
 use Rattle.bx_truth.specs.Stored.{AreNames, IsOfName}
-use Rattle.bx_truth.specs.PageTrees.{without_entry}
+use Rattle.bx_truth.specs.PageTrees.{map_without}
 
 abbrev page_of : List Entry → Contents
 page_of map = record { level = 0; right = 0; high = None; entries = map }
@@ -20,7 +20,7 @@ page_of map = record { level = 0; right = 0; high = None; entries = map }
 pub value_with : (map : List Entry) (key value other : List ℕ) → value_of (with_entry map key value) other ≡ (if bytes_eq other key then Some value else value_of map other)
 value_with map key value other = put_value (page_of map) key value other
 
-pub value_without : (map : List Entry) (key other : List ℕ) → value_of (without_entry map key) other ≡ (if bytes_eq other key then None else value_of map other)
+pub value_without : (map : List Entry) (key other : List ℕ) → value_of (map_without map key) other ≡ (if bytes_eq other key then None else value_of map other)
 value_without map key other = taken_value (page_of map) key other
 
 yes : (a b : List ℕ) → a ≡ b → bytes_eq a b ≡ true

@@ -10,7 +10,7 @@ use Rattle.bx_page.specs.Contents.{Contents, first}
 use Rattle.bx_page.specs.Spelling.{Spells}
 use Rattle.bx_page.proofs.Whole.{one_page}
 use Rattle.std.proofs.lemmas.List.{length-append}
-use Rattle.bx_truth.specs.PageTrees.{Chunks, Node, IsIn, IsNode, Leads, IsChain, IsLevel, NamesChild, IsInterior, PageTree, IsTree, IsPageOf, entries_of, map_of}
+use Rattle.bx_truth.specs.PageTrees.{Chunks, Node, IsIn, IsNode, PagesLead, IsChain, IsLevel, NamesChild, IsInterior, PageTree, IsTree, IsPageOf, entries_of, map_of}
 
 some_same : {X : Type 0} (x y : X) → Some x ≡ Some y → x ≡ y
 some_same x y e = cc
@@ -37,7 +37,7 @@ module _ (chunks : Chunks) where
   none_some : (o : Option (List ℕ)) (x : List ℕ) → o ≡ None → o ≡ Some x → ⊥
   none_some o x none some = let e : None ≡ Some x = sym none ∙ some in absurd cc
 
-  one_rest : (level : ℕ) (a b : Node) (xs ys : List Node) → a ≡ b → ((n : Node) → IsIn n (a ∷ xs) → IsNode chunks level n) → ((n : Node) → IsIn n (b ∷ ys) → IsNode chunks level n) → Leads a xs → Leads b ys → xs ≡ ys
+  one_rest : (level : ℕ) (a b : Node) (xs ys : List Node) → a ≡ b → ((n : Node) → IsIn n (a ∷ xs) → IsNode chunks level n) → ((n : Node) → IsIn n (b ∷ ys) → IsNode chunks level n) → PagesLead a xs → PagesLead b ys → xs ≡ ys
   one_rest level a b [] [] same all_a all_b leads_a leads_b = refl
   one_rest level a b [] (y ∷ ys) same all_a all_b last next = absurd (none_some a.page.high y.begins last.high (ap (λ (n : Node). n.page.high) same ∙ next.0.high))
   one_rest level a b (x ∷ xs) [] same all_a all_b next last = absurd (none_some a.page.high x.begins (ap (λ (n : Node). n.page.high) same ∙ last.high) next.0.high)
@@ -49,7 +49,7 @@ module _ (chunks : Chunks) where
       λ i. first i ∷ rest i
 
   -- the first page of a level
-  head_of : (xs : List Node) → IsChain xs → (x : Node) × (others : List Node) × (xs ≡ x ∷ others) × (x.begins ≡ []) × Leads x others
+  head_of : (xs : List Node) → IsChain xs → (x : Node) × (others : List Node) × (xs ≡ x ∷ others) × (x.begins ≡ []) × PagesLead x others
   head_of [] chain = absurd chain
   head_of (x ∷ xs) chain = (x, xs, refl, chain.0, chain.1)
 
@@ -57,7 +57,7 @@ module _ (chunks : Chunks) where
       → ((x y : Node) (others more : List Node) → xs ≡ x ∷ others → ys ≡ y ∷ more → x.handle ≡ y.handle) → xs ≡ ys
   one_level level xs ys is_x is_y firsts = by (head_of xs is_x.chain) (head_of ys is_y.chain)
     where
-      by : ((x : Node) × (others : List Node) × (xs ≡ x ∷ others) × (x.begins ≡ []) × Leads x others) → ((y : Node) × (more : List Node) × (ys ≡ y ∷ more) × (y.begins ≡ []) × Leads y more) → xs ≡ ys
+      by : ((x : Node) × (others : List Node) × (xs ≡ x ∷ others) × (x.begins ≡ []) × PagesLead x others) → ((y : Node) × (more : List Node) × (ys ≡ y ∷ more) × (y.begins ≡ []) × PagesLead y more) → xs ≡ ys
       by (x, others, e, empty_x, leads_x) (y, more, f, empty_y, leads_y) =
           let all_x : (n : Node) → IsIn n (x ∷ others) → IsNode chunks level n = subst (λ (l : List Node). (n : Node) → IsIn n l → IsNode chunks level n) e is_x.nodes_are in
           let all_y : (n : Node) → IsIn n (y ∷ more) → IsNode chunks level n = subst (λ (l : List Node). (n : Node) → IsIn n l → IsNode chunks level n) f is_y.nodes_are in
@@ -72,7 +72,7 @@ module _ (chunks : Chunks) where
   not_below_empty (x ∷ key) is = absurd cc
 
   -- a page whose range begins at the empty key is the first
-  first_only : (level : ℕ) (a c : Node) (xs before behind : List Node) → ((n : Node) → IsIn n (a ∷ xs) → IsNode chunks level n) → Leads a xs
+  first_only : (level : ℕ) (a c : Node) (xs before behind : List Node) → ((n : Node) → IsIn n (a ∷ xs) → IsNode chunks level n) → PagesLead a xs
       → a ∷ xs ≡ before ++ c ∷ behind → c.begins ≡ [] → c ≡ a
   first_only level a c xs [] behind all leads parts empty = let same : a ≡ c = cc in sym same
   first_only level a c [] (x ∷ before) behind all leads parts empty = absurd (omega (arith, ap length parts, length-append before (c ∷ behind)))
@@ -94,7 +94,7 @@ module _ (chunks : Chunks) where
       let name : NamesChild children e = (subst (All (NamesChild children)) entries interior.names) 0 e (omega arith) in
       let key : e.key ≡ p.begins = some_same e.key p.begins (sym (ap (λ (l : List Entry). option_map (λ (y : Entry). y.key) (first l)) entries) ∙ interior.first) in
       let all : (n : Node) → IsIn n (x ∷ others) → IsNode chunks level n = subst (λ (l : List Node). (n : Node) → IsIn n l → IsNode chunks level n) parts is.nodes_are in
-      let leads : Leads x others = (subst IsChain parts is.chain).1 in
+      let leads : PagesLead x others = (subst IsChain parts is.chain).1 in
       let same = first_only level x name.child others name.there.before name.there.behind all leads (sym parts ∙ name.there.parts) (sym name.key ∙ key ∙ empty) in
       name.value ∙ ap (λ (n : Node). n.handle) same
 
@@ -120,7 +120,7 @@ module _ (chunks : Chunks) where
         (λ x y others more e f. by x y others more e f (head_of (a.level (level + 1)) (is_a.levels (level + 1) (omega (arith, less_a))).chain))
       where
         by : (x y : Node) (others more : List Node) → a.level level ≡ x ∷ others → b.level level ≡ y ∷ more
-            → ((p : Node) × (rest : List Node) × (a.level (level + 1) ≡ p ∷ rest) × (p.begins ≡ []) × Leads p rest) → x.handle ≡ y.handle
+            → ((p : Node) × (rest : List Node) × (a.level (level + 1) ≡ p ∷ rest) × (p.begins ≡ []) × PagesLead p rest) → x.handle ≡ y.handle
         by x y others more e f (p, rest, parts, empty, leads) =
             let in_a : IsInterior (a.level level) p = is_a.interior level less_a p (subst (IsIn p) (sym parts) (here p rest)) in
             let in_b : IsInterior (b.level level) p = is_b.interior level less_b p (subst (IsIn p) (sym parts ∙ above) (here p rest)) in

@@ -51,14 +51,14 @@ pub record IsLast (page : Contents) : Type 0 where
   pub high : page.high ≡ None
 
 -- from this page on each page leads to the next
-abbrev pub Leads : Node → List Node → Type 0
-Leads node [] = IsLast node.page
-Leads node (next ∷ others) = IsNext node next × Leads next others
+abbrev pub PagesLead : Node → List Node → Type 0
+PagesLead node [] = IsLast node.page
+PagesLead node (next ∷ others) = IsNext node next × PagesLead next others
 
 -- the first page's range begins at the empty key, and each page leads to the next
 abbrev pub IsChain : List Node → Type 0
 IsChain [] = ⊥
-IsChain (node ∷ others) = (node.begins ≡ []) × Leads node others
+IsChain (node ∷ others) = (node.begins ≡ []) × PagesLead node others
 
 -- the pages of a level
 pub record IsLevel (chunks : Chunks) (level : ℕ) (nodes : List Node) : Type 0 where
@@ -110,5 +110,5 @@ abbrev pub map_of : PageTree → List Entry
 map_of tree = entries_of (tree.level 0)
 
 -- the map without a key
-abbrev pub without_entry : List Entry → List ℕ → List Entry
-without_entry map key = below map key ++ above map key
+abbrev pub map_without : List Entry → List ℕ → List Entry
+map_without map key = below map key ++ above map key

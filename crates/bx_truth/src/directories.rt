@@ -8,7 +8,7 @@ ghost use Rattle.bx_model.specs.declared.tree.Tree.{Tree};
 ghost use Rattle.bx_page.specs.Contents.{with_entry, value_of};
 ghost use Rattle.bx_page.specs.declared.entry.Entry.{Entry};
 ghost use Rattle.bx_truth.specs.Edits.{SameSlots, TreeAnew};
-ghost use Rattle.bx_truth.specs.PageTrees.{without_entry, PageTree, map_of};
+ghost use Rattle.bx_truth.specs.PageTrees.{map_without, PageTree, map_of};
 ghost use Rattle.bx_truth.specs.Chunks.{chunks_of};
 ghost use Rattle.bx_truth.specs.Keys.{name_key, name_value, entry_key, entry_value};
 ghost use Rattle.bx_truth.specs.Stands.{StandsFor};
@@ -34,7 +34,7 @@ pub fn an_entry_has_two_keys()
     ensures taken { (map : List Entry) (names left : List Name) (name : Name) → AreNames map names → Contains names name
         → ((other : Name) → Contains left other → Contains names other × (other.number ≢ name.number)) → ((other : Name) → Contains names other → other.number ≢ name.number → Contains left other)
         → AllPairs (λ a b. a.number < b.number) left
-        → AreNames (without_entry (without_entry map (name_key name.name)) (entry_key name.number)) left }
+        → AreNames (map_without (map_without map (name_key name.name)) (entry_key name.number)) left }
 {}
 
 /// An entry is added by two entries of the directory's tree, and taken by two that go.
@@ -52,9 +52,9 @@ pub fn an_entry_is_put()
         → (is : StandsFor areas truth tree) → file_at tree.files handle ≡ Some file → file.body ≡ Names parent next names
         → AreNames (map_of (is.stored handle).tree) names
         → SameSlots areas truth mid → TreeAnew (chunks_of areas truth) (chunks_of areas mid) (is.stored handle).inode.tree (is.stored handle).tree one
-        → map_of one ≡ without_entry (map_of (is.stored handle).tree) (name_key n.name)
+        → map_of one ≡ map_without (map_of (is.stored handle).tree) (name_key n.name)
         → SameSlots areas mid now → TreeAnew (chunks_of areas mid) (chunks_of areas now) (is.stored handle).inode.tree one two
-        → map_of two ≡ without_entry (map_of one) (entry_key n.number)
+        → map_of two ≡ map_without (map_of one) (entry_key n.number)
         → Contains names n → ((x : Name) → Contains left x → Contains names x × (x.number ≢ n.number)) → ((x : Name) → Contains names x → x.number ≢ n.number → Contains left x)
         → AllPairs (λ a b. a.number < b.number) left
         → StandsFor areas now (record tree { files = with_file tree.files (record file { body = Names parent next left }) }) }

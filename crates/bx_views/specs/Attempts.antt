@@ -28,21 +28,21 @@ abbrev pub TellsSpare : ℕ → Done → Type 0
 TellsSpare free done = (done.spare ≡ 8) ⊎ (done.spare ≡ free)
 
 -- The truth that a draft leaves stands for the next tree, and all hints that agreed before agree then.
-pub record Leads {T : Type 0} (Stands : Truth → Hints → T → Type 0) (truth : Truth) (draft : List Changed) (tree next : T) : Type 0 where
+pub record DraftLeads {T : Type 0} (Stands : Truth → Hints → T → Type 0) (truth : Truth) (draft : List Changed) (tree next : T) : Type 0 where
   pub each : (hints : Hints) → Stands truth hints tree → Stands (with_draft truth draft) hints next
 
 -- A call that acted made one step of the tree, and the truth that the draft leaves stands for the next one.
 pub record Acts {T : Type 0} (Stands : Truth → Hints → T → Type 0) (Step : T → Deed → T → Type 0) (free : ℕ) (deed : Deed) (done : Done) (truth : Truth) (draft : List Changed) (tree : T) : Type 0 where
   pub next : T
   pub step : Step tree deed next
-  pub leads : Leads Stands truth draft tree next
+  pub leads : DraftLeads Stands truth draft tree next
   pub spare : TellsSpare free done
 
 -- What an attempt gives over a truth that stands for a tree: a Change and an Answer are one step of that tree, an Inner leaves it.
 abbrev pub Gives : {T : Type 0} → (Truth → Hints → T → Type 0) → (T → Deed → T → Type 0) → ℕ → ℕ → List ℕ → ℕ → Truth → T → Attempt → Type 0
 Gives Stands Step free client call moment truth tree (Need wants) = Unit {0}
 Gives Stands Step free client call moment truth tree (Change draft done) = Acts Stands Step free (deed_of client call moment done) done truth draft tree
-Gives Stands Step free client call moment truth tree (Inner draft) = Leads Stands truth draft tree tree
+Gives Stands Step free client call moment truth tree (Inner draft) = DraftLeads Stands truth draft tree tree
 Gives Stands Step free client call moment truth tree (Answer done) = Acts Stands Step free (deed_of client call moment done) done truth [] tree
 
 -- what the answer says that nothing is left to clean: it has no bytes
@@ -53,7 +53,7 @@ all_clean = record { reply = []; spare = 8; made = 0 }
 abbrev pub Tidies : {T : Type 0} → (Truth → Hints → T → Type 0) → Type 0 → Truth → T → Attempt → Type 0
 Tidies Stands IsClean truth tree (Need wants) = Unit {0}
 Tidies Stands IsClean truth tree (Change draft done) = ⊥
-Tidies Stands IsClean truth tree (Inner draft) = (IsClean → ⊥) × Leads Stands truth draft tree tree
+Tidies Stands IsClean truth tree (Inner draft) = (IsClean → ⊥) × DraftLeads Stands truth draft tree tree
 Tidies Stands IsClean truth tree (Answer done) = IsClean × (done ≡ all_clean)
 
 -- A Need names at least one block; each is one of the volume that isn't held so, and is on the path.

@@ -12,7 +12,7 @@ use Rattle.bx_layout.specs.Labels.{IsOpenGate, gate_word}
 use Rattle.bx_places.specs.Places.{IsBlock, gate_place}
 use Rattle.bx_volume.specs.Records.{Logged, IsInBody, StandOpen, gate_of, newest_in}
 use Rattle.bx_truth.specs.bx_views.specs.Truths.{Truth, with_draft}
-use Rattle.bx_volume.specs.Overlay.{Logs, IsTruth, IsHome, Matters, WritesOnly, with_log}
+use Rattle.bx_volume.specs.Overlay.{Logs, IsOverlaidTruth, IsHome, Matters, WritesOnly, with_log}
 use Rattle.bx_volume.proofs.Matters.{truth_same}
 use Rattle.bx_truth.proofs.Cases.{same_or, eq_true, eq_false}
 use Rattle.bx_volume.proofs.Steps.{gate_opens, gate_stays_closed, log_closed, log_rewritten, gate_in}
@@ -80,15 +80,15 @@ module _ (held now : Image) (devices areas : ℕ) (rows : List SessionRow) (logs
       → ((s at : ℕ) (block : Block) → s < 8 → s ≢ slot → block_in more.changed at ≡ Some block → newest_in (logs s) at ≡ None)
       → ((d s : ℕ) → Matters devices areas logs d s → (d ≢ (gate_place slot (length (logs slot)) devices).0) ⊎ (s ≢ (gate_place slot (length (logs slot)) devices).1) → now d s ≡ held d s)
       → ((d s : ℕ) → Matters devices areas (with_log logs slot (more ∷ logs slot)) d s → (d ≢ (gate_place slot (length (logs slot)) devices).0) ⊎ (s ≢ (gate_place slot (length (logs slot)) devices).1) → now d s ≡ held d s)
-      → IsTruth held devices areas rows logs truth
-      → IsTruth now devices areas rows logs truth ⊎ IsTruth now devices areas rows (with_log logs slot (more ∷ logs slot)) (with_draft truth more.changed)
+      → IsOverlaidTruth held devices areas rows logs truth
+      → IsOverlaidTruth now devices areas rows logs truth ⊎ IsOverlaidTruth now devices areas rows (with_log logs slot (more ∷ logs slot)) (with_draft truth more.changed)
   gate_in_doubt more less taken place body next alone same same_more was = by (open_or (gate_of now devices slot (length (logs slot))))
     where
       only : WritesOnly held (mid (length (logs slot))) (gate_place slot (length (logs slot)) devices).0 (gate_place slot (length (logs slot)) devices).1 1
       only = only_sector held (gate_place slot (length (logs slot)) devices).0 (gate_place slot (length (logs slot)) devices).1 (gate_of now devices slot (length (logs slot)))
 
       by : IsOpenGate (gate_of now devices slot (length (logs slot))) ⊎ (IsOpenGate (gate_of now devices slot (length (logs slot))) → ⊥)
-          → IsTruth now devices areas rows logs truth ⊎ IsTruth now devices areas rows (with_log logs slot (more ∷ logs slot)) (with_draft truth more.changed)
+          → IsOverlaidTruth now devices areas rows logs truth ⊎ IsOverlaidTruth now devices areas rows (with_log logs slot (more ∷ logs slot)) (with_draft truth more.changed)
       by (inl is_open) = inr (truth_same (mid (length (logs slot))) now devices areas rows (with_log logs slot (more ∷ logs slot)) (with_draft truth more.changed)
           (as_now (length (logs slot)) (with_log logs slot (more ∷ logs slot)) same_more)
           (gate_opens held (mid (length (logs slot))) devices areas rows logs truth slot more less taken place only (subst IsOpenGate (sym (mid_gate (length (logs slot)))) is_open) body next alone was))
@@ -117,7 +117,7 @@ module _ (held now : Image) (devices areas : ℕ) (rows : List SessionRow) (logs
 
   -- gate 0 of a run is written, and is open still
   first_stays_open : slot < 8 → is_taken rows slot ≡ true → 0 < length (logs slot) → IsOpenGate (gate_of (mid 0) devices slot 0)
-      → IsTruth held devices areas rows logs truth → IsTruth (mid 0) devices areas rows logs truth
+      → IsOverlaidTruth held devices areas rows logs truth → IsOverlaidTruth (mid 0) devices areas rows logs truth
   first_stays_open less taken some is_open was =
       log_rewritten held (mid 0) devices areas rows logs truth slot (gate_place slot 0 devices).0 (gate_place slot 0 devices).1 1 only (gate_in devices slot 0 (omega arith)) less
       (has_log rows held (mid 0) devices areas slot (logs slot) (λ log. record {
@@ -142,11 +142,11 @@ module _ (held now : Image) (devices areas : ℕ) (rows : List SessionRow) (logs
       → ((at : ℕ) (block : Block) → IsBlock areas at → newest_in (logs slot) at ≡ Some block → IsHome held devices at block)
       → ((d s : ℕ) → Matters devices areas logs d s → (d ≢ (gate_place slot 0 devices).0) ⊎ (s ≢ (gate_place slot 0 devices).1) → now d s ≡ held d s)
       → ((d s : ℕ) → Matters devices areas (with_log logs slot []) d s → (d ≢ (gate_place slot 0 devices).0) ⊎ (s ≢ (gate_place slot 0 devices).1) → now d s ≡ held d s)
-      → IsTruth held devices areas rows logs truth
-      → IsTruth now devices areas rows logs truth ⊎ IsTruth now devices areas rows (with_log logs slot []) truth
+      → IsOverlaidTruth held devices areas rows logs truth
+      → IsOverlaidTruth now devices areas rows logs truth ⊎ IsOverlaidTruth now devices areas rows (with_log logs slot []) truth
   closing_in_doubt less taken some homes same same_none was = by (open_or (gate_of now devices slot 0))
     where
-      by : IsOpenGate (gate_of now devices slot 0) ⊎ (IsOpenGate (gate_of now devices slot 0) → ⊥) → IsTruth now devices areas rows logs truth ⊎ IsTruth now devices areas rows (with_log logs slot []) truth
+      by : IsOpenGate (gate_of now devices slot 0) ⊎ (IsOpenGate (gate_of now devices slot 0) → ⊥) → IsOverlaidTruth now devices areas rows logs truth ⊎ IsOverlaidTruth now devices areas rows (with_log logs slot []) truth
       by (inl is_open) = inl (truth_same (mid 0) now devices areas rows logs truth (as_now 0 logs same) (first_stays_open less taken some (subst IsOpenGate (sym (mid_gate 0)) is_open) was))
       by (inr closed) = inr (truth_same (mid 0) now devices areas rows (with_log logs slot []) truth (as_now 0 (with_log logs slot []) same_none)
           (log_closed held (mid 0) devices areas rows logs truth slot less taken

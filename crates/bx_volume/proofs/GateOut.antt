@@ -11,7 +11,7 @@ use Rattle.bx_places.specs.Places.{IsBlock, gate_place, body_place}
 use Rattle.bx_volume.specs.Images.{devices_of, member_disk}
 use Rattle.bx_volume.specs.Records.{Logged, IsInBody, gate_of, newest_in}
 use Rattle.bx_truth.specs.bx_views.specs.Truths.{Truth, with_draft}
-use Rattle.bx_volume.specs.Overlay.{Logs, IsHome, IsSureAs, IsTruth, IsUnlogged, Matters, MattersMore, Gate, Body, Home, filled_of, with_log}
+use Rattle.bx_volume.specs.Overlay.{Logs, IsHome, IsSureAs, IsOverlaidTruth, IsUnlogged, Matters, MattersMore, Gate, Body, Home, filled_of, with_log}
 use Rattle.bx_volume.proofs.Doubt.{gate_in_doubt, closing_in_doubt}
 use Rattle.bx_volume.proofs.Sizes.{filled_below, filled_there}
 use Rattle.bx_truth.proofs.Cases.{same_or}
@@ -66,13 +66,13 @@ module _ (devices areas : ℕ) (logs : Logs) (slot : ℕ) (more : Logged) where
 -- closed or as open says nothing.
 pub gate_out : (held : Image) (disks : Disks) (image : Image) (second : ℕ → ℕ → Bool) (devices areas : ℕ) (rows : List SessionRow) (logs : Logs) (truth : Truth) (slot : ℕ) (more : Logged)
     → IsImage disks image → slot < 8 → is_taken rows slot ≡ true → length (logs slot) < 8
-    → IsTruth held devices areas rows logs truth
+    → IsOverlaidTruth held devices areas rows logs truth
     → IsInBody held devices areas slot (length (logs slot)) more
     → (length (logs slot) + 1 < 8 → IsOpenGate (gate_of held devices slot (length (logs slot) + 1)) → ⊥)
     → ((s at : ℕ) (block : Block) → s < 8 → s ≢ slot → block_in more.changed at ≡ Some block → newest_in (logs s) at ≡ None)
     → ((d s : ℕ) → MattersMore devices areas logs slot more d s → (d ≢ (gate_place slot (length (logs slot)) devices).0) ⊎ (s ≢ (gate_place slot (length (logs slot)) devices).1)
     → IsSureAs disks (member_disk d (second d s)) s (held d s))
-    → IsTruth (devices_of image second) devices areas rows logs truth ⊎ IsTruth (devices_of image second) devices areas rows (with_log logs slot (more ∷ logs slot)) (with_draft truth more.changed)
+    → IsOverlaidTruth (devices_of image second) devices areas rows logs truth ⊎ IsOverlaidTruth (devices_of image second) devices areas rows (with_log logs slot (more ∷ logs slot)) (with_draft truth more.changed)
 gate_out held disks image second devices areas rows logs truth slot more is less taken place was body next alone sure =
     gate_in_doubt held (devices_of image second) devices areas rows logs truth slot more less taken place body next alone
     (λ d s matters apart. at d s (sure d s (inl matters) apart))
@@ -85,11 +85,11 @@ gate_out held disks image second devices areas rows logs truth slot more is less
 -- the same while gate 0 is closed: whether it reads as open or as closed says nothing
 pub closing_out : (held : Image) (disks : Disks) (image : Image) (second : ℕ → ℕ → Bool) (devices areas : ℕ) (rows : List SessionRow) (logs : Logs) (truth : Truth) (slot : ℕ)
     → IsImage disks image → slot < 8 → is_taken rows slot ≡ true → 0 < length (logs slot)
-    → IsTruth held devices areas rows logs truth
+    → IsOverlaidTruth held devices areas rows logs truth
     → ((at : ℕ) (block : Block) → IsBlock areas at → newest_in (logs slot) at ≡ Some block → IsHome held devices at block)
     → ((d s : ℕ) → Matters devices areas logs d s ⊎ Matters devices areas (with_log logs slot []) d s → (d ≢ (gate_place slot 0 devices).0) ⊎ (s ≢ (gate_place slot 0 devices).1)
     → IsSureAs disks (member_disk d (second d s)) s (held d s))
-    → IsTruth (devices_of image second) devices areas rows logs truth ⊎ IsTruth (devices_of image second) devices areas rows (with_log logs slot []) truth
+    → IsOverlaidTruth (devices_of image second) devices areas rows logs truth ⊎ IsOverlaidTruth (devices_of image second) devices areas rows (with_log logs slot []) truth
 closing_out held disks image second devices areas rows logs truth slot is less taken some was homes sure =
     closing_in_doubt held (devices_of image second) devices areas rows logs truth slot less taken some homes
     (λ d s matters apart. at d s (sure d s (inl matters) apart))

@@ -8,7 +8,7 @@ use Rattle.bx_places.specs.Places.{IsVolume, AreApart, block_place}
 use Rattle.bx_truth.specs.bx_views.specs.Truths.{Truth}
 use Rattle.bx_truth.proofs.Cases.{same_or}
 use Rattle.bx_volume.specs.Images.{devices_of, member_disk}
-use Rattle.bx_volume.specs.Overlay.{Logs, IsTruth, IsUnlogged, IsOfLogged, Matters, Gate, Body, Home}
+use Rattle.bx_volume.specs.Overlay.{Logs, IsOverlaidTruth, IsUnlogged, IsOfLogged, Matters, Gate, Body, Home}
 use Rattle.bx_volume.specs.Records.{LogWhere, newest_in}
 use Rattle.bx_volume.proofs.Apart.{home_and_log, two_homes}
 use Rattle.bx_volume.proofs.Matters.{truth_same}
@@ -34,7 +34,7 @@ module _ (devices areas : ℕ) (logs : Logs) (volume : IsVolume devices areas) w
       by (inr other) = apart (block_place at devices).1 (block_place l.at devices).1 sector l.sector s 0
           (two_homes at l.at devices areas volume is l.is other l.device) within l.within refl l.place
 
-  most_of : (held : Image) (rows : List SessionRow) (truth : Truth) → IsTruth held devices areas rows logs truth → (slot : ℕ) → slot < 8 → length (logs slot) ≤ 8
+  most_of : (held : Image) (rows : List SessionRow) (truth : Truth) → IsOverlaidTruth held devices areas rows logs truth → (slot : ℕ) → slot < 8 → length (logs slot) ≤ 8
   most_of held rows truth was slot less = by (is_taken rows slot) (was.has_logs slot less)
     where
       by : (taken : Bool) → LogWhere taken held devices areas slot (logs slot) → length (logs slot) ≤ 8
@@ -43,13 +43,13 @@ module _ (devices areas : ℕ) (logs : Logs) (volume : IsVolume devices areas) w
 
   -- several homes, in part or whole
   pub homes_written : (held now : Image) (rows : List SessionRow) (truth : Truth) → ((d s : ℕ) → (now d s ≡ held d s) ⊎ IsOfLogged devices areas logs d s)
-      → IsTruth held devices areas rows logs truth → IsTruth now devices areas rows logs truth
+      → IsOverlaidTruth held devices areas rows logs truth → IsOverlaidTruth now devices areas rows logs truth
   homes_written held now rows truth each was = truth_same held now devices areas rows logs truth
       (λ d s matters. ⊎_elim (λ same. same) (λ logged. absurd (matters_not (most_of held rows truth was) d s matters logged)) (each d s)) was
 
   -- and what a crash leaves of them
   pub homes_out : (disks : Disks) (image : Image) (second : ℕ → ℕ → Bool) (rows : List SessionRow) (truth : Truth) → IsImage disks image
       → ((d s : ℕ) → (disks.unsure (member_disk d (second d s)) s ≡ false) ⊎ IsOfLogged devices areas logs d s)
-      → IsTruth (devices_of disks.reads second) devices areas rows logs truth → IsTruth (devices_of image second) devices areas rows logs truth
+      → IsOverlaidTruth (devices_of disks.reads second) devices areas rows logs truth → IsOverlaidTruth (devices_of image second) devices areas rows logs truth
   homes_out disks image second rows truth is each = homes_written (devices_of disks.reads second) (devices_of image second) rows truth
       (λ d s. ⊎_elim (λ sure. inl (is.sure (member_disk d (second d s)) s sure)) (λ logged. inr logged) (each d s))

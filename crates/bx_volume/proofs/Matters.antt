@@ -9,7 +9,7 @@ use Rattle.bx_volume.specs.Images.{devices_of, member_disk}
 use Rattle.bx_volume.specs.Records.{Logged, StandOpen, IsLog, LogWhere, gate_of}
 use Rattle.bx_rows.specs.Words.{is_taken}
 use Rattle.bx_truth.specs.bx_views.specs.Truths.{Truth}
-use Rattle.bx_volume.specs.Overlay.{Logs, IsTruth, IsHome, IsUnlogged, Matters, Gate, Body, Home, filled_of}
+use Rattle.bx_volume.specs.Overlay.{Logs, IsOverlaidTruth, IsHome, IsUnlogged, Matters, Gate, Body, Home, filled_of}
 use Rattle.bx_volume.proofs.Kept.{has_log}
 use Rattle.bx_volume.proofs.Sizes.{block_bytes, filled_below, filled_there, logged_sectors}
 
@@ -47,7 +47,7 @@ module _ (held now : Image) (devices areas : ℕ) (rows : List SessionRow) (logs
     end = λ few is_open. log.end few (subst IsOpenGate (same (gate_place slot (length (logs slot)) devices).0 (gate_place slot (length (logs slot)) devices).1 (Gate slot (length (logs slot)) less few (omega arith))) is_open);
   }
 
-  pub truth_same : IsTruth held devices areas rows logs truth → IsTruth now devices areas rows logs truth
+  pub truth_same : IsOverlaidTruth held devices areas rows logs truth → IsOverlaidTruth now devices areas rows logs truth
   truth_same was = record {
     has_logs = λ slot less. has_log rows held now devices areas slot (logs slot) (log_same slot less) (was.has_logs slot less);
     logged = was.logged;
@@ -57,13 +57,13 @@ module _ (held now : Image) (devices areas : ℕ) (rows : List SessionRow) (logs
 -- what a crash leaves is the same truth, where all that matters is sure
 pub image_truth : (disks : Disks) (image : Image) (second : ℕ → ℕ → Bool) (devices areas : ℕ) (rows : List SessionRow) (logs : Logs) (truth : Truth)
     → IsImage disks image → ((d s : ℕ) → Matters devices areas logs d s → disks.unsure (member_disk d (second d s)) s ≡ false)
-    → IsTruth (devices_of disks.reads second) devices areas rows logs truth → IsTruth (devices_of image second) devices areas rows logs truth
+    → IsOverlaidTruth (devices_of disks.reads second) devices areas rows logs truth → IsOverlaidTruth (devices_of image second) devices areas rows logs truth
 image_truth disks image second devices areas rows logs truth is sure =
     truth_same (devices_of disks.reads second) (devices_of image second) devices areas rows logs truth (λ d s matters. is.sure (member_disk d (second d s)) s (sure d s matters))
 
 -- where the first gates are closed, the truth is what stands in the homes
 pub homes_truth : (held : Image) (devices areas : ℕ) (rows : List SessionRow) (truth : Truth) → ((at : ℕ) → IsBlock areas at → IsHome held devices at (truth at))
-    → ((slot : ℕ) → slot < 8 → IsOpenGate (gate_of held devices slot 0) → ⊥) → IsTruth held devices areas rows (λ slot. []) truth
+    → ((slot : ℕ) → slot < 8 → IsOpenGate (gate_of held devices slot 0) → ⊥) → IsOverlaidTruth held devices areas rows (λ slot. []) truth
 homes_truth held devices areas rows truth homes closed = record {
   has_logs = λ slot less. by slot less (is_taken rows slot);
   logged = λ slot at block less some. absurd cc;

@@ -16,7 +16,7 @@ use Rattle.bx_volume.specs.Images.{by_device, devices_of, member_disk}
 use Rattle.bx_volume.specs.Records.{newest_in}
 use Rattle.bx_truth.specs.Truth.{AreSame}
 use Rattle.bx_truth.specs.bx_views.specs.Truths.{Truth}
-use Rattle.bx_volume.specs.Overlay.{Logs, IsTruth, IsHome}
+use Rattle.bx_volume.specs.Overlay.{Logs, IsOverlaidTruth, IsHome}
 use Rattle.bx_truth.proofs.Cases.{found}
 use Rattle.bx_volume.proofs.Sizes.{block_bytes}
 
@@ -91,7 +91,7 @@ logged_or logs at (suc n) = by (found (newest_in (logs n) at)) (logged_or logs a
         last : (slot : ℕ) → slot < suc n → (slot ≡ n) ⊎ (slot < n)
         last slot less = grind (arith, less)
 
-pub one_truth : (held : Image) (devices areas : ℕ) (rows : List SessionRow) (logs : Logs) (a b : Truth) → IsTruth held devices areas rows logs a → IsTruth held devices areas rows logs b → AreSame areas a b
+pub one_truth : (held : Image) (devices areas : ℕ) (rows : List SessionRow) (logs : Logs) (a b : Truth) → IsOverlaidTruth held devices areas rows logs a → IsOverlaidTruth held devices areas rows logs b → AreSame areas a b
 one_truth held devices areas rows logs a b is_a is_b at is_block = by (logged_or logs at 8)
   where
     by : ((slot : ℕ) → slot < 8 → newest_in (logs slot) at ≡ None) ⊎ ((slot : ℕ) × (block : Block) × (slot < 8) × (newest_in (logs slot) at ≡ Some block)) → a at ≡ b at

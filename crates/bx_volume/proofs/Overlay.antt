@@ -9,7 +9,7 @@ use Rattle.bx_places.specs.Places.{IsBlock}
 use Rattle.bx_truth.proofs.Cases.{same_or, eq_true, eq_false, found}
 use Rattle.bx_volume.specs.Records.{Logged, HasLog, newest_in, or_older}
 use Rattle.bx_truth.specs.bx_views.specs.Truths.{Truth, with_draft}
-use Rattle.bx_volume.specs.Overlay.{Logs, IsTruth, IsHome, IsUnlogged, with_log}
+use Rattle.bx_volume.specs.Overlay.{Logs, IsOverlaidTruth, IsHome, IsUnlogged, with_log}
 
 pub log_here : (logs : Logs) (slot : ℕ) (records : List Logged) → with_log logs slot records slot ≡ records
 log_here logs slot records = rw (eq_true slot slot refl) refl
@@ -48,11 +48,11 @@ module _ (held now : Image) (devices areas : ℕ) (rows : List SessionRow) (logs
   elsewhere : (s at : ℕ) (o : Option Block) → s ≢ slot → newest_in (with_log logs slot (more ∷ logs slot) s) at ≡ o → newest_in (logs s) at ≡ o
   elsewhere s at o other is = sym (ap (λ (l : List Logged). newest_in l at) (log_there logs slot s (more ∷ logs slot) other)) ∙ is
 
-  pub truth_overlaid : IsTruth held devices areas rows logs truth → slot < 8
+  pub truth_overlaid : IsOverlaidTruth held devices areas rows logs truth → slot < 8
       → ((s : ℕ) → s < 8 → HasLog rows now devices areas s (with_log logs slot (more ∷ logs slot) s))
       → ((s at : ℕ) (block : Block) → s < 8 → s ≢ slot → block_in more.changed at ≡ Some block → newest_in (logs s) at ≡ None)
       → ((at : ℕ) → IsBlock areas at → IsUnlogged logs at → block_in more.changed at ≡ None → IsHome held devices at (truth at) → IsHome now devices at (truth at))
-      → IsTruth now devices areas rows (with_log logs slot (more ∷ logs slot)) (with_draft truth more.changed)
+      → IsOverlaidTruth now devices areas rows (with_log logs slot (more ∷ logs slot)) (with_draft truth more.changed)
   truth_overlaid was less has_logs alone homes = record {
     has_logs = has_logs;
     logged = λ s at block in_slots is. logged_in s at block in_slots is (found (block_in more.changed at)) (same_or s slot);

@@ -10,7 +10,7 @@ use Rattle.bx_layout.specs.Labels.{IsOpenGate}
 use Rattle.bx_places.specs.Places.{IsVolume, IsBlock, block_place, log_start, log_device, gate_place, body_place}
 use Rattle.bx_volume.specs.Records.{Logged, IsInBody, IsLog, HasLog, LogWhere, gate_of, newest_in}
 use Rattle.bx_truth.specs.bx_views.specs.Truths.{Truth, with_draft}
-use Rattle.bx_volume.specs.Overlay.{Logs, IsTruth, IsHome, IsUnlogged, WritesOnly, with_log}
+use Rattle.bx_volume.specs.Overlay.{Logs, IsOverlaidTruth, IsHome, IsUnlogged, WritesOnly, with_log}
 use Rattle.bx_volume.proofs.Apart.{home_and_log, two_homes}
 use Rattle.bx_volume.proofs.Kept.{home_kept, log_kept, stand_kept, body_kept, gate_kept, log_apart, has_log}
 use Rattle.bx_truth.proofs.Cases.{same_or, found}
@@ -47,7 +47,7 @@ module _ (held now : Image) (devices areas : ℕ) (rows : List SessionRow) (logs
     -- a write in a log slot that leaves its records
     pub log_rewritten : WritesOnly held now device sector count → IsInLog devices slot device sector count → slot < 8
         → (HasLog rows held devices areas slot (logs slot) → HasLog rows now devices areas slot (logs slot))
-        → IsTruth held devices areas rows logs truth → IsTruth now devices areas rows logs truth
+        → IsOverlaidTruth held devices areas rows logs truth → IsOverlaidTruth now devices areas rows logs truth
     log_rewritten only within less keeps was = record {
       has_logs = λ s in_slots. ⊎_elim
           (λ same. subst (λ (n : ℕ). HasLog rows now devices areas n (logs n)) (sym same) (keeps (was.has_logs slot less)))
@@ -57,9 +57,9 @@ module _ (held now : Image) (devices areas : ℕ) (rows : List SessionRow) (logs
     }
 
   -- a home whose block a log has
-  pub logged_home : (slot at : ℕ) (block : Block) → IsVolume devices areas → IsTruth held devices areas rows logs truth → slot < 8
+  pub logged_home : (slot at : ℕ) (block : Block) → IsVolume devices areas → IsOverlaidTruth held devices areas rows logs truth → slot < 8
       → newest_in (logs slot) at ≡ Some block → IsBlock areas at → WritesOnly held now (block_place at devices).0 (block_place at devices).1 9
-      → IsTruth now devices areas rows logs truth
+      → IsOverlaidTruth now devices areas rows logs truth
   logged_home slot at block volume was less in_log is only = record {
     has_logs = λ s in_slots. has_log rows held now devices areas s (logs s)
         (log_apart held now (block_place at devices).0 (block_place at devices).1 9 devices areas s (logs s) only (λ same. inr (home_and_log at devices s in_slots))) (was.has_logs s in_slots);
@@ -74,7 +74,7 @@ module _ (held now : Image) (devices areas : ℕ) (rows : List SessionRow) (logs
   -- a body without a record
   pub body_written : (slot body : ℕ) → slot < 8 → body < 8 → length (logs slot) ≤ body
       → WritesOnly held now (body_place slot body devices).0 (body_place slot body devices).1 145
-      → IsTruth held devices areas rows logs truth → IsTruth now devices areas rows logs truth
+      → IsOverlaidTruth held devices areas rows logs truth → IsOverlaidTruth now devices areas rows logs truth
   body_written slot body less place behind only =
       log_rewritten slot (body_place slot body devices).0 (body_place slot body devices).1 145 only (body_in devices slot body place) less
       (has_log rows held now devices areas slot (logs slot) (log_kept held now (body_place slot body devices).0 (body_place slot body devices).1 145 devices areas slot (logs slot) only
@@ -83,7 +83,7 @@ module _ (held now : Image) (devices areas : ℕ) (rows : List SessionRow) (logs
   -- a gate behind that of the end of the run
   pub gate_written : (slot gate : ℕ) → slot < 8 → gate < 8 → length (logs slot) < gate
       → WritesOnly held now (gate_place slot gate devices).0 (gate_place slot gate devices).1 1
-      → IsTruth held devices areas rows logs truth → IsTruth now devices areas rows logs truth
+      → IsOverlaidTruth held devices areas rows logs truth → IsOverlaidTruth now devices areas rows logs truth
   gate_written slot gate less place behind only =
       log_rewritten slot (gate_place slot gate devices).0 (gate_place slot gate devices).1 1 only (gate_in devices slot gate place) less
       (has_log rows held now devices areas slot (logs slot) (log_kept held now (gate_place slot gate devices).0 (gate_place slot gate devices).1 1 devices areas slot (logs slot) only
@@ -100,7 +100,7 @@ module _ (held now : Image) (devices areas : ℕ) (rows : List SessionRow) (logs
   pub gate_stays_closed : (slot : ℕ) → slot < 8 → is_taken rows slot ≡ true → length (logs slot) < 8
       → WritesOnly held now (gate_place slot (length (logs slot)) devices).0 (gate_place slot (length (logs slot)) devices).1 1
       → (IsOpenGate (gate_of now devices slot (length (logs slot))) → ⊥)
-      → IsTruth held devices areas rows logs truth → IsTruth now devices areas rows logs truth
+      → IsOverlaidTruth held devices areas rows logs truth → IsOverlaidTruth now devices areas rows logs truth
   gate_stays_closed slot less taken place only closed =
       log_rewritten slot (gate_place slot (length (logs slot)) devices).0 (gate_place slot (length (logs slot)) devices).1 1 only (gate_in devices slot (length (logs slot)) place) less
       (λ has. let log = log_of slot (logs slot) taken has in
@@ -118,8 +118,8 @@ module _ (held now : Image) (devices areas : ℕ) (rows : List SessionRow) (logs
       → IsInBody held devices areas slot (length (logs slot)) more
       → (length (logs slot) + 1 < 8 → IsOpenGate (gate_of held devices slot (length (logs slot) + 1)) → ⊥)
       → ((s at : ℕ) (block : Block) → s < 8 → s ≢ slot → block_in more.changed at ≡ Some block → newest_in (logs s) at ≡ None)
-      → IsTruth held devices areas rows logs truth
-      → IsTruth now devices areas rows (with_log logs slot (more ∷ logs slot)) (with_draft truth more.changed)
+      → IsOverlaidTruth held devices areas rows logs truth
+      → IsOverlaidTruth now devices areas rows (with_log logs slot (more ∷ logs slot)) (with_draft truth more.changed)
   gate_opens slot more less taken place only now_open body next alone was =
       truth_overlaid held now devices areas rows logs truth slot more was less
       (λ s in_slots. ⊎_elim
@@ -159,8 +159,8 @@ module _ (held now : Image) (devices areas : ℕ) (rows : List SessionRow) (logs
       → WritesOnly held now (gate_place slot 0 devices).0 (gate_place slot 0 devices).1 1
       → (IsOpenGate (gate_of now devices slot 0) → ⊥)
       → ((at : ℕ) (block : Block) → IsBlock areas at → newest_in (logs slot) at ≡ Some block → IsHome held devices at block)
-      → IsTruth held devices areas rows logs truth
-      → IsTruth now devices areas rows (with_log logs slot []) truth
+      → IsOverlaidTruth held devices areas rows logs truth
+      → IsOverlaidTruth now devices areas rows (with_log logs slot []) truth
   log_closed slot less taken only closed homes was = record {
     has_logs = λ s in_slots. ⊎_elim
         (λ same. subst (λ (n : ℕ). HasLog rows now devices areas n (with_log logs slot [] n)) (sym same)

@@ -11,7 +11,7 @@ use Rattle.bx_tree_laws.specs.bx_model.specs.declared.tree.Tree.{Tree}
 use Rattle.bx_tree_laws.specs.bx_model.specs.FileTrees.{IsFileTree}
 use Rattle.bx_truth.specs.Stands.{StandsFor}
 use Rattle.bx_truth.specs.bx_views.specs.Truths.{Truth}
-use Rattle.bx_volume.specs.Overlay.{Logs, IsTruth}
+use Rattle.bx_volume.specs.Overlay.{Logs, IsOverlaidTruth}
 
 -- the disk of a device's member A (false) or B (true)
 abbrev pub member_disk : ℕ → Bool → ℕ
@@ -60,7 +60,7 @@ pub record ShowsTruth (sizes : List ℕ) (image : Image) (state : GlobalState) (
   pub devices : length state.devices ≡ first.devices
   pub labelled : (device : ℕ) (row : DeviceRow) (member : Bool) → slice_get state.devices device ≡ Some row → IsSource row.mode member
       → IsLabelled sizes image first (member_disk device member)
-  pub is_truth : IsTruth (devices_of image second) first.devices first.areas state.sessions logs truth
+  pub is_truth : IsOverlaidTruth (devices_of image second) first.devices first.areas state.sessions logs truth
 
 -- It has a truth that stands for the tree, which is a file tree.
 pub record ShowsTree (sizes : List ℕ) (image : Image) (state : GlobalState) (second : ℕ → ℕ → Bool) (tree : Tree) : Type 0 where

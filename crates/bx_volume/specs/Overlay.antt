@@ -24,7 +24,7 @@ IsUnlogged logs at = (slot : ℕ) → slot < 8 → newest_in (logs slot) at ≡ 
 
 -- What the devices hold, by device and sector, is this truth, by these logs: a block that a log has is the newest of its
 -- number there, and any other is the one in its home.
-pub record IsTruth (held : Image) (devices areas : ℕ) (rows : List SessionRow) (logs : Logs) (truth : Truth) : Type 0 where
+pub record IsOverlaidTruth (held : Image) (devices areas : ℕ) (rows : List SessionRow) (logs : Logs) (truth : Truth) : Type 0 where
   pub has_logs : (slot : ℕ) → slot < 8 → HasLog rows held devices areas slot (logs slot)
   pub logged : (slot at : ℕ) (block : Block) → slot < 8 → newest_in (logs slot) at ≡ Some block → truth at ≡ block
   pub home : (at : ℕ) → IsBlock areas at → IsUnlogged logs at → IsHome held devices at (truth at)

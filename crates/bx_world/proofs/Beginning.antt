@@ -27,7 +27,7 @@ use Rattle.bx_rows.specs.declared.session.SessionRow.{SessionRow}
 use Rattle.bx_world.specs.Doubts.{AreOfTaken}
 use Rattle.bx_world.specs.Led.{AreDesks, AreLeft}
 use Rattle.bx_world_standing.specs.bx_world_logs.specs.Logs.{Slot}
-use Rattle.bx_world_standing.specs.bx_world_views.specs.Views.{Doubt}
+use Rattle.bx_world_standing.specs.bx_world_views.specs.Views.{Unacknowledged}
 use Rattle.bx_world.specs.Outcomes.{empty_desks}
 
 pub accounts_none : {Tree : Type 0} (Step : Tree → Entry → Tree → Type 0) (AtOnce : List ℕ → Type 0) (first : Tree) → AwaitsNewest Step (rules AtOnce) first [] [] first (waiting [])
@@ -84,7 +84,7 @@ left_none machines none = record {
 
 -- ---- what is in doubt
 
-pub doubted_none : (rows : List SessionRow) (slots : ℕ → Slot) (doubts : ℕ → Option Doubt) → ((session : ℕ) → doubts session ≡ None) → AreOfTaken [] rows slots doubts
+pub doubted_none : (rows : List SessionRow) (slots : ℕ → Slot) (doubts : ℕ → Option Unacknowledged) → ((session : ℕ) → doubts session ≡ None) → AreOfTaken [] rows slots doubts
 doubted_none rows slots doubts none = record {
   each = λ session doubt deed is. absurd (let wrong : None ≡ Some doubt = sym (none session) ∙ is.is in cc);
   once = λ session other doubt twin deed act is also same. absurd (let wrong : None ≡ Some doubt = sym (none session) ∙ is.is in cc);

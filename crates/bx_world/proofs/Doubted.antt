@@ -32,7 +32,7 @@ use Rattle.bx_facts.specs.declared.store.Store as store
 use Rattle.bx_world.proofs.Beginning.{acts_waits}
 use Rattle.bx_world_machines.specs.Doubts.{AreInDoubt, DoubtsGo, IsOfActing, IsOpenIn}
 use Rattle.bx_world_standing.specs.Standing.{Course}
-use Rattle.bx_world_standing.specs.bx_world_views.specs.Views.{Doubt}
+use Rattle.bx_world_standing.specs.bx_world_views.specs.Views.{Unacknowledged}
 
 -- ---- lines in front of others
 
@@ -99,7 +99,7 @@ each_in P x [] is all = absurd is
 each_in P x (y ∷ ys) is all = ⊎_elim (λ same. subst P same all.0) (λ there. each_in P x ys there all.1) is
 
 -- A record that a node writes is of a call that waits there.
-taken_acting : (parts : List Part) (machines : List Machine) → AreLeft machines parts → ((node : ℕ) → AllByRecursion (IsPending (trace_of parts) node) (waiting parts node)) → (doubt : Doubt) (deed : Deed) → IsOfActing machines doubt deed → IsOfTaken parts doubt deed
+taken_acting : (parts : List Part) (machines : List Machine) → AreLeft machines parts → ((node : ℕ) → AllByRecursion (IsPending (trace_of parts) node) (waiting parts node)) → (doubt : Unacknowledged) (deed : Deed) → IsOfActing machines doubt deed → IsOfTaken parts doubt deed
 taken_acting parts machines left pending doubt deed acts =
     let waits : Waits machines acts.node acts.acts.call = acts_waits (slice_get machines acts.node) acts.acts acts.is in
     let its = each_in (IsPending (trace_of parts) acts.node) (taking_as acts.node acts.acts.call) (waiting parts acts.node) ((left.waits acts.node acts.acts.call).0 waits) (pending acts.node) in
@@ -115,7 +115,7 @@ taken_acting parts machines left pending doubt deed acts =
 -- ---- by the same parts
 
 module _ (parts : List Part) (machines : List Machine) (c later : Course) (goes : DoubtsGo [] machines c later) where
-  pub doubted_same : AreLeft machines parts → ((node : ℕ) → AllByRecursion (IsPending (trace_of parts) node) (waiting parts node)) → ((session other : ℕ) (doubt twin : Doubt) (deed act : Deed) → IsOpenIn later session doubt deed → IsOpenIn later other twin act → twin.call ≡ doubt.call → other ≡ session)
+  pub doubted_same : AreLeft machines parts → ((node : ℕ) → AllByRecursion (IsPending (trace_of parts) node) (waiting parts node)) → ((session other : ℕ) (doubt twin : Unacknowledged) (deed act : Deed) → IsOpenIn later session doubt deed → IsOpenIn later other twin act → twin.call ≡ doubt.call → other ≡ session)
       → AreOfTaken parts (last c.register.chain).sessions c.slots c.doubts → AreOfTaken parts (last later.register.chain).sessions later.slots later.doubts
   doubted_same left pending once were = record {
     each = λ session doubt deed is. ⊎_elim (λ before. were.each session doubt deed before.0) (λ acts. taken_acting parts machines left pending doubt deed acts) (goes.doubted session doubt deed is);
@@ -143,7 +143,7 @@ module _ (latest : ℕ) (parts : List Part) (part : Part) (said : List Said) (ol
   abbrev now : List Part
   now = part ∷ parts
 
-  pub doubted_then : AreInDoubt latest old c → AreLeft new now → ((node : ℕ) → AllByRecursion (IsPending (trace_of now) node) (waiting now node)) → ((session other : ℕ) (doubt twin : Doubt) (deed act : Deed) → IsOpenIn later session doubt deed → IsOpenIn later other twin act → twin.call ≡ doubt.call → other ≡ session)
+  pub doubted_then : AreInDoubt latest old c → AreLeft new now → ((node : ℕ) → AllByRecursion (IsPending (trace_of now) node) (waiting now node)) → ((session other : ℕ) (doubt twin : Unacknowledged) (deed act : Deed) → IsOpenIn later session doubt deed → IsOpenIn later other twin act → twin.call ≡ doubt.call → other ≡ session)
       → AreOfTaken parts (last c.register.chain).sessions c.slots c.doubts → AreOfTaken now (last later.register.chain).sessions later.slots later.doubts
   doubted_then in_doubt left pending once were = record {
     each = λ session doubt deed is. ⊎_elim
@@ -153,7 +153,7 @@ module _ (latest : ℕ) (parts : List Part) (part : Part) (said : List Said) (ol
     once = once;
   }
     where
-      still : (doubt : Doubt) (deed : Deed) → IsOfTaken parts doubt deed → doubt.call ≤ latest → (IsAnswered said doubt.call → ⊥) → IsOfTaken now doubt deed
+      still : (doubt : Unacknowledged) (deed : Deed) → IsOfTaken parts doubt deed → doubt.call ≤ latest → (IsAnswered said doubt.call → ⊥) → IsOfTaken now doubt deed
       still doubt deed was low unanswered =
           let none = subst (λ (n : ℕ). is_some (taking_of part.lines n) ≡ false) was.call (is_part.lacks doubt.call low) in
           record {

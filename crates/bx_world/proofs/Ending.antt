@@ -4,7 +4,7 @@ use Rattle.std.specs.Prelude.{IsErr, IsErrOf, not, slice_get, slice_set}
 use Rattle.std.proofs.lemmas.List.{append-nil}
 use Rattle.bx_base.specs.declared.names.Actor.{Actor}
 use Rattle.bx_base.specs.declared.names.Actor.TheVariants.{Member, Node, Replica, Server}
-use Rattle.bx_cluster.specs.Steps.{Shown, down_with, greatest_with, post_with}
+use Rattle.bx_cluster.specs.Steps.{Shown, down_with, greatest_reading, post_with}
 use Rattle.bx_cluster.specs.declared.outcome.Outcome.{Outcome}
 use Rattle.bx_desk.specs.Desks.{AtDesk}
 use Rattle.bx_disk.specs.Disks.{Disks}
@@ -96,7 +96,7 @@ none_stopped (Member n) said = refl
 module _ {G O S E T : Type 0} (g : register.Ghosts G) (o : owners.Ghosts O) (st : store.Ghosts S) (e : engine.Ghosts E T) (old new : World G O S E T) (heard : Machines G O S E T) (same : new.machines ≡ heard) (at : Actor) (middle : List Posted) where
   -- .. where it answered
   module _ (said : List Said) (out : List Letter) (outcome : Outcome) (ends : EndsSaid at said out middle new.post old.desks.items new.desks.items outcome) where
-    pub shows_said : (event : Event) → middle ≡ post_with event old.post → down_with event (seen st old).down ≡ (seen st old).down → heard.up.items ≡ old.machines.up.items → heard.clock ≡ greatest_with (reading_of event) old.machines.clock
+    pub shows_said : (event : Event) → middle ≡ post_with event old.post → down_with event (seen st old).down ≡ (seen st old).down → heard.up.items ≡ old.machines.up.items → heard.clock ≡ greatest_reading (reading_of event) old.machines.clock
         → heard.count ≡ old.machines.count → heard.devices ≡ old.machines.devices → Shown event outcome.stopped (seen st old) (seen st new)
     shows_said event post downs up clock count devices = subst (λ stopped. Shown event stopped (seen st old) (seen st new)) (sym (ap (λ (x : Outcome). x.stopped) ends.outcome_is ∙ none_stopped at said)) (record {
       nodes = ap (λ (m : Machines G O S E T). m.count) same ∙ count;
@@ -139,7 +139,7 @@ module _ {G O S E T : Type 0} (g : register.Ghosts G) (o : owners.Ghosts O) (st 
 
   -- .. where it stopped
   module _ (outcome : Outcome) (ends : EndsStopped at middle new.post old.desks.items new.desks.items outcome) where
-    pub shows_stopped : (event : Event) → middle ≡ post_with event old.post → down_with event (seen st old).down ≡ (seen st old).down → heard.up.items ≡ up_without at old.machines.up.items → heard.clock ≡ greatest_with (reading_of event) old.machines.clock
+    pub shows_stopped : (event : Event) → middle ≡ post_with event old.post → down_with event (seen st old).down ≡ (seen st old).down → heard.up.items ≡ up_without at old.machines.up.items → heard.clock ≡ greatest_reading (reading_of event) old.machines.clock
         → heard.count ≡ old.machines.count → heard.devices ≡ old.machines.devices → Shown event outcome.stopped (seen st old) (seen st new)
     shows_stopped event post downs up clock count devices = subst (λ stopped. Shown event stopped (seen st old) (seen st new)) (sym (ap (λ (x : Outcome). x.stopped) ends.outcome_is)) (record {
       nodes = ap (λ (m : Machines G O S E T). m.count) same ∙ count;

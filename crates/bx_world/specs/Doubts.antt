@@ -11,10 +11,10 @@ use Rattle.bx_volume.specs.Overlay.{Logs}
 use Rattle.bx_volume.specs.Records.{Logged}
 pub use Rattle.bx_world_machines.specs.Doubts.{MayBeOpen}
 use Rattle.bx_world_standing.specs.bx_world_logs.specs.Logs.{Slot}
-use Rattle.bx_world_standing.specs.bx_world_views.specs.Views.{Doubt}
+use Rattle.bx_world_standing.specs.bx_world_views.specs.Views.{Unacknowledged}
 
 -- A record in doubt is of a call that was taken and has no point; it is to act at a reading since.
-pub record IsOfTaken (parts : List Part) (doubt : Doubt) (deed : Deed) : Type 0 where
+pub record IsOfTaken (parts : List Part) (doubt : Unacknowledged) (deed : Deed) : Type 0 where
   pub taking : Taking
   pub lacks : LacksPoint (trace_of parts) taking
   pub call : doubt.call ≡ taking.call
@@ -23,9 +23,9 @@ pub record IsOfTaken (parts : List Part) (doubt : Doubt) (deed : Deed) : Type 0 
   pub since : HasReadingSince taking.call deed.moment parts
 
 -- Records whose gates may be open are of such calls, no two of one.
-pub record AreOfTaken (parts : List Part) (rows : List SessionRow) (slots : ℕ → Slot) (doubts : ℕ → Option Doubt) : Type 0 where
-  pub each : (session : ℕ) (doubt : Doubt) (deed : Deed) → MayBeOpen rows slots doubts session doubt deed → IsOfTaken parts doubt deed
-  pub once : (session other : ℕ) (doubt twin : Doubt) (deed act : Deed) → MayBeOpen rows slots doubts session doubt deed → MayBeOpen rows slots doubts other twin act → twin.call ≡ doubt.call → other ≡ session
+pub record AreOfTaken (parts : List Part) (rows : List SessionRow) (slots : ℕ → Slot) (doubts : ℕ → Option Unacknowledged) : Type 0 where
+  pub each : (session : ℕ) (doubt : Unacknowledged) (deed : Deed) → MayBeOpen rows slots doubts session doubt deed → IsOfTaken parts doubt deed
+  pub once : (session other : ℕ) (doubt twin : Unacknowledged) (deed act : Deed) → MayBeOpen rows slots doubts session doubt deed → MayBeOpen rows slots doubts other twin act → twin.call ≡ doubt.call → other ≡ session
 
 -- and no record of a log is of a call that has no point
 abbrev pub HavePoints : List Part → Logs → Type 0

@@ -18,12 +18,12 @@ use Rattle.bx_world.specs.Doubts.{AreOfTaken}
 use Rattle.bx_world.specs.declared.world.World.{World}
 use Rattle.bx_world_standing.specs.bx_world_logs.specs.Logs.{Slot, opens}
 use Rattle.bx_world_standing.specs.bx_world_views.specs.Views as views
-use Rattle.bx_world_standing.specs.bx_world_views.specs.Views.{Doubt}
+use Rattle.bx_world_standing.specs.bx_world_views.specs.Views.{Unacknowledged}
 
 -- A tree comes after one by what some of the records in doubt do whose gates may be open: they were sent.
-pub data ComesAfter {T : Type 0} (Stands : Truth → Hints → T → Type 0) (Step : T → Deed → T → Type 0) (rows : List SessionRow) (slots : ℕ → Slot) (doubts : ℕ → Option Doubt) (tree : T) : T → Type 0 where
+pub data ComesAfter {T : Type 0} (Stands : Truth → Hints → T → Type 0) (Step : T → Deed → T → Type 0) (rows : List SessionRow) (slots : ℕ → Slot) (doubts : ℕ → Option Unacknowledged) (tree : T) : T → Type 0 where
   Here : ComesAfter Stands Step rows slots doubts tree tree
-  Then : (session : ℕ) (row : SessionRow) (doubt : Doubt) (middle after : T) → row_in rows session ≡ Some row → opens (slots row.slot).activity ≡ true → doubts session ≡ Some doubt
+  Then : (session : ℕ) (row : SessionRow) (doubt : Unacknowledged) (middle after : T) → row_in rows session ≡ Some row → opens (slots row.slot).activity ≡ true → doubts session ≡ Some doubt
       → ComesAfter Stands Step rows slots doubts tree middle → views.StepOf Stands Step doubt.act middle after → ComesAfter Stands Step rows slots doubts tree after
 
 module _ {G O S E T : Type 0} (g : register.Ghosts G) (o : owners.Ghosts O) (st : store.Ghosts S) (e : engine.Ghosts E T) where
@@ -35,7 +35,7 @@ module _ {G O S E T : Type 0} (g : register.Ghosts G) (o : owners.Ghosts O) (st 
     pub accounts : AwaitsNewest (StepOf (e.step world.machines.nodes.engine)) (rules (e.at_once world.machines.nodes.engine)) first parts history tree (waiting parts)
     pub rows : List SessionRow
     pub slots : ℕ → Slot
-    pub doubts : ℕ → Option Doubt
+    pub doubts : ℕ → Option Unacknowledged
     pub doubted : AreOfTaken parts rows slots doubts
     pub has : HasTruth (g.reads_as (g.made world.machines.nodes.register) sizes image) (st.made world.machines.nodes.store) sizes image
         (λ truth. (after : T) × ComesAfter (e.stands world.machines.nodes.engine) (e.step world.machines.nodes.engine) rows slots doubts tree after × e.stands world.machines.nodes.engine truth no_hints after)

@@ -13,7 +13,7 @@ use Rattle.bx_world_logs.specs.bx_redo.proofs.Shown.{shown as shows_one}
 use Rattle.bx_rows.specs.declared.session.SessionRow.{SessionRow}
 use Rattle.bx_rows.specs.Words.{is_taken}
 use Rattle.bx_views.specs.Truths.{Truth, with_draft}
-use Rattle.bx_volume.specs.Overlay.{Logs, IsHome, IsTruth, IsUnlogged, Matters, Gate, Body, Home, filled_of, with_log}
+use Rattle.bx_volume.specs.Overlay.{Logs, IsHome, IsOverlaidTruth, IsUnlogged, Matters, Gate, Body, Home, filled_of, with_log}
 use Rattle.bx_volume.specs.Records.{Logged, LogWhere, IsInBody, gate_of, logged_text, newest_in, or_older}
 use Rattle.bx_volume.proofs.Matters.{truth_same}
 use Rattle.bx_volume.proofs.Overlay.{log_here, log_there}
@@ -81,13 +81,13 @@ module _ (Sure : ℕ → ℕ → List ℕ → Type 0) (devices areas : ℕ) (row
     last : Truth
     shows : ShowsTo logs slots n shown truth last
     rest : (slot : ℕ) → n ≤ slot → shown slot ≡ logs slot
-    is_truth : IsTruth (half n) devices areas rows shown last
+    is_truth : IsOverlaidTruth (half n) devices areas rows shown last
 
   same_half : (n d s : ℕ) → writes_in devices n (length (logs n)) (slots n).activity d s ≡ false → half (suc n) d s ≡ half n d s
   same_half n d s is = ap (λ (b : Bool). if b || written devices logs slots n d s then now d s else before d s) is
 
   -- one slot more that shows its own run
-  goes_whole : (n : ℕ) (h : Half n) → IsTruth (half (suc n)) devices areas rows h.shown h.last → Half (suc n)
+  goes_whole : (n : ℕ) (h : Half n) → IsOverlaidTruth (half (suc n)) devices areas rows h.shown h.last → Half (suc n)
   goes_whole n h is = record {
     shown = h.shown;
     last = h.last;
@@ -179,7 +179,7 @@ module _ (Sure : ℕ → ℕ → List ℕ → Type 0) (devices areas : ℕ) (row
       (λ d s apart sure. same_half n d s (subst (λ (c : Activity). writes_in devices n (length (logs n)) c d s ≡ false) (sym is) apart))
       (log_half n h work less taken is finds (finds_half n h work less is finds)))
     where
-      changed : (run : List Logged) (next : Truth) → IsTruth (half (suc n)) devices areas rows (with_log h.shown n run) next → ShowsSlot logs slots n run h.last next → Half (suc n)
+      changed : (run : List Logged) (next : Truth) → IsOverlaidTruth (half (suc n)) devices areas rows (with_log h.shown n run) next → ShowsSlot logs slots n run h.last next → Half (suc n)
       changed run next truth_is slot_shows = record {
         shown = with_log h.shown n run;
         last = next;

@@ -13,7 +13,7 @@ use Rattle.bx_rows.specs.declared.session.SessionRow.{SessionRow}
 use Rattle.bx_rows.specs.Words.{is_taken}
 use Rattle.bx_truth.proofs.Cases.{same_or}
 use Rattle.bx_views.specs.Truths.{Truth, with_draft}
-use Rattle.bx_volume.specs.Overlay.{Logs, IsTruth, IsUnlogged, filled_of, with_log}
+use Rattle.bx_volume.specs.Overlay.{Logs, IsOverlaidTruth, IsUnlogged, filled_of, with_log}
 use Rattle.bx_volume.specs.Records.{Logged, LogWhere, StandOpen, gate_of, newest_in}
 use Rattle.bx_volume.proofs.Matters.{truth_same}
 use Rattle.bx_volume.proofs.Overlay.{log_here, log_there}
@@ -85,7 +85,7 @@ module _ (Sure Sure_then : ℕ → ℕ → List ℕ → Type 0) (devices areas :
       by (inr apart) = inl (log_there logs slot other run apart)
 
   -- the log of the slot, with a run that it may show
-  log_then : (run : List Logged) (next : Truth) → IsRun logs slots slot run → IsTruth now devices areas rows (with_log logs slot run) next → IsLogOf Sure_then devices areas now (with_log logs slot run) slot (found_slot (slots slot))
+  log_then : (run : List Logged) (next : Truth) → IsRun logs slots slot run → IsOverlaidTruth now devices areas rows (with_log logs slot run) next → IsLogOf Sure_then devices areas now (with_log logs slot run) slot (found_slot (slots slot))
   log_then run next is truth_is = record {
     gates = λ gate place apart. gates gate place;
     bodies = λ body i few fills. body_then body i (subst (λ (r : List Logged). body < length r) (log_here logs slot run) few) (subst (λ (r : List Logged). i < filled_of r body) (log_here logs slot run) fills);
@@ -117,7 +117,7 @@ module _ (Sure Sure_then : ℕ → ℕ → List ℕ → Type 0) (devices areas :
       (quiet_outside (block_place at devices).0 ((block_place at devices).1 + i) (λ there. home_in_none at devices slot i less there))
       (home_sure Sure devices areas rows before logs slots truth st now (with_log logs slot run) (runs_then run is) at is_block unlogged i few)
 
-  found : (run : List Logged) (next : Truth) → ShowsSlot logs slots slot run truth next → IsTruth now devices areas rows (with_log logs slot run) next → Settles Sure_then devices areas rows now logs slots truth slot
+  found : (run : List Logged) (next : Truth) → ShowsSlot logs slots slot run truth next → IsOverlaidTruth now devices areas rows (with_log logs slot run) next → Settles Sure_then devices areas rows now logs slots truth slot
   found run next shows truth_is = record {
     run = run;
     next = next;
@@ -141,7 +141,7 @@ module _ (Sure Sure_then : ℕ → ℕ → List ℕ → Type 0) (devices areas :
       by (inr apart) = log_there logs slot other run apart
 
   -- the truth by the same runs, spelled with the slot's own
-  respelled : IsTruth now devices areas rows logs truth → IsTruth now devices areas rows (with_log logs slot (logs slot)) truth
+  respelled : IsOverlaidTruth now devices areas rows logs truth → IsOverlaidTruth now devices areas rows (with_log logs slot (logs slot)) truth
   respelled is = record {
     has_logs = λ other in_slots. subst (λ (r : List Logged). LogWhere (is_taken rows other) now devices areas other r) (sym (same_logs (logs slot) refl other)) (is.has_logs other in_slots);
     logged = λ other at block in_slots newest. is.logged other at block in_slots (ap (λ (r : List Logged). newest_in r at) (sym (same_logs (logs slot) refl other)) ∙ newest);
@@ -180,7 +180,7 @@ module _ (Sure Sure_then : ℕ → ℕ → List ℕ → Type 0) (devices areas :
       shown_by work is finds = shows_one Trivial devices areas rows before now logs truth (slots slot).more (view_of devices slot (length (logs slot)) work) work
           (λ d s apart sure. same d s (subst (λ (c : Activity). writes_in devices slot (length (logs slot)) c d s ≡ false) (sym is) apart)) (log_one work finds)
 
-      whole : IsTruth now devices areas rows logs truth → Settles Sure_then devices areas rows now logs slots truth slot
+      whole : IsOverlaidTruth now devices areas rows logs truth → Settles Sure_then devices areas rows now logs slots truth slot
       whole is = found (logs slot) truth (inl (refl, refl)) (respelled is)
 
       by_work : (work : Work) → (slots slot).activity ≡ OfLog work → ShowsOne devices areas rows logs truth (slots slot).more now slot work → Settles Sure_then devices areas rows now logs slots truth slot

@@ -12,7 +12,7 @@ use Rattle.bx_rows.specs.declared.session.SessionRow.{SessionRow}
 use Rattle.bx_rows.specs.Words.{is_taken}
 use Rattle.bx_redo.specs.bx_truth.proofs.Cases.{eq_false, eq_true, same_or}
 use Rattle.bx_views.specs.Truths.{Truth}
-use Rattle.bx_redo.specs.bx_volume.specs.Overlay.{Logs, IsHome, IsTruth, IsUnlogged, filled_of, with_log}
+use Rattle.bx_redo.specs.bx_volume.specs.Overlay.{Logs, IsHome, IsOverlaidTruth, IsUnlogged, filled_of, with_log}
 use Rattle.bx_redo.specs.bx_volume.specs.Records.{Logged, LogWhere, StandOpen, IsInBody, logged_text, newest_in}
 use Rattle.bx_redo.specs.bx_volume.proofs.Overlay.{log_there}
 use Rattle.bx_redo.specs.bx_volume.proofs.Sizes.{logged_sectors}
@@ -131,7 +131,7 @@ module _ (Sure Sure_then : ℕ → ℕ → List ℕ → Type 0) (devices areas :
 
   -- The whole, once the slot's log is this. No other log has a block of it.
   pub moves : (run : List Logged) (is : Slot) (next : Truth) → is_taken rows slot ≡ true
-      → IsTruth now devices areas rows (with_log logs slot run) next
+      → IsOverlaidTruth now devices areas rows (with_log logs slot run) next
       → IsLogOf Sure_then devices areas now (with_log logs slot run) slot is
       → ((at : ℕ) → IsBlock areas at → IsUnlogged (with_log logs slot run) at → (i : ℕ) → i < 9 → Sure_then (block_place at devices).0 ((block_place at devices).1 + i) (now (block_place at devices).0 ((block_place at devices).1 + i)))
       → ((other at : ℕ) → other < 8 → other ≢ slot → IsInLog (with_log logs slot run) (with_slot slots slot is) slot at → IsInLog logs slots other at → ⊥)

@@ -11,7 +11,7 @@ use Rattle.bx_redo.specs.declared.work.Work.TheVariants as works
 use Rattle.bx_rows.specs.declared.session.SessionRow.{SessionRow}
 use Rattle.bx_rows.specs.Words.{is_taken}
 use Rattle.bx_views.specs.Truths.{Truth}
-use Rattle.bx_redo.specs.bx_volume.specs.Overlay.{Logs, IsHome, IsTruth, IsUnlogged, filled_of}
+use Rattle.bx_redo.specs.bx_volume.specs.Overlay.{Logs, IsHome, IsOverlaidTruth, IsUnlogged, filled_of}
 use Rattle.bx_redo.specs.bx_volume.specs.Records.{Logged, IsInBody, gate_of, logged_text, newest_in}
 
 -- What is under way in a log slot: a work of its log, by whom ever; or nothing, while gates behind its run may be open, as a recovery finds them.
@@ -119,7 +119,7 @@ IsInLog logs slots slot at = IsSome (newest_in (logs slot) at) ⊎ ((begins (slo
 -- The devices hold the truth, by the logs of all slots: what of it isn't being written stands so. No block is in two logs.
 pub record LogsStand (Sure : ℕ → ℕ → List ℕ → Type 0) (devices areas : ℕ) (rows : List SessionRow) (before : Image) (logs : Logs) (slots : ℕ → Slot) (truth : Truth) : Type 0 where
   pub volume : IsVolume devices areas
-  pub is_truth : IsTruth before devices areas rows logs truth
+  pub is_truth : IsOverlaidTruth before devices areas rows logs truth
   pub homes : (at : ℕ) → IsBlock areas at → IsUnlogged logs at → IsHomeSure Sure devices areas before at
   pub each : (slot : ℕ) → slot < 8 → SlotStands Sure devices areas before (is_taken rows slot) logs slot (slots slot)
   pub once : (slot other at : ℕ) → slot < 8 → other < 8 → IsInLog logs slots slot at → IsInLog logs slots other at → slot ≡ other

@@ -3,7 +3,7 @@ use Rattle.std.specs.Prelude.{◌≡◌, ◌⊎◌, ℕ, zero, suc, true, List, 
 use Rattle.bx_disk.specs.Disks.{Image}
 use Rattle.bx_rows.specs.declared.session.SessionRow.{SessionRow}
 use Rattle.bx_views.specs.Truths.{Truth, with_draft}
-use Rattle.bx_redo.specs.bx_volume.specs.Overlay.{Logs, IsTruth}
+use Rattle.bx_redo.specs.bx_volume.specs.Overlay.{Logs, IsOverlaidTruth}
 use Rattle.bx_redo.specs.bx_volume.specs.Records.{Logged}
 use Rattle.bx_world_logs.specs.Logs.{Slot, closes, opens}
 
@@ -29,4 +29,4 @@ module _ (logs : Logs) (slots : ℕ → Slot) where
     pub shown : Logs
     pub last : Truth
     pub shows : ShowsTo 8 shown truth last
-    pub is_truth : IsTruth now devices areas rows shown last
+    pub is_truth : IsOverlaidTruth now devices areas rows shown last

@@ -5,7 +5,7 @@ use Rattle.bx_base.specs.declared.names.Actor.{Actor}
 use Rattle.bx_base.specs.declared.names.Actor.TheVariants.{Member, Node, Replica, Server}
 use Rattle.bx_facts.proofs.Lists.{nothing}
 use Rattle.bx_global.specs.declared.state.GlobalState.{GlobalState}
-use Rattle.bx_node_calls.specs.Turns.{IsTurn, acting_at, acting_in}
+use Rattle.bx_node_calls.specs.Turns.{IsNodeTurn, acting_at, acting_in}
 use Rattle.bx_node_calls.specs.Waits.{AreNumbered, AreTold, Waits}
 use Rattle.bx_node_calls.proofs.Coming.{Changed, changed_at, numbered_on}
 use Rattle.bx_node_calls.specs.bx_nodes.proofs.Machines.{of_there, two_there}
@@ -137,7 +137,7 @@ answered_behind reading at old middle new said wakes is = record {
     moved (Member n) P Q leads p = p
 
 -- in a turn
-module _ (moment node latest : ℕ) (old new : List Machine) (said : List Said) (machine : Machine) (there : slice_get old node ≡ Some machine) (turn : IsTurn moment node old new said) (numbers : AreNumbered latest old) where
+module _ (moment node latest : ℕ) (old new : List Machine) (said : List Said) (machine : Machine) (there : slice_get old node ≡ Some machine) (turn : IsNodeTurn moment node old new said) (numbers : AreNumbered latest old) where
   now : (now : Machine) × (slice_get new node ≡ Some now) × AnswersCalls moment machine now said
   now = there_then moment node latest old new said machine there turn
 

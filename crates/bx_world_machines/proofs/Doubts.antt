@@ -15,11 +15,11 @@ use Rattle.bx_world_standing.specs.Standing.{Course}
 use Rattle.bx_world_standing.specs.bx_volume.specs.Overlay.{Logs}
 use Rattle.bx_world_standing.specs.bx_world_chains.proofs.Rows.{below_next, row_before}
 use Rattle.bx_world_standing.specs.bx_world_logs.specs.Logs.{Slot, opens}
-use Rattle.bx_world_standing.specs.bx_world_views.specs.Views.{Doubt}
+use Rattle.bx_world_standing.specs.bx_world_views.specs.Views.{Unacknowledged}
 
 -- what is open by the one course was so by the other
 abbrev pub WereOpen : Course → Course → Type 0
-WereOpen c later = (session : ℕ) (doubt : Doubt) (deed : Deed) → IsOpenIn later session doubt deed → IsOpenIn c session doubt deed
+WereOpen c later = (session : ℕ) (doubt : Unacknowledged) (deed : Deed) → IsOpenIn later session doubt deed → IsOpenIn c session doubt deed
 
 -- ---- records whose gates may be open
 
@@ -29,7 +29,7 @@ open_kept c later works chain session doubt deed is = record {
   row = is.row;
   has_row = subst (λ (l : Chain). row_in (last l).sessions session ≡ Some is.row) chain is.has_row;
   sent = ap (λ (slots : ℕ → Slot). opens (slots is.row.slot).activity) (sym works.slots) ∙ is.sent;
-  is = ap (λ (doubts : ℕ → Option Doubt). doubts session) (sym works.doubts) ∙ is.is;
+  is = ap (λ (doubts : ℕ → Option Unacknowledged). doubts session) (sym works.doubts) ∙ is.is;
   act = is.act;
 }
 
@@ -39,7 +39,7 @@ open_before c later allowed doubted works grows session doubt deed is = ⊎_elim
     (λ same. open_kept c later works same session doubt deed is)
     (λ one.
     let found = subst (λ (l : Chain). row_in (last l).sessions session ≡ Some is.row) one.3 is.has_row in
-    let its : c.doubts session ≡ Some doubt = ap (λ (doubts : ℕ → Option Doubt). doubts session) (sym works.doubts) ∙ is.is in
+    let its : c.doubts session ≡ Some doubt = ap (λ (doubts : ℕ → Option Unacknowledged). doubts session) (sym works.doubts) ∙ is.is in
     let had = doubted.only session doubt its in
     let was = row_before (last c.register.chain) one.0 session is.row found (below_next (last c.register.chain).sessions (last c.register.chain).next_session session had.0 allowed.rising had.1) in
     record {
@@ -52,7 +52,7 @@ open_before c later allowed doubted works grows session doubt deed is = ⊎_elim
     grows
 
 -- A node did something under its own session: what is of others was so.
-pub open_left : (own : Option ℕ) (c later : Course) → LeavesWorks own c later → later.register.chain ≡ c.register.chain → (session : ℕ) (doubt : Doubt) (deed : Deed) → own ≢ Some session → IsOpenIn later session doubt deed → IsOpenIn c session doubt deed
+pub open_left : (own : Option ℕ) (c later : Course) → LeavesWorks own c later → later.register.chain ≡ c.register.chain → (session : ℕ) (doubt : Unacknowledged) (deed : Deed) → own ≢ Some session → IsOpenIn later session doubt deed → IsOpenIn c session doubt deed
 open_left own c later left chain session doubt deed other is =
     let had = subst (λ (l : Chain). row_in (last l).sessions session ≡ Some is.row) chain is.has_row in
     record {
@@ -120,5 +120,5 @@ in_doubt_none latest machines c none = record {
   once = λ session other doubt twin deed act is also same. absurd (nobody session doubt deed is);
 }
   where
-    nobody : (session : ℕ) (doubt : Doubt) (deed : Deed) → IsOpenIn c session doubt deed → ⊥
+    nobody : (session : ℕ) (doubt : Unacknowledged) (deed : Deed) → IsOpenIn c session doubt deed → ⊥
     nobody session doubt deed is = let wrong : None ≡ Some doubt = sym (none session) ∙ is.is in cc

@@ -42,13 +42,13 @@ use Rattle.bx_world_standing.specs.bx_redo.specs.declared.work.Work.{Work}
 use Rattle.bx_world_standing.specs.bx_redo.specs.declared.work.Work.TheVariants as works
 use Rattle.bx_world_standing.specs.bx_world_chains.proofs.Rows.{lives_row}
 use Rattle.bx_world_standing.specs.bx_world_logs.specs.Logs.{Activity, OfLog, idle, opens}
-use Rattle.bx_world_standing.specs.bx_world_views.specs.Views.{Doubt, OfCall, OfTidy}
+use Rattle.bx_world_standing.specs.bx_world_views.specs.Views.{Unacknowledged, OfCall, OfTidy}
 use Rattle.bx_world_standing.proofs.Owns.{own_is}
 
 -- ---- the record that a node writes
 
 -- A node writes this record in doubt, whose gate was sent.
-record IsWrittenBy (machine : Machine) (doubt : Doubt) (deed : Deed) : Type 0 where
+record IsWrittenBy (machine : Machine) (doubt : Unacknowledged) (deed : Deed) : Type 0 where
   call : Waiting
   written : call_written machine.stage ≡ Some call
   point : Point
@@ -59,7 +59,7 @@ record IsWrittenBy (machine : Machine) (doubt : Doubt) (deed : Deed) : Type 0 wh
   moment : deed.moment ≡ point.moment
 
 module _ (devices areas : ℕ) (Sure : ℕ → ℕ → List ℕ → Type 0) (Reads : ℕ → List ℕ → Type 0) (s : Scene) (node session slot : ℕ) (machine : Machine) (about : IsAbout devices areas Sure Reads s node session slot (view_of machine))
-    (doubt : Doubt) (deed : Deed) (sent : opens (s.slots slot).activity ≡ true) (is : s.doubts session ≡ Some doubt) (act : doubt.act ≡ OfCall deed) where
+    (doubt : Unacknowledged) (deed : Deed) (sent : opens (s.slots slot).activity ≡ true) (is : s.doubts session ≡ Some doubt) (act : doubt.act ≡ OfCall deed) where
   closed : {A : Type 0} (activity : Activity) → (s.slots slot).activity ≡ activity → opens activity ≡ false → A
   closed activity doing none = absurd (let wrong : true ≡ false = sym sent ∙ ap opens doing ∙ none in cc)
 
@@ -136,7 +136,7 @@ module _ {G O S E T : Type 0} (g : register.Ghosts G) (o : owners.Ghosts O) (st 
 
   -- ---- a session that isn't the one under which the node did something
 
-  was_open : (session : ℕ) (doubt : Doubt) (deed : Deed) → turned.own ≢ Some session → IsOpenIn later session doubt deed → IsOpenIn c session doubt deed
+  was_open : (session : ℕ) (doubt : Unacknowledged) (deed : Deed) → turned.own ≢ Some session → IsOpenIn later session doubt deed → IsOpenIn c session doubt deed
   was_open session doubt deed other is = before session doubt deed (open_left turned.own middle later turned.turned.works turned.turned.chain session doubt deed other is)
 
   -- its node did nothing
@@ -149,7 +149,7 @@ module _ {G O S E T : Type 0} (g : register.Ghosts G) (o : owners.Ghosts O) (st 
           let used = subst (λ (who : Actor). AtNode who (λ node. IsUsed o nodes node one)) it is.0 in
           other (let same : Some (Some one) ≡ Some (Some session) = sym used.1 ∙ has in some ∙ (let e_is : Some one ≡ Some session = cc in e_is))
 
-  unanswered : (session : ℕ) (doubt : Doubt) (deed : Deed) → turned.own ≢ Some session → IsOpenIn c session doubt deed → IsAnswered said doubt.call → ⊥
+  unanswered : (session : ℕ) (doubt : Unacknowledged) (deed : Deed) → turned.own ≢ Some session → IsOpenIn c session doubt deed → IsAnswered said doubt.call → ⊥
   unanswered session doubt deed other is answered = by at refl (acted doubt.call answered)
     where
       by : (who : Actor) → at ≡ who → AtNode who (λ node. MayActAt old node doubt.call ⊎ OpenStill old new node doubt.call) → ⊥
@@ -164,14 +164,14 @@ module _ {G O S E T : Type 0} (g : register.Ghosts G) (o : owners.Ghosts O) (st 
   -- ---- the session under which it did something
 
   -- The node that has it as its own writes the record.
-  record IsWritten (session : ℕ) (doubt : Doubt) (deed : Deed) : Type 0 where
+  record IsWritten (session : ℕ) (doubt : Unacknowledged) (deed : Deed) : Type 0 where
     node : ℕ
     machine : Machine
     there : slice_get new node ≡ Some machine
     session_is : session_at new node ≡ Some (Some session)
     writes : IsWrittenBy machine doubt deed
 
-  its_own : (session : ℕ) (doubt : Doubt) (deed : Deed) → turned.own ≡ Some session → IsOpenIn later session doubt deed → IsWritten session doubt deed
+  its_own : (session : ℕ) (doubt : Unacknowledged) (deed : Deed) → turned.own ≡ Some session → IsOpenIn later session doubt deed → IsWritten session doubt deed
   its_own session doubt deed mine is =
       let used = subst (λ (own : Option ℕ). IfSome own (λ one. AtNode at (λ node. IsUsed o nodes node one) × LivesIn (last middle.register.chain) one)) mine turned.is_own in
       by at refl used.0 used.1
@@ -197,7 +197,7 @@ module _ {G O S E T : Type 0} (g : register.Ghosts G) (o : owners.Ghosts O) (st 
       by (Server n) it none lives = absurd none
       by (Member n) it none lives = absurd none
 
-  module _ (session : ℕ) (doubt : Doubt) (deed : Deed) (is : IsWritten session doubt deed) where
+  module _ (session : ℕ) (doubt : Unacknowledged) (deed : Deed) (is : IsWritten session doubt deed) where
     -- its call waits at that node
     waits_there : Waits new is.node (call_of is.writes.call)
     waits_there = and_some (λ m. WaitsAt m (call_of is.writes.call)) (slice_get new is.node) is.machine is.there (inr (subst (λ (w : Option Waiting). IsThat w (call_of is.writes.call)) (sym is.writes.written) refl))
@@ -245,7 +245,7 @@ module _ {G O S E T : Type 0} (g : register.Ghosts G) (o : owners.Ghosts O) (st 
   -- ---- all of them
 
   -- of two records in doubt of one call, where the one is written
-  one_of : (session other : ℕ) (doubt twin : Doubt) (deed act : Deed) → IsWritten session doubt deed → IsOpenIn c other twin act → twin.call ≡ doubt.call → other ≡ session
+  one_of : (session other : ℕ) (doubt twin : Unacknowledged) (deed act : Deed) → IsWritten session doubt deed → IsOpenIn c other twin act → twin.call ≡ doubt.call → other ≡ session
   one_of session other doubt twin deed act mine is same = ⊎_elim
       (λ may. absurd (was.over other mine.node twin act is (subst (λ (k : ℕ). MayActAt old mine.node k) (sym same) may)))
       (λ still. session_of (sym (still.session ∙ was.opening other mine.node twin act is (subst (λ (k : ℕ). OpensAt old mine.node k) (sym same) still.opened)) ∙ mine.session_is))

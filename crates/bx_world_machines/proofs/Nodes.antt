@@ -5,7 +5,7 @@ use Rattle.bx_base.specs.declared.names.Actor.{Actor}
 use Rattle.bx_facts.specs.declared.register.Register as register
 use Rattle.bx_facts.specs.declared.store.Store as store
 use Rattle.bx_facts.specs.Writes.{Made}
-use Rattle.bx_node_calls.specs.Turns.{IsTurn}
+use Rattle.bx_node_calls.specs.Turns.{IsNodeTurn}
 use Rattle.bx_node_calls.proofs.Coming.{Changed, apart_then, changed_at}
 use Rattle.bx_node_calls.specs.bx_nodes.proofs.Machines.{of_there, there_is, was_there}
 use Rattle.bx_node_calls.proofs.Found.{same_or}
@@ -52,7 +52,7 @@ module _ {G O S E T : Type 0} (g : register.Ghosts G) (o : owners.Ghosts O) (st 
   nodes_ticked parts ticks = nodes_with parts (apart_ticked node old new there count ticks others were.apart)
 
   -- it has its turn
-  pub nodes_turned : (moment : ℕ) (said : List Said) → IsTurn moment node old.machines.items new.machines.items said → (new.register ≡ old.register) × (new.engine ≡ old.engine) × (st.made new.store ≡ st.made old.store) → o.nodes new.owners ≡ o.nodes old.owners
+  pub nodes_turned : (moment : ℕ) (said : List Said) → IsNodeTurn moment node old.machines.items new.machines.items said → (new.register ≡ old.register) × (new.engine ≡ old.engine) × (st.made new.store ≡ st.made old.store) → o.nodes new.owners ≡ o.nodes old.owners
       → OnlyStore st node old.store new.store → AreNodes g o st e new
   nodes_turned moment said turn parts for elsewhere = record {
     registers = ap g.nodes parts.0 ∙ were.registers ∙ sym count;

@@ -35,7 +35,7 @@ use Rattle.bx_node_calls.specs.bx_nodes.proofs.Emptied.{emptied}
 use Rattle.bx_facts.specs.declared.owners.Owners as owners
 use Rattle.bx_post.specs.declared.packets.Letter.{Letter}
 use Rattle.bx_views.specs.declared.engine.Engine as engine
-use Rattle.bx_world_machines.specs.Answering.{Answered, AtNode, Comes, reading_in}
+use Rattle.bx_world_machines.specs.Answering.{Answered, AtNode, CallComes, reading_in}
 use Rattle.bx_world_machines.specs.Doubts.{AreInDoubt, IsUsed}
 use Rattle.bx_world_machines.specs.Machines.{greater, is_up, up_without}
 use Rattle.bx_world_machines.specs.Standing.{AreClocks, AreNodes, AreReady, IsReady, Standing, StandsBehind}
@@ -52,7 +52,7 @@ use Rattle.bx_world_standing.specs.Parts.{Clocks}
 use Rattle.bx_world_standing.specs.bx_volume.specs.Overlay.{Logs}
 
 -- the greatest reading then, in both words
-pub greatest_is : (input : Input) (greatest : ℕ) → greatest_with greatest input ≡ steps.greatest_with (reading_in input) greatest
+pub greatest_is : (input : Input) (greatest : ℕ) → greatest_with greatest input ≡ steps.greatest_reading (reading_in input) greatest
 greatest_is (Packet packet reading) greatest = refl
 greatest_is (Tick reading) greatest = refl
 greatest_is Synced greatest = refl
@@ -92,13 +92,13 @@ none_left who old new empties node call it waits =
 -- ---- what stands then
 
 module _ {G O S E T : Type 0} (g : register.Ghosts G) (o : owners.Ghosts O) (st : store.Ghosts S) (e : engine.Ghosts E T) (old new : Machines G O S E T) (input : Input) (boots : new.boots ≡ old.boots) (count : new.count ≡ old.count) (devices : new.devices ≡ old.devices)
-    (latest : new.latest ≡ old.latest) (clock : new.clock ≡ steps.greatest_with (reading_in input) old.clock) where
+    (latest : new.latest ≡ old.latest) (clock : new.clock ≡ steps.greatest_reading (reading_in input) old.clock) where
   module _ (up : new.up.items ≡ old.up.items) where
     clocks_then : (clocks : Clocks) → AreClocks g o st e old clocks → AreClocks g o st e new (with_reading clocks input)
     clocks_then clocks are = record {
       down = λ who there. are.down who (rw (sym count, sym devices) there) ∙ ap (λ l. not (is_up l who)) (sym up);
       boots = are.boots ∙ sym boots;
-      greatest = greatest_is input clocks.greatest ∙ ap (steps.greatest_with (reading_in input)) are.greatest ∙ sym clock;
+      greatest = greatest_is input clocks.greatest ∙ ap (steps.greatest_reading (reading_in input)) are.greatest ∙ sym clock;
     }
 
     -- it went on, and answered calls
@@ -144,7 +144,7 @@ module _ {G O S E T : Type 0} (g : register.Ghosts G) (o : owners.Ghosts O) (st 
     clocks_stopped clocks are = record {
       down = λ who there. down_put who (are.down who (rw (sym count, sym devices) there)) ∙ sym (down_without at who old.up.items) ∙ ap (λ l. not (is_up l who)) (sym up);
       boots = are.boots ∙ sym boots;
-      greatest = greatest_is input clocks.greatest ∙ ap (steps.greatest_with (reading_in input)) are.greatest ∙ sym clock;
+      greatest = greatest_is input clocks.greatest ∙ ap (steps.greatest_reading (reading_in input)) are.greatest ∙ sym clock;
     }
       where
         down_put : (who : Actor) → clocks.down who ≡ not (is_up old.up.items who) → put_at at true clocks.down who ≡ put_at at true (λ other. not (is_up old.up.items other)) who
@@ -204,7 +204,7 @@ node_there g o st e machines node ready up = let less = ready.there (Node node) 
 
 module _ {G O S E T : Type 0} (g : register.Ghosts G) (o : owners.Ghosts O) (st : store.Ghosts S) (e : engine.Ghosts E T) (old new : Machines G O S E T) (middle : Nodes G O S E T) (node reading : ℕ) (call : Waiting) (ready : AreReady g o st e old) (there : node < length old.nodes.machines.items)
     (later : old.latest < call.number) (count : length middle.machines.items ≡ length old.nodes.machines.items) (behind : OfBoth old.nodes middle node (WaitsBehind call)) (others : OnlyMachine node old.nodes.machines.items middle.machines.items) where
-  pub comes_to : Comes node call old.nodes.machines.items middle.machines.items
+  pub comes_to : CallComes node call old.nodes.machines.items middle.machines.items
   comes_to = record {
     waits = each_called node call old.nodes middle there count behind others;
     acting = (still_called node call old.nodes middle there count behind others).acting;

@@ -38,7 +38,7 @@ pub record Answered (reading : Option ℕ) (at : Actor) (old new : List Machine)
   pub acted : (number : ℕ) → IsAnswered said number → AtNode at (λ node. MayActAt old node number ⊎ OpenStill old new node number)
 
 -- A call comes to a node: it waits then, and so do those that waited; and each record is written on. It alone may act besides.
-pub record Comes (node : ℕ) (call : Waiting) (old new : List Machine) : Type 0 where
+pub record CallComes (node : ℕ) (call : Waiting) (old new : List Machine) : Type 0 where
   pub waits : (at : ℕ) (other : CallOf) → Waits new at other ↔ (Waits old at other ⊎ ((at ≡ node) × (call_of call ≡ other)))
   pub acting : (at : ℕ) → acting_at new at ≡ acting_at old at
   pub to_act : (at number : ℕ) → MayActAt new at number → MayActAt old at number ⊎ (call.number ≡ number)
@@ -47,7 +47,7 @@ pub record Comes (node : ℕ) (call : Waiting) (old new : List Machine) : Type 0
 -- And then the node answers calls.
 pub record WaitsFirst (reading node : ℕ) (call : Waiting) (old new : List Machine) (said : List Said) : Type 0 where
   pub middle : List Machine
-  pub comes : Comes node call old middle
+  pub comes : CallComes node call old middle
   pub answers : Answered (Some reading) (Node node) middle new said
 
 -- A call comes to a node, which has its turn then. It touches no block, and is answered before all others; or it waits, and then the node answers calls.

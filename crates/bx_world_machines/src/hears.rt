@@ -3,7 +3,7 @@
 ghost use Rattle.std.specs.Prelude.{◌≡◌, ◌+◌, ◌≤◌, ◌++◌, ℕ, max, true, false, List, [], length, IfOk, IsErrOf, OnOk};
 ghost use Rattle.bx_base.specs.declared.names.Actor.{Actor};
 ghost use Rattle.bx_calls.specs.Calls.{LeavesOnly};
-ghost use Rattle.bx_cluster.specs.Steps.{IsTime, greatest_with};
+ghost use Rattle.bx_cluster.specs.Steps.{IsTime, greatest_reading};
 ghost use Rattle.bx_disk.specs.Kept.{Counted};
 ghost use Rattle.bx_facts.specs.Disks.{HasRoom};
 ghost use Rattle.bx_facts.specs.Inputs.{IsComing, IsSteady};
@@ -60,7 +60,7 @@ impl<G: Register, O: Owners, S: Store, E: Engine> Machines<G, O, S, E> {
         ensures empties { IsErrOf result DiskFails → Empties at self.old.nodes.machines.items self.new.nodes.machines.items }
         ensures up { OnOk result (self.new.up.items ≡ self.old.up.items) }
         ensures down { IsErrOf result DiskFails → self.new.up.items ≡ up_without at self.old.up.items }
-        ensures clock { self.new.clock ≡ greatest_with (reading_in input.now) self.old.clock }
+        ensures clock { self.new.clock ≡ greatest_reading (reading_in input.now) self.old.clock }
         ensures state { (IsErrOf result MemoryFails → ⊥) → self.new.state ≡ greater self.old.state (G.knows self.new.nodes.register at) }
         ensures same { (self.new.boots ≡ self.old.boots) × (self.new.count ≡ self.old.count) × (self.new.devices ≡ self.old.devices) × (self.new.latest ≡ self.old.latest) × (self.new.nodes.engine ≡ self.old.nodes.engine) }
         ensures made { S.made self.new.nodes.store ≡ S.made self.old.nodes.store }
@@ -84,7 +84,7 @@ impl<G: Register, O: Owners, S: Store, E: Engine> Machines<G, O, S, E> {
     /// Reads the clock, where that comes with an input.
     fn read_with(&mut self, input: &Input)
         requires steady { IsSteady self.old.clock input.now }
-        ensures { self.new ≡ record self.old { clock = greatest_with (reading_in input.now) self.old.clock } }
+        ensures { self.new ≡ record self.old { clock = greatest_reading (reading_in input.now) self.old.clock } }
     {
         if let Input::Packet(_, reading) | Input::Tick(reading) = *input {
             self.read(reading);

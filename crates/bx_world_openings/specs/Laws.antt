@@ -14,8 +14,8 @@ use Rattle.bx_closings.specs.bx_world.specs.Trees.{LedFrom}
 use Rattle.bx_disk.specs.Disks.{Disks}
 use Rattle.bx_history.specs.Parts.{Part}
 use Rattle.bx_model.specs.declared.tree.Tree.{Tree}
-use Rattle.bx_steps.specs.Steps.{Step}
+use Rattle.bx_steps.specs.Steps.{StepOfTree}
 
 pub closes : (world : Boxes) (x y : Disks) (first : Tree) (parts : List Part) → LedFrom paxos.ghosts locks.ghosts devices.ghosts box_fs.ghosts world x first parts → IsCrashed x y
-    → Closes (StepOf Step) (answers_at_once world) (StandAlone y) (AreOpenAlone y) first parts
+    → Closes (StepOf StepOfTree) (answers_at_once world) (StandAlone y) (AreOpenAlone y) first parts
 closes world x y first parts from crashed = shown.closes world x y first parts from.led crashed from.volume from.areas from.led.doubted from.led.logged

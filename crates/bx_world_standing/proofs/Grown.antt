@@ -29,7 +29,7 @@ use Rattle.bx_world_standing.specs.Parts.{Clocks}
 use Rattle.bx_world_standing.specs.Sessions.{SessionsStand}
 use Rattle.bx_world_standing.specs.Doubts.{DoubtsStand, IsRecordOf}
 use Rattle.bx_world_standing.specs.Closings.{ClosingStands, IsClosed}
-use Rattle.bx_world_views.specs.Views.{Doubt}
+use Rattle.bx_world_views.specs.Views.{Unacknowledged}
 use Rattle.bx_world_chains.proofs.Changed.{ClosedBy, closed_or, was_or_new}
 
 -- sessions of an earlier term stay so, and more become so
@@ -118,7 +118,7 @@ module _ (chain : Chain) (change : Change) (allowed : IsAllowed (last chain)) (l
 
   -- ---- doubts
 
-  pub doubts_go : (devices : ℕ) (logs : Logs) (slots : ℕ → Slot) (doubts : ℕ → Option Doubt) → DoubtsStand (last chain).sessions slots doubts
+  pub doubts_go : (devices : ℕ) (logs : Logs) (slots : ℕ → Slot) (doubts : ℕ → Option Unacknowledged) → DoubtsStand (last chain).sessions slots doubts
       → ((slot : ℕ) → slot < 8 → is_taken (last chain).sessions slot ≡ false → (slots slot).activity ≡ idle)
       → ((gone by : ℕ) (row : SessionRow) → change ≡ Close gone by → row_in (last chain).sessions gone ≡ Some row → (slots row.slot).activity ≡ idle)
       → DoubtsStand (last (grown chain change)).sessions slots doubts
@@ -133,7 +133,7 @@ module _ (chain : Chain) (change : Change) (allowed : IsAllowed (last chain)) (l
           (stand.each session was.old was.is (subst (λ (k : ℕ). begins (slots k).activity ≡ true) was.goes.slot begun))
       by session row begun (inr fresh) = absurd (let e : begins (slots row.slot).activity ≡ false = ap begins (free row.slot fresh.0 fresh.1) in cc)
 
-      still : (session : ℕ) (doubt : Doubt) (row : SessionRow) → row_in (last chain).sessions session ≡ Some row → begins (slots row.slot).activity ≡ true
+      still : (session : ℕ) (doubt : Unacknowledged) (row : SessionRow) → row_in (last chain).sessions session ≡ Some row → begins (slots row.slot).activity ≡ true
           → ClosedBy (last chain) change session ⊎ ((new : SessionRow) × (row_in (effect (last chain) change).sessions session ≡ Some new) × GoesOn row new)
           → (new : SessionRow) × (row_in (last (grown chain change)).sessions session ≡ Some new) × (begins (slots new.slot).activity ≡ true)
       still session doubt row had begun (inl gone) = absurd (let e : begins (slots row.slot).activity ≡ false = ap begins (closed session gone.by row gone.is had) in cc)

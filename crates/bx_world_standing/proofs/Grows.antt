@@ -22,7 +22,7 @@ use Rattle.bx_world_chains.proofs.Chains.{has_less, last_place}
 use Rattle.bx_world_chains.proofs.Rows.{has_of, lives_before, lives_has}
 use Rattle.bx_world_chains.proofs.Sessions.{own_row}
 use Rattle.bx_world_logs.specs.Logs.{SlotStands, begins, idle}
-use Rattle.bx_world_views.specs.Views.{AreApart, Doubt}
+use Rattle.bx_world_views.specs.Views.{AreApart, Unacknowledged}
 use Rattle.bx_world_views.proofs.Steps.{goes_on}
 use Rattle.bx_world_standing.specs.Closings.{ClosingStands}
 use Rattle.bx_world_standing.specs.Sessions.{IsOfNode}
@@ -138,7 +138,7 @@ module _ {G O S T : Type 0} (g : register.Ghosts G) (o : owners.Ghosts O) (st : 
           let own_it = own_row o.by_boot t.state node (known.clocks.boots (Node node)) session (allowed.each t.state t.place) t.by in
           lives_before (last c.register.chain) change session allowed_last lives (has_less c.register.chain t.state session allowed t.place (has_of t.state session own_it.row own_it.is))
 
-      row_then : (session : ℕ) (doubt : Doubt) → c.doubts session ≡ Some doubt → HasRow (last c.register.chain) session → (row : SessionRow) × (row_in (last c.register.chain).sessions session ≡ Some row) × (begins (c.slots row.slot).activity ≡ true)
+      row_then : (session : ℕ) (doubt : Unacknowledged) → c.doubts session ≡ Some doubt → HasRow (last c.register.chain) session → (row : SessionRow) × (row_in (last c.register.chain).sessions session ≡ Some row) × (begins (c.slots row.slot).activity ≡ true)
           → HasRow (last (grown c.register.chain change)) session
       row_then session doubt is has had = ⊎_elim
           (λ gone. absurd (

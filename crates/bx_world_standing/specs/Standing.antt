@@ -16,7 +16,7 @@ use Rattle.bx_views.specs.Attempts.{Deed}
 use Rattle.bx_views.specs.Truths.{Held, Hints, Truth}
 use Rattle.bx_world_logs.specs.bx_volume.specs.Overlay.{Logs}
 use Rattle.bx_world_logs.specs.Logs.{LogsStand, Slot}
-use Rattle.bx_world_views.specs.Views.{Doubt, VolumeStands}
+use Rattle.bx_world_views.specs.Views.{Unacknowledged, VolumeStands}
 use Rattle.bx_world_standing.specs.Closings.{ClosingStands}
 use Rattle.bx_world_standing.specs.Doubts.{DoubtsStand}
 use Rattle.bx_world_standing.specs.Labels.{LabelsStand}
@@ -45,7 +45,7 @@ pub record Course : Type 0 where
   pub logs : Logs
   pub slots : ℕ → Slot
   pub truth : Truth
-  pub doubts : ℕ → Option Doubt
+  pub doubts : ℕ → Option Unacknowledged
 
 module _ {G O S T : Type 0} (g : register.Ghosts G) (o : owners.Ghosts O) (st : store.Ghosts S) (Stands : Truth → Hints → T → Type 0) (Step : T → Deed → T → Type 0)
     (register_is : G) (owners_are : O) (store_is : S) (x : Disks) where

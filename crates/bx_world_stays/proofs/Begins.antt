@@ -22,7 +22,7 @@ use Rattle.bx_world_standing.specs.bx_world_chains.proofs.Rows.{lives_has}
 use Rattle.bx_world_standing.specs.bx_world_chains.proofs.Sessions.{own_row}
 use Rattle.bx_world_standing.specs.bx_world_logs.specs.Logs.{IsInLog, LogsStand, Slot, idle}
 use Rattle.bx_world_standing.specs.bx_world_logs.proofs.Growing.{rows_go}
-use Rattle.bx_world_standing.specs.bx_world_views.specs.Views.{Doubt}
+use Rattle.bx_world_standing.specs.bx_world_views.specs.Views.{Unacknowledged}
 use Rattle.bx_world_standing.specs.Labels.{LabelsStand}
 use Rattle.bx_world_standing.specs.Standing.{Course, Known, StandsAt, SureOf}
 
@@ -32,7 +32,7 @@ no_logs slot = []
 abbrev pub idle_slots : Logged → ℕ → Slot
 idle_slots more slot = record { activity = idle; more = more }
 
-abbrev pub no_doubts : ℕ → Option Doubt
+abbrev pub no_doubts : ℕ → Option Unacknowledged
 no_doubts session = None
 
 abbrev pub nothing_shown : ℕ → Held

@@ -8,7 +8,7 @@ use Rattle.bx_views.specs.bx_records.specs.Drafts.{Block, Changed, block_in}
 use Rattle.bx_views.specs.Attempts.{Deed}
 use Rattle.bx_views.specs.Truths.{Truth, Held, Hints, no_hints, with_draft}
 use Rattle.bx_facts.specs.Holds.{Hold, Holds, KeepsHolds}
-use Rattle.bx_world_views.specs.Views.{Allows, AreApart, ViewStands, IsOwned, ShowsDraft, OnlyOf, Doubt, StepOf, Works, DoubtStands, DoubtIn, VolumeStands}
+use Rattle.bx_world_views.specs.Views.{Allows, AreApart, ViewStands, IsDraftHeld, ShowsDraft, OnlyOf, Unacknowledged, StepOf, Works, DoubtStands, DoubtIn, VolumeStands}
 
 allows_exclusive : (hold : Hold) → Allows (Some hold) Exclusive → hold.0 ≡ Exclusive
 allows_exclusive hold (inl is) = is
@@ -51,7 +51,7 @@ over_some truth draft at block is = ap (λ (found : Option Block). unwrap_or fou
 -- Another session's draft leaves a view as it stands.
 pub others_stay : (holding : Holds) (HasRow : ℕ → Type 0) (truth : Truth) (session other : ℕ) (held : Held) (draft : List Changed)
     → AreApart holding HasRow → HasRow session → HasRow other → other ≢ session
-    → ViewStands holding truth session held → IsOwned holding other draft
+    → ViewStands holding truth session held → IsDraftHeld holding other draft
     → ViewStands holding (with_draft truth draft) session held
 others_stay holding HasRow truth session other held draft apart row other_row differ view own = record {
   is_truth = record { each = λ at mode block shows. by_draft at mode block shows (block_in draft at) refl };
@@ -64,7 +64,7 @@ others_stay holding HasRow truth session other held draft apart row other_row di
 
 -- The session's own view stands over the new truth, once the draft is laid over it.
 pub own_stays : (holding : Holds) (truth : Truth) (session : ℕ) (old new : Held) (draft : List Changed)
-    → ViewStands holding truth session old → IsOwned holding session draft → ShowsDraft draft old new
+    → ViewStands holding truth session old → IsDraftHeld holding session draft → ShowsDraft draft old new
     → ViewStands holding (with_draft truth draft) session new
 own_stays holding truth session old new draft view own shows = record {
   is_truth = record { each = λ at mode block has. by_draft at mode block has (block_in draft at) refl };
@@ -96,16 +96,16 @@ view_keeps old new truth session held keeps view = record {
   holds = λ at mode block has. keeps_allowed old new session at mode keeps (view.holds at mode block has);
 }
 
-owned_keeps : (old new : Holds) (session : ℕ) (draft : List Changed) → KeepsHolds old new → IsOwned old session draft → IsOwned new session draft
+owned_keeps : (old new : Holds) (session : ℕ) (draft : List Changed) → KeepsHolds old new → IsDraftHeld old session draft → IsDraftHeld new session draft
 owned_keeps old new session draft keeps own = record { each = λ at block is. keeps_allowed old new session at Exclusive keeps (own.each at block is) }
 
 module _ {T : Type 0} (Stands : Truth → Hints → T → Type 0) (Step : T → Deed → T → Type 0) where
   -- Holds grow, sessions die, sessions are opened, and sessions without a record in doubt are closed; nodes lose what they have.
-  pub goes_on : (old new : Holds) (HasRow Lives Row Still : ℕ → Type 0) (own now : ℕ → Option ℕ) (held after : ℕ → Held) (hints later : ℕ → Hints) (doubts : ℕ → Option Doubt) (truth : Truth) (tree : T)
+  pub goes_on : (old new : Holds) (HasRow Lives Row Still : ℕ → Type 0) (own now : ℕ → Option ℕ) (held after : ℕ → Held) (hints later : ℕ → Hints) (doubts : ℕ → Option Unacknowledged) (truth : Truth) (tree : T)
       → KeepsHolds old new → AreApart new Row
       → ((session : ℕ) → Still session → Row session)
       → ((node other session : ℕ) → now node ≡ Some session → now other ≡ Some session → Still session → other ≡ node)
-      → ((session : ℕ) (doubt : Doubt) → doubts session ≡ Some doubt → HasRow session → Row session)
+      → ((session : ℕ) (doubt : Unacknowledged) → doubts session ≡ Some doubt → HasRow session → Row session)
       → ((node session : ℕ) → now node ≡ Some session → Still session → (own node ≡ Some session) × Lives session ⊎ ((at : ℕ) (mode : Mode) → after node at mode ≡ None))
       → ((node session at : ℕ) (mode : Mode) (block : Block) → now node ≡ Some session → Still session → after node at mode ≡ Some block → held node at mode ≡ Some block)
       → ((node : ℕ) → (later node ≡ hints node) ⊎ (later node ≡ no_hints))
@@ -135,7 +135,7 @@ module _ {T : Type 0} (Stands : Truth → Hints → T → Type 0) (Step : T → 
       by_hint node (inl same) = subst (λ (h : Hints). Stands truth h tree) (sym same) (stands.hinted node)
       by_hint node (inr none) = subst (λ (h : Hints). Stands truth h tree) (sym none) stands.is
 
-      by_doubt : (session : ℕ) (found : Option Doubt) → doubts session ≡ found → DoubtIn Stands Step HasRow old truth tree session found → DoubtIn Stands Step Row new truth tree session found
+      by_doubt : (session : ℕ) (found : Option Unacknowledged) → doubts session ≡ found → DoubtIn Stands Step HasRow old truth tree session found → DoubtIn Stands Step Row new truth tree session found
       by_doubt session None is kept = kept
       by_doubt session (Some doubt) is kept = (
         doubted session doubt is kept.0,
@@ -148,7 +148,7 @@ module _ {T : Type 0} (Stands : Truth → Hints → T → Type 0) (Step : T → 
       )
 
   -- A record in doubt is dropped: its session ended before its gate was written.
-  pub dropped : (holding : Holds) (HasRow Lives : ℕ → Type 0) (own : ℕ → Option ℕ) (held : ℕ → Held) (hints : ℕ → Hints) (old new : ℕ → Option Doubt) (truth : Truth) (tree : T) (session : ℕ)
+  pub dropped : (holding : Holds) (HasRow Lives : ℕ → Type 0) (own : ℕ → Option ℕ) (held : ℕ → Held) (hints : ℕ → Hints) (old new : ℕ → Option Unacknowledged) (truth : Truth) (tree : T) (session : ℕ)
       → VolumeStands Stands Step holding HasRow Lives own held hints old truth tree → OnlyOf session None old new
       → VolumeStands Stands Step holding HasRow Lives own held hints new truth tree
   dropped holding HasRow Lives own held hints old new truth tree session stands only = record {
@@ -164,13 +164,13 @@ module _ {T : Type 0} (Stands : Truth → Hints → T → Type 0) (Step : T → 
       by_test : (other : ℕ) (b : Bool) → eqb other session ≡ b → DoubtIn Stands Step HasRow holding truth tree other (new other)
       by_test other true same =
           let e : other ≡ session = grind (arith, nat_tests, same) in
-          subst (λ (o : Option Doubt). DoubtIn Stands Step HasRow holding truth tree other o) (sym (ap (λ (n : ℕ). new n) e ∙ only.here)) tt
+          subst (λ (o : Option Unacknowledged). DoubtIn Stands Step HasRow holding truth tree other o) (sym (ap (λ (n : ℕ). new n) e ∙ only.here)) tt
       by_test other false apart =
-          subst (λ (o : Option Doubt). DoubtIn Stands Step HasRow holding truth tree other o) (sym (only.others other (λ same. grind (arith, nat_tests, apart, same)))) (stands.in_doubt other)
+          subst (λ (o : Option Unacknowledged). DoubtIn Stands Step HasRow holding truth tree other o) (sym (only.others other (λ same. grind (arith, nat_tests, apart, same)))) (stands.in_doubt other)
 
   -- A record in doubt is acknowledged, or found in the log of a session that is dead: it leads to a next tree. The cache of the node
   -- whose live session it is of has the draft laid over it; the others are as they were.
-  pub acked : (holding : Holds) (HasRow Lives : ℕ → Type 0) (own : ℕ → Option ℕ) (old_held new_held : ℕ → Held) (hints : ℕ → Hints) (old new : ℕ → Option Doubt) (truth : Truth) (tree : T) (session : ℕ) (doubt : Doubt)
+  pub acked : (holding : Holds) (HasRow Lives : ℕ → Type 0) (own : ℕ → Option ℕ) (old_held new_held : ℕ → Held) (hints : ℕ → Hints) (old new : ℕ → Option Unacknowledged) (truth : Truth) (tree : T) (session : ℕ) (doubt : Unacknowledged)
       → VolumeStands Stands Step holding HasRow Lives own old_held hints old truth tree
       → old session ≡ Some doubt → OnlyOf session None old new
       → ((node other : ℕ) → own node ≡ Some other → Lives other → other ≢ session → new_held node ≡ old_held node)
@@ -191,7 +191,7 @@ module _ {T : Type 0} (Stands : Truth → Hints → T → Type 0) (Step : T → 
   )
     where
       its : HasRow session × DoubtStands Stands Step holding truth tree session doubt
-      its = subst (λ (o : Option Doubt). DoubtIn Stands Step HasRow holding truth tree session o) has (stands.in_doubt session)
+      its = subst (λ (o : Option Unacknowledged). DoubtIn Stands Step HasRow holding truth tree session o) has (stands.in_doubt session)
 
       works : Works Stands Step doubt.act doubt.draft truth tree
       works = its.1.works truth tree its.1.view.is_truth its.1.hinted
@@ -208,7 +208,7 @@ module _ {T : Type 0} (Stands : Truth → Hints → T → Type 0) (Step : T → 
           subst (λ (h : Held). ViewStands holding (with_draft truth doubt.draft) other h) (sym (others_held node other is lives ne))
           (others_stay holding HasRow truth other session (old_held node) doubt.draft stands.apart (stands.rows other lives) its.0 (λ same. ne (sym same)) (stands.views node other is lives) its.1.own)
 
-      by_one : (other : ℕ) → other ≢ session → (found : Option Doubt) → DoubtIn Stands Step HasRow holding truth tree other found → DoubtIn Stands Step HasRow holding (with_draft truth doubt.draft) works.next other found
+      by_one : (other : ℕ) → other ≢ session → (found : Option Unacknowledged) → DoubtIn Stands Step HasRow holding truth tree other found → DoubtIn Stands Step HasRow holding (with_draft truth doubt.draft) works.next other found
       by_one other ne None kept = kept
       by_one other ne (Some one) kept = (
         kept.0,
@@ -223,7 +223,7 @@ module _ {T : Type 0} (Stands : Truth → Hints → T → Type 0) (Step : T → 
       by_test : (other : ℕ) (b : Bool) → eqb other session ≡ b → DoubtIn Stands Step HasRow holding (with_draft truth doubt.draft) works.next other (new other)
       by_test other true same =
           let e : other ≡ session = grind (arith, nat_tests, same) in
-          subst (λ (o : Option Doubt). DoubtIn Stands Step HasRow holding (with_draft truth doubt.draft) works.next other o) (sym (ap (λ (n : ℕ). new n) e ∙ only.here)) tt
+          subst (λ (o : Option Unacknowledged). DoubtIn Stands Step HasRow holding (with_draft truth doubt.draft) works.next other o) (sym (ap (λ (n : ℕ). new n) e ∙ only.here)) tt
       by_test other false apart =
           let ne : other ≢ session = λ same. grind (arith, nat_tests, apart, same) in
-          subst (λ (o : Option Doubt). DoubtIn Stands Step HasRow holding (with_draft truth doubt.draft) works.next other o) (sym (only.others other ne)) (by_one other ne (old other) (stands.in_doubt other))
+          subst (λ (o : Option Unacknowledged). DoubtIn Stands Step HasRow holding (with_draft truth doubt.draft) works.next other o) (sym (only.others other ne)) (by_one other ne (old other) (stands.in_doubt other))

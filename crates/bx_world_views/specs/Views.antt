@@ -3,7 +3,7 @@ use Rattle.std.specs.Prelude.{◌≡◌, ◌≢◌, ◌⊎◌, ℕ, List, Option
 use Rattle.bx_base.specs.declared.names.Mode.{Mode}
 use Rattle.bx_base.specs.declared.names.Mode.TheVariants.{Shared, Exclusive}
 use Rattle.bx_views.specs.bx_records.specs.Drafts.{Block, Changed, block_in}
-use Rattle.bx_views.specs.Attempts.{Deed, Leads}
+use Rattle.bx_views.specs.Attempts.{Deed, DraftLeads}
 use Rattle.bx_views.specs.Truths.{Truth, Held, Hints, IsTruth, no_hints}
 use Rattle.bx_facts.specs.Holds.{Hold, Holds}
 
@@ -23,7 +23,7 @@ pub record ViewStands (holding : Holds) (truth : Truth) (session : ℕ) (held : 
   pub holds : (at : ℕ) (mode : Mode) (block : Block) → held at mode ≡ Some block → Allows (holding session at) mode
 
 -- The blocks of a draft are the session's own.
-pub record IsOwned (holding : Holds) (session : ℕ) (draft : List Changed) : Type 0 where
+pub record IsDraftHeld (holding : Holds) (session : ℕ) (draft : List Changed) : Type 0 where
   pub each : (at : ℕ) (block : Block) → block_in draft at ≡ Some block → Allows (holding session at) Exclusive
 
 -- a view once a draft is laid over it: what the draft has, it has so, and the rest as before
@@ -42,7 +42,7 @@ pub data Act : Type 0 where
   OfTidy : Act
 
 -- a record that was begun and isn't acknowledged: of which call it is (0: of none), and the view over which it was attempted
-pub record Doubt : Type 0 where
+pub record Unacknowledged : Type 0 where
   pub call : ℕ
   pub act : Act
   pub draft : List Changed
@@ -58,21 +58,21 @@ module _ {T : Type 0} (Stands : Truth → Hints → T → Type 0) (Step : T → 
   pub record Works (act : Act) (draft : List Changed) (truth : Truth) (tree : T) : Type 0 where
     pub next : T
     pub step : StepOf act tree next
-    pub leads : Leads Stands truth draft tree next
+    pub leads : DraftLeads Stands truth draft tree next
 
   -- A record in doubt works over each truth that agrees with its view; its blocks are the session's own; and its view stands.
-  pub record DoubtStands (holding : Holds) (truth : Truth) (tree : T) (session : ℕ) (doubt : Doubt) : Type 0 where
+  pub record DoubtStands (holding : Holds) (truth : Truth) (tree : T) (session : ℕ) (doubt : Unacknowledged) : Type 0 where
     pub view : ViewStands holding truth session doubt.held
     pub hinted : Stands truth doubt.hints tree
-    pub own : IsOwned holding session doubt.draft
+    pub own : IsDraftHeld holding session doubt.draft
     pub works : (other : Truth) (t : T) → IsTruth doubt.held other → Stands other doubt.hints t → Works doubt.act doubt.draft other t
 
-  abbrev pub DoubtIn : (ℕ → Type 0) → Holds → Truth → T → ℕ → Option Doubt → Type 0
+  abbrev pub DoubtIn : (ℕ → Type 0) → Holds → Truth → T → ℕ → Option Unacknowledged → Type 0
   DoubtIn HasRow holding truth tree session found = IfSome found (λ doubt. HasRow session × DoubtStands holding truth tree session doubt)
 
   -- The truth stands for the tree. The view of each node whose session is live stands; and so does each record in doubt, of which a
   -- session with a row has at most one. (`own` says whose session a node's is, `held` and `hints` what its cache shows.)
-  pub record VolumeStands (holding : Holds) (HasRow Lives : ℕ → Type 0) (own : ℕ → Option ℕ) (held : ℕ → Held) (hints : ℕ → Hints) (doubts : ℕ → Option Doubt) (truth : Truth) (tree : T) : Type 0 where
+  pub record VolumeStands (holding : Holds) (HasRow Lives : ℕ → Type 0) (own : ℕ → Option ℕ) (held : ℕ → Held) (hints : ℕ → Hints) (doubts : ℕ → Option Unacknowledged) (truth : Truth) (tree : T) : Type 0 where
     pub is : Stands truth no_hints tree
     pub apart : AreApart holding HasRow
     pub rows : (session : ℕ) → Lives session → HasRow session

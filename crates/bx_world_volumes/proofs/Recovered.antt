@@ -27,7 +27,7 @@ use Rattle.bx_world_standing.specs.bx_world_logs.proofs.Activities.{opens_begins
 use Rattle.bx_world_images.proofs.Images.{in_log}
 use Rattle.bx_world_standing.specs.bx_world_logs.proofs.Moving.{slot_here, slot_there, with_slot}
 use Rattle.bx_world_images.proofs.Settling.{Settles, found_slot, settles}
-use Rattle.bx_world_views.specs.Views.{Doubt, StepOf, VolumeStands}
+use Rattle.bx_world_views.specs.Views.{Unacknowledged, StepOf, VolumeStands}
 use Rattle.bx_world_views.proofs.Doubts.{without_doubt, without_only}
 use Rattle.bx_world_views.proofs.Steps.{acked, dropped}
 use Rattle.bx_world_standing.specs.Rights.{OfHeld, OfLogged, MayTouch, OfSlot}
@@ -40,7 +40,7 @@ a_run logs slots slot run truth next (inl is) = inl is.0
 a_run logs slots slot run truth next (inr (inl is)) = inr (inl (is.0, is.1))
 a_run logs slots slot run truth next (inr (inr is)) = inr (inr (is.0, is.1))
 
-doubt_of : (found : Option Doubt) (P : Doubt → Type 0) → IsSomeAnd found P → (doubt : Doubt) × (found ≡ Some doubt) × P doubt
+doubt_of : (found : Option Unacknowledged) (P : Unacknowledged → Type 0) → IsSomeAnd found P → (doubt : Unacknowledged) × (found ≡ Some doubt) × P doubt
 doubt_of None P is = absurd is
 doubt_of (Some doubt) P is = (doubt, refl, is)
 
@@ -148,10 +148,10 @@ module _ {G O S T : Type 0} (g : register.Ghosts G) (o : owners.Ghosts O) (st : 
       each who row is begun (inr differ) =
           let there = slot_there c.slots slot row.slot (found_slot (c.slots slot)) differ in
           subst (λ (s : Slot). IsSomeAnd (without_doubt c.doubts gone who) (IsRecordOf s.more)) (sym there)
-          (subst (λ (found : Option Doubt). IsSomeAnd found (IsRecordOf (c.slots row.slot).more)) (sym ((without_only c.doubts gone).others who (λ e. differ (its_slot who row is e))))
+          (subst (λ (found : Option Unacknowledged). IsSomeAnd found (IsRecordOf (c.slots row.slot).more)) (sym ((without_only c.doubts gone).others who (λ e. differ (its_slot who row is e))))
           (at.doubted.each who row is (subst (λ (s : Slot). begins s.activity ≡ true) there begun)))
 
-      only : (who : ℕ) (doubt : Doubt) → without_doubt c.doubts gone who ≡ Some doubt → (who ≡ gone) ⊎ (who ≢ gone)
+      only : (who : ℕ) (doubt : Unacknowledged) → without_doubt c.doubts gone who ≡ Some doubt → (who ≡ gone) ⊎ (who ≢ gone)
           → (row : SessionRow) × (row_in (last c.register.chain).sessions who ≡ Some row) × (begins (with_slot c.slots slot (found_slot (c.slots slot)) row.slot).activity ≡ true)
       only who doubt is (inl it) = absurd (let e : without_doubt c.doubts gone who ≡ None = ap (without_doubt c.doubts gone) it ∙ (without_only c.doubts gone).here in cc)
       only who doubt is (inr differ) =
@@ -166,7 +166,7 @@ module _ {G O S T : Type 0} (g : register.Ghosts G) (o : owners.Ghosts O) (st : 
 
   -- It is as it was; or it is that after the record that was in doubt.
   abbrev pub IsSettledTo : T → Type 0
-  IsSettledTo next = (next ≡ tree) ⊎ ((doubt : Doubt) × (c.doubts gone ≡ Some doubt) × (opens (c.slots slot).activity ≡ true) × StepOf Stands Step doubt.act tree next)
+  IsSettledTo next = (next ≡ tree) ⊎ ((doubt : Unacknowledged) × (c.doubts gone ≡ Some doubt) × (opens (c.slots slot).activity ≡ true) × StepOf Stands Step doubt.act tree next)
 
   abbrev Then : Truth → T → Type 0
   Then truth next = VolumeStands Stands Step c.owners.holding (HasRow (last c.register.chain)) (LivesIn (last c.register.chain)) (own_up known.clocks.down (o.own owners_are)) known.held known.hints (without_doubt c.doubts gone) truth next
@@ -197,7 +197,7 @@ module _ {G O S T : Type 0} (g : register.Ghosts G) (o : owners.Ghosts O) (st : 
       by (inr (inr is)) = stays_so is.2
       by (inr (inl is)) = (done.0, inr (mine.0, mine.1, is.0, done.1), subst (λ (t : Truth). Then t done.0) (sym (is.2 ∙ ap (with_draft c.truth) mine.2.draft)) done.2)
         where
-          mine : (doubt : Doubt) × (c.doubts gone ≡ Some doubt) × IsRecordOf (c.slots slot).more doubt
+          mine : (doubt : Unacknowledged) × (c.doubts gone ≡ Some doubt) × IsRecordOf (c.slots slot).more doubt
           mine = doubt_of (c.doubts gone) (IsRecordOf (c.slots slot).more) (subst (λ (k : ℕ). IsSomeAnd (c.doubts gone) (IsRecordOf (c.slots k).more)) entitled.at
               (at.doubted.each gone entitled.row entitled.is (subst (λ (k : ℕ). begins (c.slots k).activity ≡ true) (sym entitled.at) (opens_begins (c.slots slot).activity is.0))))
 

@@ -19,7 +19,7 @@ use Rattle.bx_world_chains.proofs.Rows.{all_row, number_is}
 use Rattle.bx_world_standing.specs.bx_world_logs.specs.Logs.{LogsStand, Slot, SlotStands, begins, opens}
 use Rattle.bx_world_standing.specs.bx_world_logs.proofs.Activities.{opens_begins}
 use Rattle.bx_world_standing.specs.bx_world_logs.specs.Shown.{ShowsSlot, ShowsTo}
-use Rattle.bx_world_views.specs.Views.{Doubt, StepOf, VolumeStands}
+use Rattle.bx_world_views.specs.Views.{Unacknowledged, StepOf, VolumeStands}
 use Rattle.bx_world_views.proofs.Doubts.{without_doubt, without_only}
 use Rattle.bx_world_views.proofs.Steps.{acked}
 use Rattle.bx_world_standing.specs.Doubts.{DoubtsStand, IsRecordOf}
@@ -46,7 +46,7 @@ row_at (first ∷ rows) next slot rising taken = by (first.slot == slot) refl (�
     by true e rest = record { session = first.number; row = first; is = rw (eq_true first.number first.number refl) refl; at = grind (arith, nat_tests, e) }
     by false e rest = let found = rest (rw e at taken) in apart found (eqb first.number found.session) refl
 
-some_doubt : (found : Option Doubt) (P : Doubt → Type 0) → IsSomeAnd found P → (doubt : Doubt) × (found ≡ Some doubt) × P doubt
+some_doubt : (found : Option Unacknowledged) (P : Unacknowledged → Type 0) → IsSomeAnd found P → (doubt : Unacknowledged) × (found ≡ Some doubt) × P doubt
 some_doubt None P is = absurd is
 some_doubt (Some doubt) P is = (doubt, refl, is)
 
@@ -61,17 +61,17 @@ unhinted node = no_hints
 
 module _ {T : Type 0} (Stands : Truth → Hints → T → Type 0) (Step : T → Deed → T → Type 0) (Sure : ℕ → ℕ → List ℕ → Type 0) (devices areas : ℕ) (s : GlobalState) (allowed : IsAllowed s)
     (before : Image) (logs : Logs) (slots : ℕ → Slot) (truth : Truth) (st : LogsStand Sure devices areas s.sessions before logs slots truth)
-    (holding : Holds) (doubts : ℕ → Option Doubt) (doubted : DoubtsStand s.sessions slots doubts)
-    (After : T → Type 0) (goes : (session : ℕ) (row : SessionRow) (doubt : Doubt) (old new : T) → row_in s.sessions session ≡ Some row → opens (slots row.slot).activity ≡ true → doubts session ≡ Some doubt → After old → StepOf Stands Step doubt.act old new → After new) where
+    (holding : Holds) (doubts : ℕ → Option Unacknowledged) (doubted : DoubtsStand s.sessions slots doubts)
+    (After : T → Type 0) (goes : (session : ℕ) (row : SessionRow) (doubt : Unacknowledged) (old new : T) → row_in s.sessions session ≡ Some row → opens (slots row.slot).activity ≡ true → doubts session ≡ Some doubt → After old → StepOf Stands Step doubt.act old new → After new) where
   -- what stands of the volume, with no node
-  abbrev pub Alone : (ℕ → Option Doubt) → Truth → T → Type 0
+  abbrev pub Alone : (ℕ → Option Unacknowledged) → Truth → T → Type 0
   Alone left other tree = VolumeStands Stands Step holding (HasRow s) (LivesIn s) nobody nothing unhinted left other tree
 
   -- so far: a tree that comes after, and the doubts of slots from here on are left
   pub record SoFar (n : ℕ) (other : Truth) : Type 0 where
     pub tree : T
     pub after : After tree
-    pub left : ℕ → Option Doubt
+    pub left : ℕ → Option Unacknowledged
     pub same : (session : ℕ) (row : SessionRow) → row_in s.sessions session ≡ Some row → n ≤ row.slot → left session ≡ doubts session
     pub stands : Alone left other tree
 
@@ -93,7 +93,7 @@ module _ {T : Type 0} (Stands : Truth → Hints → T → Type 0) (Step : T → 
       its : RowAt s.sessions n
       its = row_at s.sessions s.next_session n allowed.rising (is_open n less is.0)
 
-      mine : (doubt : Doubt) × (doubts its.session ≡ Some doubt) × IsRecordOf (slots its.row.slot).more doubt
+      mine : (doubt : Unacknowledged) × (doubts its.session ≡ Some doubt) × IsRecordOf (slots its.row.slot).more doubt
       mine = some_doubt (doubts its.session) (IsRecordOf (slots its.row.slot).more)
           (doubted.each its.session its.row its.is (subst (λ (k : ℕ). begins (slots k).activity ≡ true) (sym its.at) (opens_begins (slots n).activity is.0)))
 

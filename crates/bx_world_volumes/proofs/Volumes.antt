@@ -25,7 +25,7 @@ use Rattle.bx_volume.specs.Overlay.{Logs}
 use Rattle.bx_world_standing.specs.bx_world_logs.specs.Logs.{LogsStand, opens}
 use Rattle.bx_world_standing.specs.bx_world_logs.specs.Shown.{ShowsTo}
 use Rattle.bx_world_images.proofs.Audited.{audit_stands}
-use Rattle.bx_world_views.specs.Views.{Doubt, StepOf}
+use Rattle.bx_world_views.specs.Views.{Unacknowledged, StepOf}
 use Rattle.bx_world_standing.specs.Rights.{IsWithin, Surely}
 use Rattle.bx_world_standing.specs.Sessions.{IsOfNode}
 use Rattle.bx_world_standing.proofs.Owns.{of_before}
@@ -47,15 +47,15 @@ pub record AreTrees (Stands : Truth → Hints → Tree → Type 0) (areas volume
   pub each : (truth : Truth) (tree : Tree) → Stands truth no_hints tree → StandsFor areas truth tree × IsFileTree tree × (tree.volume ≡ volume)
 
 -- trees that come after one another by records in doubt
-pub record IsAfter (Stands : Truth → Hints → Tree → Type 0) (Step : Tree → Deed → Tree → Type 0) (doubts : ℕ → Option Doubt) (After : Tree → Tree → Type 0) : Type 0 where
+pub record IsAfter (Stands : Truth → Hints → Tree → Type 0) (Step : Tree → Deed → Tree → Type 0) (doubts : ℕ → Option Unacknowledged) (After : Tree → Tree → Type 0) : Type 0 where
   pub here : (tree : Tree) → After tree tree
-  pub goes : (first old new : Tree) (session : ℕ) (doubt : Doubt) → doubts session ≡ Some doubt → After first old → StepOf Stands Step doubt.act old new → After first new
+  pub goes : (first old new : Tree) (session : ℕ) (doubt : Unacknowledged) → doubts session ≡ Some doubt → After first old → StepOf Stands Step doubt.act old new → After first new
 
 -- A truth that an image shows stands for a tree that comes after this one, by what the records in doubt do whose gates may be open.
 pub shown_after : {G O S T : Type 0} (g : register.Ghosts G) (o : owners.Ghosts O) (st : store.Ghosts S) (Stands : Truth → Hints → T → Type 0) (Step : T → Deed → T → Type 0)
     (register_is : G) (owners_are : O) (store_is : S) (x : Disks) (known : Known) (c : Course) (tree : T) → StandsAt g o st Stands Step register_is owners_are store_is x known c tree → AreAllowed c.register.chain
     → (After : T → Type 0) → After tree
-    → ((session : ℕ) (row : SessionRow) (doubt : Doubt) (old new : T) → row_in (last c.register.chain).sessions session ≡ Some row → opens (c.slots row.slot).activity ≡ true → c.doubts session ≡ Some doubt → After old → StepOf Stands Step doubt.act old new → After new)
+    → ((session : ℕ) (row : SessionRow) (doubt : Unacknowledged) (old new : T) → row_in (last c.register.chain).sessions session ≡ Some row → opens (c.slots row.slot).activity ≡ true → c.doubts session ≡ Some doubt → After old → StepOf Stands Step doubt.act old new → After new)
     → (shown : Logs) (last_truth : Truth) → ShowsTo c.logs c.slots 8 shown c.truth last_truth → (after : T) × After after × Stands last_truth no_hints after
 shown_after g o st Stands Step register_is owners_are store_is x known c tree at allowed After here goes shown last_truth shows =
     trees_after Stands Step (SureOf g o st Stands Step register_is owners_are store_is x known c) (st.made store_is).devices (st.made store_is).areas (last c.register.chain) (allowed.each (last c.register.chain) (last_place c.register.chain))

@@ -10,7 +10,7 @@ use Rattle.bx_blink.specs.Places.{IsPlaceOf}
 use Rattle.bx_blink.specs.Walks.{reads_with}
 use Rattle.bx_blink.proofs.Found.{place as place_found}
 use Rattle.bx_blink.proofs.Under.{agrees}
-use Rattle.bx_chunks.specs.Allocating.{Adds, AllocatesAt}
+use Rattle.bx_chunks.specs.Allocating.{AddsChunk, AllocatesAt}
 use Rattle.bx_chunks.specs.Putting.{empty_of}
 use Rattle.bx_chunks.proofs.Allocates.{allocates_in}
 use Rattle.bx_entries.specs.bx_dirs.proofs.Edited.{Edited, HasPageAt, edited_by}
@@ -33,7 +33,7 @@ use Rattle.bx_page.specs.Contents.{Contents, above, below, size, value_of, with_
 use Rattle.bx_page.specs.Keys.{is_below}
 use Rattle.bx_page.proofs.Room.{size_with-le}
 use Rattle.bx_entries.specs.bx_ready.proofs.Spare.{taken_less}
-use Rattle.bx_entries.specs.bx_ready.specs.Rooms.{HasRoom}
+use Rattle.bx_entries.specs.bx_ready.specs.Rooms.{LeafHasRoom}
 use Rattle.bx_records.specs.Drafts.{Changed, with_block}
 use Rattle.bx_tree_files.specs.declared.file.File.{File}
 use Rattle.bx_truth.specs.Chunks.{block_at, chunks_of, own_block, word_at}
@@ -65,7 +65,7 @@ module _ (areas near : ℕ) (held : Held) (hints : Hints) (truth : Truth) (tree 
     (w : IsWritten areas held truth tree handle file pages inode base next rest (index + 1) taken old)
     (names : ℕ) (block : Block) (none : value_of (map_of pages) (content_key index) ≡ None)
     (header : block.handle ≡ names) (kind : block.kind ≡ 3) (takes : AllocatesAt held old one near areas (Ok names)) (put : two ≡ with_block one (block_at names) block) where
-  a : Adds areas (with_draft truth old) (with_draft truth one) names
+  a : AddsChunk areas (with_draft truth old) (with_draft truth one) names
   a = allocates_in areas near held truth old one few same w.stands.chunked (Ok names) takes
 
   chunk_one : (h : ℕ) → h ≢ names → chunks_of areas (with_draft truth one) h ≡ chunks_of areas (with_draft truth old) h
@@ -289,7 +289,7 @@ module _ (areas near : ℕ) (held : Held) (hints : Hints) (truth : Truth) (tree 
         let value : length (content_value names) ≡ 8 = refl in
         omega (arith, some_left, key, value, size_with-le inserts.page (content_key index) (content_value names))
 
-    space_now : (i : ℕ) → i < index → HasRoom pages (content_key i) → HasSpace held m.after (content_key i) (544 - 17 * (taken + 1))
+    space_now : (i : ℕ) → i < index → LeafHasRoom pages (content_key i) → HasSpace held m.after (content_key i) (544 - 17 * (taken + 1))
     space_now i less room =
         space_stays (chunks_of areas (with_draft truth two)) (chunks_of areas (with_draft truth new)) inode.tree held w.after under_two.is (content_key index) inserts.handle inserts.page
         (with_value inserts.page (content_key index) (content_value names)) inserts.puts.block at_leaf leaf_anew inserts.puts.has refl refl refl lowest (content_key i) (544 - 17 * taken) (544 - 17 * (taken + 1))

@@ -12,7 +12,7 @@ use Rattle.bx_chunks.specs.Allocating.{AllocatesAt, NeedsFairly}
 use Rattle.bx_chunks.specs.Taking.{NoSlots}
 use Rattle.bx_chunks.specs.declared.error.ChunkError.{ChunkError}
 use Rattle.bx_chunks.specs.declared.error.ChunkError.TheVariants as chunk
-use Rattle.bx_files.specs.Paths.{Finds}
+use Rattle.bx_files.specs.Paths.{LandsAtValue}
 use Rattle.bx_layout.specs.declared.inode.Inode.{Inode}
 use Rattle.bx_leaves.specs.Changes.{NeedsUnheld}
 use Rattle.bx_leaves.specs.Leaves.{InsertsAt, OnLeafPath}
@@ -90,11 +90,11 @@ alone_full Holds handle inode (Err (Stopped stop)) a = tt
 alone_full Holds handle inode (Err (Full spare)) a = absurd a
 
 module _ (held : Held) (hints : Hints) (near areas handle root index count : ℕ) (some : 0 < count) where
-  pub first_full : (error : ChangeError) → IfFull (λ spare. Finds held hints root (content_key index) None × NoSlots held near areas [] spare) error → IfFull (LacksSlot held hints near areas handle root index (index + count)) error
+  pub first_full : (error : ChangeError) → IfFull (λ spare. LandsAtValue held hints root (content_key index) None × NoSlots held near areas [] spare) error → IfFull (LacksSlot held hints near areas handle root index (index + count)) error
   first_full (Stopped stop) f = tt
   first_full (Full spare) f = record { index = index; above = omega arith; below = omega (arith, some); missing = f.0; none = inl f.1 }
 
-  pub put_full : (result : Result (List Changed) ChangeError) → IfErr result (IfFull (λ spare. Finds held hints root (content_key index) None × NoneLeft held hints near areas handle root spare))
+  pub put_full : (result : Result (List Changed) ChangeError) → IfErr result (IfFull (λ spare. LandsAtValue held hints root (content_key index) None × NoneLeft held hints near areas handle root spare))
       → IfErr result (IfFull (LacksSlot held hints near areas handle root index (index + count)))
   put_full (Ok draft) f = tt
   put_full (Err (Stopped stop)) f = tt

@@ -5,7 +5,7 @@ use Rattle.bx_blink.specs.Walks.{reads_with}
 use Rattle.bx_chunks.specs.Allocating.{AllocatesAt}
 use Rattle.bx_chunks.specs.Taking.{NoSlots}
 use Rattle.bx_chunks.specs.declared.error.ChunkError.TheVariants.{Need, Full}
-use Rattle.bx_files.specs.Paths.{Finds}
+use Rattle.bx_files.specs.Paths.{LandsAtValue}
 use Rattle.bx_inodes.specs.Writing.{PutsInode}
 use Rattle.bx_layout.specs.declared.inode.Inode.{Inode}
 use Rattle.bx_leaves.specs.Leaves.{InsertsAt, OnLeafPath}
@@ -26,7 +26,7 @@ pub record TakesPiece (held : Held) (near areas : ℕ) (old new : List Changed) 
 -- the view finds, and such that take a slot near an area and get an entry in the tree.
 pub data IsLaid (held : Held) (hints : Hints) (near areas handle root : ℕ) : List Changed → Type 0 where
   alone : (new : List Changed) (inode : Inode) → inode.tree ≡ root → PutsInode [] new handle inode → IsLaid held hints near areas handle root new
-  over : (old new : List Changed) (index : ℕ) (value payload : List ℕ) → IsLaid held hints near areas handle root old → Finds held hints root (content_key index) (Some value)
+  over : (old new : List Changed) (index : ℕ) (value payload : List ℕ) → IsLaid held hints near areas handle root old → LandsAtValue held hints root (content_key index) (Some value)
       → PutsBlock old (handle_in value) payload new → IsLaid held hints near areas handle root new
   anew : (old mid new : List Changed) (index names : ℕ) → IsLaid held hints near areas handle root old → TakesPiece held near areas old mid names
       → InsertsAt held hints mid new root (content_key index) (content_value names) (Ok tt) → IsLaid held hints near areas handle root new
@@ -45,13 +45,13 @@ NoneLeft held hints near areas handle root spare =
 
 -- what a search over the view finds of a piece: the number of its block's handle, if it has one
 abbrev pub FoundBy : Held → Hints → ℕ → ℕ → Option ℕ → Type 0
-FoundBy held hints root index (Some names) = (value : List ℕ) × Finds held hints root (content_key index) (Some value) × (names ≡ handle_in value)
-FoundBy held hints root index None = Finds held hints root (content_key index) None
+FoundBy held hints root index (Some names) = (value : List ℕ) × LandsAtValue held hints root (content_key index) (Some value) × (names ≡ handle_in value)
+FoundBy held hints root index None = LandsAtValue held hints root (content_key index) None
 
 -- a piece with an index from one on, below another, isn't there, and no slot is left for it
 pub record LacksSlot (held : Held) (hints : Hints) (near areas handle root from end spare : ℕ) : Type 0 where
   pub index : ℕ
   pub above : from ≤ index
   pub below : index < end
-  pub missing : Finds held hints root (content_key index) None
+  pub missing : LandsAtValue held hints root (content_key index) None
   pub none : NoneLeft held hints near areas handle root spare

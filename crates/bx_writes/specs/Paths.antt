@@ -3,7 +3,7 @@ use Rattle.std.specs.Prelude.{◌≡◌, ℕ, ◌+◌, ◌/◌, ◌%◌, ◌<◌
 use Rattle.bx_base.specs.declared.names.Mode.{Mode}
 use Rattle.bx_base.specs.declared.names.Mode.TheVariants.{Exclusive}
 use Rattle.bx_blink.specs.Walks.{reads_with}
-use Rattle.bx_files.specs.Paths.{Finds, OnSearch}
+use Rattle.bx_files.specs.Paths.{LandsAtValue, OnSearch}
 use Rattle.bx_places.specs.Handles.{named, parts_of}
 use Rattle.bx_inodes.specs.Inodes.{LiveAt}
 use Rattle.bx_inodes.specs.Stops.{OnInode}
@@ -20,7 +20,7 @@ use Rattle.bx_writes.specs.Laying.{pieces_of}
 -- a search for the piece with an index finds this block's handle, exclusively
 pub record IsWrittenBlock (held : Held) (hints : Hints) (root index at : ℕ) (mode : Mode) : Type 0 where
   pub value : List ℕ
-  pub found : Finds held hints root (content_key index) (Some value)
+  pub found : LandsAtValue held hints root (content_key index) (Some value)
   pub at_is : at ≡ block_at (handle_in value)
   pub mode_is : mode ≡ Exclusive
 

@@ -8,7 +8,7 @@ use Rattle.bx_layout.specs.declared.block.Block.{Block}
 use Rattle.bx_layout.specs.declared.inode.Inode.{Inode}
 use Rattle.bx_model.specs.declared.tree.Tree.{Tree}
 use Rattle.bx_page.specs.Contents.{value_of}
-use Rattle.bx_entries.specs.bx_ready.specs.Rooms.{HasRoom}
+use Rattle.bx_entries.specs.bx_ready.specs.Rooms.{LeafHasRoom}
 use Rattle.bx_records.specs.Drafts.{Changed}
 use Rattle.bx_tree_files.specs.declared.file.Body.TheVariants.{Bytes}
 use Rattle.bx_tree_files.specs.declared.file.File.{File}
@@ -30,7 +30,7 @@ pub record LeavesBelow (areas : ℕ) (held : Held) (truth : Truth) (draft : List
   pub values : (index : ℕ) → index < first → value_of (map_of after) (content_key index) ≡ value_of (map_of pages) (content_key index)
   pub blocks : (index : ℕ) (value : List ℕ) (block : Block) → index < first → value_of (map_of pages) (content_key index) ≡ Some value → chunks_of areas truth (handle_in value) ≡ Some block
       → chunks_of areas (with_draft truth draft) (handle_in value) ≡ Some block
-  pub spaces : (index : ℕ) → index < first → HasRoom pages (content_key index) → HasSpace held after (content_key index) (544 - 17 * taken)
+  pub spaces : (index : ℕ) → index < first → LeafHasRoom pages (content_key index) → HasSpace held after (content_key index) (544 - 17 * taken)
 
 -- The truth with the draft stands for the tree with the file, over whose bytes others are written from a place on. It has this inode, at most
 -- so many slots fewer are free, and all hints that fitted still fit.

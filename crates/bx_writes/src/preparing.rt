@@ -2,7 +2,7 @@
 
 ghost use Rattle.std.specs.Prelude.{◌≡◌, ◌+◌, ◌≤◌, ◌<◌, ℕ, [], IfOk, IfErr, None, length};
 ghost use Rattle.bx_changes.specs.Procedures.{HoldsFirst, IfFull, NeedsBy, NoSlots, TakesSlots, Tree, Truth};
-ghost use Rattle.bx_files.specs.Paths.{Finds};
+ghost use Rattle.bx_files.specs.Paths.{LandsAtValue};
 ghost use Rattle.bx_layout.specs.declared.inode.Inode.{Inode as Kept};
 ghost use Rattle.bx_truth.specs.Keys.{content_key as key_of_content};
 ghost use Rattle.bx_entries.specs.Lacking.{IfFirst};
@@ -47,7 +47,7 @@ pub(crate) fn prepare<V: View>(
         → IfOk result (λ made. FindsEntry near.1 truth root place.0) }
     ensures need { IfErr result (NeedsBy near.1 (V.held view.now) (OnPrepared near.0 near.1 (V.held view.now) (V.hints view.now) root place.0)) }
     ensures known { IfOk result (λ made. FoundBy (V.held view.now) (V.hints view.now) root place.0 made.0) }
-    ensures full { IfErr result (IfFull (λ spare. Finds (V.held view.now) (V.hints view.now) root (key_of_content place.0) None × NoSlots (V.held view.now) near.0 near.1 [] spare)) }
+    ensures full { IfErr result (IfFull (λ spare. LandsAtValue (V.held view.now) (V.hints view.now) root (key_of_content place.0) None × NoSlots (V.held view.now) near.0 near.1 [] spare)) }
     ensures taken { IfErr result (IfFirst (TakesSlots (V.held view.now) near.0 near.1 [])) }
     ensures first { IfErr result (HoldsFirst (V.held view.now)) }
     ensures held { IfOk result (λ made. HoldsPrepared (V.held view.now) made.0) }

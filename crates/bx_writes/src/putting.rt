@@ -2,7 +2,7 @@
 
 ghost use Rattle.std.specs.Prelude.{◌≡◌, ◌+◌, ◌*◌, ◌≤◌, ◌<◌, ◌++◌, ℕ, List, IfOk, IfErr, None, length};
 ghost use Rattle.bx_changes.specs.Procedures.{File, IfFull, IsHeldDraft, NeedsBy, NeverFirst, Tree, Truth};
-ghost use Rattle.bx_files.specs.Paths.{Finds};
+ghost use Rattle.bx_files.specs.Paths.{LandsAtValue};
 ghost use Rattle.bx_layout.specs.declared.inode.Inode.{Inode as Kept};
 ghost use Rattle.bx_truth.specs.Keys.{content_key as content_key_of};
 ghost use Rattle.bx_truth.specs.PageTrees.{PageTree};
@@ -47,7 +47,7 @@ pub(crate) fn put_piece<V: View>(
     ensures need { (handle : ℕ) → IsLaid (V.held view.now) (V.hints view.now) near.0 near.1 handle root draft
         → IfErr result (NeedsBy near.1 (V.held view.now) (OnAnew (V.held view.now) (V.hints view.now) near.0 near.1 handle root index)) }
     ensures full { (handle : ℕ) → FoundBy (V.held view.now) (V.hints view.now) root index prepared.0 → IsLaid (V.held view.now) (V.hints view.now) near.0 near.1 handle root draft
-        → IfErr result (IfFull (λ spare. Finds (V.held view.now) (V.hints view.now) root (content_key_of index) None × NoneLeft (V.held view.now) (V.hints view.now) near.0 near.1 handle root spare)) }
+        → IfErr result (IfFull (λ spare. LandsAtValue (V.held view.now) (V.hints view.now) root (content_key_of index) None × NoneLeft (V.held view.now) (V.hints view.now) near.0 near.1 handle root spare)) }
     ensures laid { (handle : ℕ) → FoundBy (V.held view.now) (V.hints view.now) root index prepared.0 → IsLaid (V.held view.now) (V.hints view.now) near.0 near.1 handle root draft
         → IfOk result (IsLaid (V.held view.now) (V.hints view.now) near.0 near.1 handle root) }
     ensures inner { IfErr result NeverFirst }

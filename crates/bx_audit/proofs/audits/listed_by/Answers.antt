@@ -1,6 +1,6 @@
 use Rattle.std.proofs.Common.{◌⊎◌, ⊎_elim, inl, inr, Err, ap, sym, subst, ◌∙◌}
 use Rattle.std.proofs.lemmas.Result.{err_from_is_err_and}
-use Rattle.bx_audit.specs.Audited.{IsRefusal}
+use Rattle.bx_audit.specs.Audited.{IsAuditRefusal}
 use Rattle.bx_audit.specs.Blocks.{IsTornBlock, StandForNoTree, blocks_of}
 use Rattle.bx_audit.proofs.Shown.{are_open, if_err, none_stands, refused, stand_for, wrong_blocks}
 use Rattle.bx_audit.specs.Walked.{AreHeaded, AreMet, IsRightFromRoot, IsWrongFromRoot}
@@ -23,7 +23,7 @@ returns-in_err-read-clause-err g c = λ tells.
     let disks = g.R.Rack.state c.args.rack.now in
     let state = c.args.state.now in
     let error = c.in_err-read.field-0.0 in
-    if_err (λ (e : AuditError). IsBreak e ⊎ IsRefusal disks state e) error c.from_residual.result (p.1 ∙ ap Err p.2)
+    if_err (λ (e : AuditError). IsBreak e ⊎ IsAuditRefusal disks state e) error c.from_residual.result (p.1 ∙ ap Err p.2)
     (⊎_elim (λ broke. inl broke) (λ why. inr (refused disks state error (c.refused_disks_show_no_tree.ensures disks state error) why)) (c.in_err-read.ensures.err tells))
 
 pub returns-in_err-tree-clause-err : goal.returns-in_err-tree-clause-err
@@ -48,7 +48,7 @@ returns-in_err-tree-clause-err g c = λ tells.
     let same_then = c.in_ok-walked.ensures.rack.stays ∙ c.in_ok-read.ensures.stays in
     let error = c.in_err-tree.field-0.0 in
     let why = subst (λ (d : Disks). IsBreak error ⊎ (IsTornBlock read.members.areas (blocks_of d read) error × StandForNoTree read.members.areas (blocks_of d read))) same_then (c.in_err-tree.ensures.err keeps_then started) in
-    if_err (λ (e : AuditError). IsBreak e ⊎ IsRefusal disks state e) error c.from_residual-in_err-tree.result (p.1 ∙ ap Err p.2)
+    if_err (λ (e : AuditError). IsBreak e ⊎ IsAuditRefusal disks state e) error c.from_residual-in_err-tree.result (p.1 ∙ ap Err p.2)
     (⊎_elim (λ broke. inl broke) (λ torn. inr (wrong_blocks disks state read is blocks truth_of one error (inr record { right = right; why = torn.0 }) (none_stands disks state read is blocks truth_of one torn.1))) why)
 
 pub returns-clause-ok : goal.returns-clause-ok
@@ -89,5 +89,5 @@ returns-in_err-walked-clause-err g c = λ tells.
     let error = c.in_err-walked.field-0.0 in
     let why = subst (λ (d : Disks). IsBreak error ⊎ (IsWrongFromRoot read.members.areas (blocks_of d read) error × StandForNoTree read.members.areas (blocks_of d read))) c.in_ok-read.ensures.stays
     (c.in_err-walked.ensures.err (c.in_ok-read.ensures.rack.keeps_telling tells)) in
-    if_err (λ (e : AuditError). IsBreak e ⊎ IsRefusal disks state e) error c.from_residual-in_err-walked.result (p.1 ∙ ap Err p.2)
+    if_err (λ (e : AuditError). IsBreak e ⊎ IsAuditRefusal disks state e) error c.from_residual-in_err-walked.result (p.1 ∙ ap Err p.2)
     (⊎_elim (λ broke. inl broke) (λ torn. inr (wrong_blocks disks state read is blocks truth_of one error (inl torn.0) (none_stands disks state read is blocks truth_of one torn.1))) why)

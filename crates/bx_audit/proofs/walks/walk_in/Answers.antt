@@ -3,7 +3,7 @@ use Rattle.bx_audit.specs.Blocks.{StandForNoTree}
 use Rattle.bx_audit.specs.Walked.{AreHeaded}
 use Rattle.bx_audit_owners.specs.Holding.{holdings_of}
 use Rattle.bx_audit_owners.specs.Walks.{IsWalked, IsWrongMet}
-use Rattle.bx_audit_trees.specs.Errors.{IfTorn}
+use Rattle.bx_audit_pages.specs.Errors.{IfTorn}
 use Rattle.bx_layout.specs.declared.block.Block.{Block}
 use Rattle.bx_overlay.proofs.Moved.{moved}
 use Rattle.bx_truth.specs.PageTrees.{Chunks}

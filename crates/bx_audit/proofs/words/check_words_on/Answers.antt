@@ -4,9 +4,9 @@ use Rattle.bx_audit.specs.Walked.{TellsSlot}
 use Rattle.bx_audit.proofs.Trees.{counts_of}
 use Rattle.bx_audit_owners.specs.Holding.{Holdings, holdings_of}
 use Rattle.bx_audit_owners.specs.Words.{IsFirstWrongAt}
-use Rattle.bx_audit_trees.specs.declared.error.AuditError.{AuditError as TreeError}
-use Rattle.bx_audit_trees.specs.declared.error.AuditError.TheVariants.{Torn as TornTree, Fault as TreeFault, OutOfMemory as OutOfTreeMemory}
-use Rattle.bx_audit_trees.specs.Errors.{IfTornError}
+use Rattle.bx_audit_pages.specs.declared.error.AuditError.{AuditError as TreeError}
+use Rattle.bx_audit_pages.specs.declared.error.AuditError.TheVariants.{Torn as TornTree, Fault as TreeFault, OutOfMemory as OutOfTreeMemory}
+use Rattle.bx_audit_pages.specs.Errors.{IfTornError}
 use Rattle.bx_layout.specs.declared.block.Block.{Block}
 use Rattle.bx_overlay.specs.declared.error.AuditError.{AuditError}
 use Rattle.bx_overlay.specs.Refusals.{IsBreak, UnlessFault}

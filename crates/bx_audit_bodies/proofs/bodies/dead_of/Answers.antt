@@ -1,11 +1,11 @@
 use Rattle.std.proofs.Common.{inr, List, sym, ap, ◌∙◌, Err, subst}
 use Rattle.std.specs.Prelude.{All}
 use Rattle.std.proofs.lemmas.Result.{err_from_is_err_and}
-use Rattle.bx_audit_trees.proofs.Ends.{if_torn}
+use Rattle.bx_audit_pages.proofs.Ends.{if_torn}
 use Rattle.bx_audit_bodies.specs.Pieces.{HasPiece}
 use Rattle.bx_audit_bodies.proofs.BodiesOfTrees.{dead_pieces, dead_blocks, dead_alone, dead_read}
 use Rattle.bx_audit_bodies.specs.Parts.{IsFirstPiece, IsOfOne, Lost, Tree}
-use Rattle.bx_audit_trees.specs.Trees.{tree_of}
+use Rattle.bx_audit_pages.specs.Trees.{tree_of}
 use Rattle.bx_audit_bodies.specs.declared.pieces.Piece.{Piece}
 use Rattle.bx_audit_bodies.proofs.FaultsOfParts.{dead_fault}
 use Rattle.bx_audit_bodies.proofs.PartsLed.{one_led}

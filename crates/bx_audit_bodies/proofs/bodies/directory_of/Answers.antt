@@ -5,8 +5,8 @@ use Rattle.bx_page.specs.declared.entry.Entry.{Entry}
 use Rattle.bx_tree_files.specs.declared.file.File.{File}
 use Rattle.bx_truth.specs.Stored.{AreNames}
 use Rattle.bx_truth.proofs.OneTree.{one_map}
-use Rattle.bx_audit_trees.proofs.Ends.{if_torn}
-use Rattle.bx_audit_trees.specs.Trees.{tree_of}
+use Rattle.bx_audit_pages.proofs.Ends.{if_torn}
+use Rattle.bx_audit_pages.specs.Trees.{tree_of}
 use Rattle.bx_audit_bodies.specs.Bodies.{HasBodyOf}
 use Rattle.bx_audit_bodies.specs.Faults.{Itself, Names, Next, Page}
 use Rattle.bx_audit_bodies.proofs.BodiesOfTrees.{directory_is, directory_read}

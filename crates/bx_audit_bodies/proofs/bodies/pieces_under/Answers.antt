@@ -2,8 +2,8 @@ use Rattle.std.proofs.Common.{ap, ◌∙◌, Err, subst}
 use Rattle.std.specs.Prelude.{All}
 use Rattle.std.proofs.lemmas.Result.{err_from_is_err_and}
 use Rattle.bx_truth.proofs.OneTree.{one_map}
-use Rattle.bx_audit_trees.proofs.Ends.{both_torn, if_torn}
-use Rattle.bx_audit_trees.specs.Trees.{tree_of}
+use Rattle.bx_audit_pages.proofs.Ends.{both_torn, if_torn}
+use Rattle.bx_audit_pages.specs.Trees.{tree_of}
 use Rattle.bx_audit_bodies.specs.Pieces.{IsPieceEntry}
 use Rattle.bx_audit_bodies.specs.Parts.{Entry, Page}
 use Rattle.bx_audit_bodies.proofs.FaultsOfParts.{leaf_led, not_all_pieces}

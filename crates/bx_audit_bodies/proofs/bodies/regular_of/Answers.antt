@@ -1,6 +1,6 @@
 use Rattle.std.proofs.Common.{inr, arith, refl, ap, ◌∙◌, Err}
 use Rattle.std.proofs.lemmas.Result.{err_from_is_err_and}
-use Rattle.bx_audit_trees.proofs.Ends.{if_torn}
+use Rattle.bx_audit_pages.proofs.Ends.{if_torn}
 use Rattle.bx_audit_bodies.proofs.BodiesOfTrees.{all_pieces, regular_is}
 use Rattle.bx_audit_bodies.specs.Faults.{Itself, Size}
 use Rattle.bx_audit_bodies.proofs.FaultsOfParts.{regular_tree_fault}

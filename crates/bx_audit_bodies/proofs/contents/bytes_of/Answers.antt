@@ -3,7 +3,7 @@ use Rattle.std.specs.Prelude.{All}
 use Rattle.std.proofs.lemmas.Result.{err_from_is_err_and}
 use Rattle.std.proofs.lemmas.List.{take_all}
 use Rattle.bx_truth.specs.Stored.{AreBytesOf}
-use Rattle.bx_audit_trees.proofs.Ends.{both_torn, if_torn}
+use Rattle.bx_audit_pages.proofs.Ends.{both_torn, if_torn}
 use Rattle.bx_audit_bodies.specs.Pieces.{HasPiece, piece_among}
 use Rattle.bx_audit_bodies.specs.declared.pieces.Piece.{Piece}
 use Rattle.bx_audit_bodies.proofs.PiecesRead.{read_more, bytes_step}

@@ -2,9 +2,9 @@ use Rattle.std.proofs.Common.{◌≡◌, length, take, Ok}
 use Rattle.std.specs.Prelude.{All}
 use Rattle.bx_truth.specs.PageTrees.{Chunks}
 use Rattle.bx_truth.specs.Stored.{AreBytesOf}
-use Rattle.bx_audit_trees.specs.Shown.{Shows}
+use Rattle.bx_audit_pages.specs.Shown.{Shows}
 use Rattle.bx_audit_bodies.specs.Pieces.{AreApart, HasPiece, piece_among}
-use Rattle.bx_audit_trees.specs.Reading.{ReadsChunks, StillShows}
+use Rattle.bx_audit_pages.specs.Reading.{ReadsChunks, StillShows}
 use Rattle.bx_audit_bodies.proofs.contents.bytes_of.Given as goal
 
 abbrev pub invariant-loop-piece : goal.invariant-loop-piece

@@ -2,7 +2,7 @@ use Rattle.std.proofs.Common.{ap, ◌∙◌, Err, subst, arith}
 use Rattle.std.specs.Prelude.{All}
 use Rattle.std.proofs.lemmas.Result.{err_from_is_err_and}
 use Rattle.std.proofs.lemmas.List.{take_all}
-use Rattle.bx_audit_trees.proofs.Ends.{both_torn, if_torn}
+use Rattle.bx_audit_pages.proofs.Ends.{both_torn, if_torn}
 use Rattle.bx_audit_bodies.specs.Contents.{HasClear}
 use Rattle.bx_audit_bodies.proofs.PiecesRead.{all_more}
 use Rattle.bx_audit_bodies.proofs.FaultsOfParts.{unclear_at}

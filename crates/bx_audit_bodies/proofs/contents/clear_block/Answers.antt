@@ -1,6 +1,6 @@
 use Rattle.std.proofs.Common.{◌≡◌, true, false, Err, sym, ap, ◌∙◌, subst}
 use Rattle.std.proofs.lemmas.Result.{err_from_is_err_and}
-use Rattle.bx_audit_trees.proofs.Ends.{if_torn}
+use Rattle.bx_audit_pages.proofs.Ends.{if_torn}
 use Rattle.bx_audit_bodies.specs.Contents.{IsClear}
 use Rattle.bx_audit_bodies.proofs.PiecesRead.{clear_too}
 use Rattle.bx_audit_bodies.proofs.contents.clear_block.Goals as goal

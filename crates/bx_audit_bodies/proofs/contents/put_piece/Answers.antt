@@ -1,6 +1,6 @@
 use Rattle.std.proofs.Common.{ℕ, List, Err, length, ap, ◌∙◌}
 use Rattle.std.proofs.lemmas.Result.{err_from_is_err_and}
-use Rattle.bx_audit_trees.proofs.Ends.{if_torn}
+use Rattle.bx_audit_pages.proofs.Ends.{if_torn}
 use Rattle.bx_audit_bodies.specs.Contents.{with_piece}
 use Rattle.bx_audit_bodies.proofs.PiecesInBytes.{put_long}
 use Rattle.bx_audit_bodies.proofs.contents.put_piece.Goals as goal

@@ -1,9 +1,9 @@
 use Rattle.std.proofs.Common.{take, Ok}
 use Rattle.std.specs.Prelude.{All}
 use Rattle.bx_truth.specs.PageTrees.{Chunks}
-use Rattle.bx_audit_trees.specs.Shown.{Shows}
+use Rattle.bx_audit_pages.specs.Shown.{Shows}
 use Rattle.bx_audit_bodies.specs.Pieces.{HasPiece}
-use Rattle.bx_audit_trees.specs.Reading.{ReadsChunks, StillShows}
+use Rattle.bx_audit_pages.specs.Reading.{ReadsChunks, StillShows}
 use Rattle.bx_audit_bodies.proofs.contents.read_pieces.Given as goal
 
 abbrev pub invariant-loop-piece : goal.invariant-loop-piece

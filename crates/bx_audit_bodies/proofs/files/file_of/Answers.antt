@@ -8,7 +8,7 @@ use Rattle.bx_audit_bodies.specs.Reading.{IsReadAs}
 use Rattle.bx_audit_bodies.specs.declared.outlines.Parts.{Parts}
 use Rattle.bx_audit_bodies.specs.declared.pieces.Piece.{Piece}
 use Rattle.bx_audit_bodies.proofs.Outlined.{filled, unread}
-use Rattle.bx_audit_trees.proofs.Ends.{if_torn}
+use Rattle.bx_audit_pages.proofs.Ends.{if_torn}
 use Rattle.bx_tree_files.specs.declared.file.File.{File}
 use Rattle.bx_truth.specs.Stored.{AreBytesOf}
 use Rattle.bx_audit_bodies.proofs.files.file_of.Goals as goal

@@ -1,6 +1,6 @@
 use Rattle.std.proofs.Common.{arith, ◌≡◌, ⊎_elim, inl, inr, Option, Some, None, sym, ap, subst, ◌∙◌, Err}
 use Rattle.std.proofs.lemmas.Result.{err_from_is_err_and}
-use Rattle.bx_audit_trees.proofs.Ends.{both_torn, if_torn}
+use Rattle.bx_audit_pages.proofs.Ends.{both_torn, if_torn}
 use Rattle.bx_audit_files.proofs.NamesOfTrees.{if_ok}
 use Rattle.bx_audit_bodies.proofs.Cases.{torn_too}
 use Rattle.bx_audit_bodies.proofs.Outlined.{outlined}
@@ -8,7 +8,7 @@ use Rattle.bx_audit_bodies.proofs.ReadFiles.{not_stored, same_at}
 use Rattle.bx_layout.specs.declared.block.Block.{Block}
 use Rattle.bx_audit_bodies.specs.Faults.{Missing, Within}
 use Rattle.bx_audit_bodies.specs.Parts.{IsTornDead}
-use Rattle.bx_audit_trees.specs.Errors.{IfTorn}
+use Rattle.bx_audit_pages.specs.Errors.{IfTorn}
 use Rattle.bx_layout.specs.declared.inode.Inode.{Inode}
 use Rattle.bx_audit_bodies.proofs.files.outline_of.Goals as goal
 

@@ -1,6 +1,6 @@
 use Rattle.std.proofs.Common.{Err, ap, ◌∙◌}
 use Rattle.std.proofs.lemmas.Result.{err_from_is_err_and}
-use Rattle.bx_audit_trees.proofs.Ends.{if_torn}
+use Rattle.bx_audit_pages.proofs.Ends.{if_torn}
 use Rattle.bx_audit_files.proofs.OfKind.{no_block, not_of_kind}
 use Rattle.bx_audit_files.proofs.inodes.block_at.Goals as goal
 

@@ -1,7 +1,7 @@
 use Rattle.std.proofs.Common.{Err, ap, ◌∙◌}
 use Rattle.std.proofs.lemmas.Result.{err_from_is_err_and}
 use Rattle.bx_homes.proofs.Sectors.{of_some, of_none}
-use Rattle.bx_audit_trees.proofs.Ends.{if_torn}
+use Rattle.bx_audit_pages.proofs.Ends.{if_torn}
 use Rattle.bx_audit_files.proofs.OfKind.{no_inode}
 use Rattle.bx_audit_files.proofs.inodes.inode_at.Goals as goal
 

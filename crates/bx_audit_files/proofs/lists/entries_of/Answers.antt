@@ -3,7 +3,7 @@ use Rattle.bx_homes.proofs.Sectors.{of_some, of_none}
 use Rattle.bx_truth.specs.PageTrees.{map_of}
 use Rattle.bx_truth.specs.Stored.{AreNames}
 use Rattle.bx_truth.proofs.OneFile.{one_names}
-use Rattle.bx_audit_trees.specs.Trees.{tree_of}
+use Rattle.bx_audit_pages.specs.Trees.{tree_of}
 use Rattle.bx_audit_files.proofs.NamesOfTrees.{if_none, if_ok, if_some}
 use Rattle.bx_audit_files.specs.Lists.{AreListed}
 use Rattle.bx_audit_files.proofs.Followers.{names_listed}

@@ -1,5 +1,5 @@
 use Rattle.std.proofs.Common.{◌≡◌, ℕ, List, Some, None, sym, ap, ◌∙◌}
-use Rattle.bx_audit_trees.specs.Trees.{tree_of}
+use Rattle.bx_audit_pages.specs.Trees.{tree_of}
 use Rattle.bx_page.specs.Contents.{value_of}
 use Rattle.bx_truth.specs.PageTrees.{map_of}
 use Rattle.bx_audit_files.proofs.names.has.Goals as goal

@@ -1,6 +1,6 @@
 use Rattle.std.proofs.Common.{◌≡◌, List, ℕ, Some, ap, ◌∙◌, subst}
 use Rattle.std.specs.Prelude.{IsTrue, ◌↔◌}
-use Rattle.bx_audit_trees.specs.Trees.{tree_of}
+use Rattle.bx_audit_pages.specs.Trees.{tree_of}
 use Rattle.bx_page.specs.Contents.{value_of}
 use Rattle.bx_truth.specs.Keys.{name_key, name_value}
 use Rattle.bx_truth.specs.PageTrees.{map_of}

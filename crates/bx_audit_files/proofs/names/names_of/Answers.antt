@@ -6,7 +6,7 @@ use Rattle.bx_page.specs.Contents.{Contents}
 use Rattle.bx_tree_files.specs.declared.file.Name.{Name}
 use Rattle.bx_truth.specs.PageTrees.{Node, map_of, entries_of}
 use Rattle.bx_truth.specs.Stored.{AreNames}
-use Rattle.bx_audit_trees.specs.Trees.{tree_of}
+use Rattle.bx_audit_pages.specs.Trees.{tree_of}
 use Rattle.bx_audit_files.specs.Names.{IsPaired, names_in}
 use Rattle.bx_audit_files.proofs.NamesOfTrees.{are_names, are_paired}
 use Rattle.bx_audit_files.proofs.PairedEntries.{names_of_both}

@@ -3,7 +3,7 @@ use Rattle.std.specs.Prelude.{All}
 use Rattle.std.proofs.lemmas.List.{append-nil}
 use Rattle.bx_page.specs.declared.entry.Entry.{Entry}
 use Rattle.bx_truth.specs.PageTrees.{map_of}
-use Rattle.bx_audit_trees.specs.Trees.{tree_of}
+use Rattle.bx_audit_pages.specs.Trees.{tree_of}
 use Rattle.bx_audit_files.specs.Names.{IsPaired, names_in}
 use Rattle.bx_audit_files.proofs.NamesOfTrees.{if_ok}
 use Rattle.bx_audit_files.proofs.Steps.{one_there, none_there, all_one, one_of_all}

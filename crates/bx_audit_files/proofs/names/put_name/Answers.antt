@@ -1,7 +1,7 @@
 use Rattle.bx_homes.proofs.Sectors.{of_some, not_both}
 use Rattle.bx_tree_files.specs.declared.file.Name.{Name}
 use Rattle.bx_truth.specs.PageTrees.{map_of}
-use Rattle.bx_audit_trees.specs.Trees.{tree_of}
+use Rattle.bx_audit_pages.specs.Trees.{tree_of}
 use Rattle.bx_audit_files.specs.Names.{Fits, IsByNumber, IsByName, ByNumber, ByName}
 use Rattle.bx_audit_files.proofs.NamesOfTrees.{if_ok, not_by_number, not_by_name}
 use Rattle.bx_audit_files.proofs.names.put_name.Goals as goal

@@ -5,7 +5,7 @@ use Rattle.std.proofs.lemmas.List.Elements.{All-append}
 use Rattle.bx_page.specs.declared.entry.Entry.{Entry}
 use Rattle.bx_tree_files.specs.declared.file.Name.{Name}
 use Rattle.bx_truth.specs.PageTrees.{map_of}
-use Rattle.bx_audit_trees.specs.Trees.{tree_of}
+use Rattle.bx_audit_pages.specs.Trees.{tree_of}
 use Rattle.bx_audit_files.specs.Names.{IsPaired, names_in}
 use Rattle.bx_audit_files.proofs.PairedEntries.{names_of_both}
 use Rattle.bx_audit_files.proofs.Steps.{one_more, all_there}

@@ -1,7 +1,7 @@
 use Rattle.std.proofs.Common.{◌≡◌, ℕ, ◌++◌, take}
 use Rattle.std.specs.Prelude.{All}
 use Rattle.bx_truth.specs.PageTrees.{Chunks, IsTree, map_of}
-use Rattle.bx_audit_trees.specs.Trees.{tree_of}
+use Rattle.bx_audit_pages.specs.Trees.{tree_of}
 use Rattle.bx_audit_files.specs.Names.{IsPaired, names_in}
 use Rattle.bx_audit_files.proofs.names.put_names.Given as goal
 

@@ -5,10 +5,10 @@ use Rattle.bx_audit_owners.specs.declared.holders.Holder.{Holder}
 use Rattle.bx_audit_owners.specs.declared.holders.Holder.TheVariants.{Dead as OfDead}
 use Rattle.bx_audit_owners.specs.Found.{IsFound}
 use Rattle.bx_audit_owners.specs.Holding.{holdings_of}
-use Rattle.bx_audit_trees.specs.Shown.{Shows}
+use Rattle.bx_audit_pages.specs.Shown.{Shows}
 use Rattle.bx_tree_files.specs.declared.file.File.{File}
 use Rattle.bx_truth.specs.PageTrees.{Chunks}
-use Rattle.bx_audit_trees.specs.Reading.{ReadsChunks, StillShows}
+use Rattle.bx_audit_pages.specs.Reading.{ReadsChunks, StillShows}
 use Rattle.bx_audit_owners.proofs.dead.read_dead.Given as goal
 
 abbrev pub invariant-loop-slot : goal.invariant-loop-slot

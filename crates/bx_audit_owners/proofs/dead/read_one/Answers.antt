@@ -8,10 +8,10 @@ use Rattle.bx_layout.specs.declared.inode.Inode.{Inode}
 use Rattle.bx_audit_owners.specs.Dead.{Held, Live, Taken, Unread}
 use Rattle.bx_audit_bodies.specs.declared.claims.Claim.{Claim}
 use Rattle.bx_audit_owners.specs.declared.holders.Holder.TheVariants.{Dead as OfDead}
-use Rattle.bx_audit_owners.specs.Holding.{Adds, Clashes, holdings_of}
+use Rattle.bx_audit_owners.specs.Holding.{AddsHolder, Clashes, holdings_of}
 use Rattle.bx_audit_owners.proofs.Ends.{each_torn, ok_too, torn_too}
 use Rattle.bx_audit_owners.proofs.Steps.{with_inode}
-use Rattle.bx_audit_trees.proofs.Ends.{both_torn, if_torn}
+use Rattle.bx_audit_pages.proofs.Ends.{both_torn, if_torn}
 use Rattle.bx_audit_owners.proofs.dead.read_one.Goals as goal
 
 pub returns-in_err-has_holder-clause-torn : goal.returns-in_err-has_holder-clause-torn
@@ -48,7 +48,7 @@ returns-in-Dead-clause-ok g c = λ chunks files shows found.
     let read : IsReadAs chunks c.args.handle None claims = subst (IsOutlineAt chunks c.args.handle) c.in-Dead.is (c.in_ok-claims.ensures.ok chunks shows) in
     ok_too _ _ c.put_inode.result
     (λ is.
-    let adds = subst (λ (l : List Claim). Adds before c.args.handle OfDead l (length l) now) c.as_slice.ensures.value is in
+    let adds = subst (λ (l : List Claim). AddsHolder before c.args.handle OfDead l (length l) now) c.as_slice.ensures.value is in
     with_inode chunks before files c.args.handle claims found now files None read (c.in_ok-has_holder.ensures.no c.if-branch.false) adds tt refl)
     c.put_inode.ensures.ok
 

@@ -5,7 +5,7 @@ use Rattle.bx_audit_bodies.specs.declared.claims.Claim.{Claim}
 use Rattle.bx_audit_owners.specs.declared.holders.Holder.{Holder}
 use Rattle.bx_audit_owners.specs.Holding.{HasOther, Puts, holdings_of}
 use Rattle.bx_audit_owners.proofs.Holding.{clash_wanted, one_added, one_there}
-use Rattle.bx_audit_trees.proofs.Ends.{if_torn}
+use Rattle.bx_audit_pages.proofs.Ends.{if_torn}
 use Rattle.bx_audit_owners.proofs.holders.put_inode.Goals as goal
 
 -- a claim, where none is there

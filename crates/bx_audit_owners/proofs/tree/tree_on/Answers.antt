@@ -6,7 +6,7 @@ use Rattle.bx_audit_owners.proofs.Headed.{walked_there}
 use Rattle.bx_audit_owners.proofs.Wholes.{none_marked, stands}
 use Rattle.bx_audit_slots.specs.declared.slots.UsedSlot.{UsedSlot}
 use Rattle.bx_audit_slots.specs.UsedSlots.{AreUsed}
-use Rattle.bx_audit_trees.proofs.Ends.{if_torn}
+use Rattle.bx_audit_pages.proofs.Ends.{if_torn}
 use Rattle.bx_audit_owners.proofs.tree.tree_on.Goals as goal
 
 pub returns-in_err-slots-clause-torn : goal.returns-in_err-slots-clause-torn

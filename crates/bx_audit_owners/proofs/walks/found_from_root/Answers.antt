@@ -7,7 +7,7 @@ use Rattle.bx_audit_owners.specs.Walks.{IsFileAt}
 use Rattle.bx_audit_owners.proofs.Holding.{none_held, one_there}
 use Rattle.bx_audit_owners.proofs.InOrder.{none_ordered}
 use Rattle.bx_audit_owners.proofs.Walking.{IsUnderWay, all_walked, at_place, done_more, goes_on, for_one, longer, nothing_yet, place_done, still_there}
-use Rattle.bx_audit_trees.proofs.Ends.{if_torn}
+use Rattle.bx_audit_pages.proofs.Ends.{if_torn}
 use Rattle.bx_model.specs.Opening.{root_handle}
 use Rattle.bx_tree_files.specs.declared.file.File.{File}
 use Rattle.bx_audit_owners.proofs.walks.found_from_root.Goals as goal

@@ -4,10 +4,10 @@ use Rattle.bx_audit_owners.specs.declared.holders.Holder.TheVariants.{File as Of
 use Rattle.bx_audit_owners.specs.Found.{AreOrdered}
 use Rattle.bx_audit_owners.specs.Holding.{holdings_of}
 use Rattle.bx_audit_owners.proofs.Walking.{IsUnderWay}
-use Rattle.bx_audit_trees.specs.Shown.{Shows}
+use Rattle.bx_audit_pages.specs.Shown.{Shows}
 use Rattle.bx_model.specs.Opening.{root_handle}
 use Rattle.bx_truth.specs.PageTrees.{Chunks}
-use Rattle.bx_audit_trees.specs.Reading.{ReadsChunks, StillShows}
+use Rattle.bx_audit_pages.specs.Reading.{ReadsChunks, StillShows}
 use Rattle.bx_audit_owners.proofs.walks.found_from_root.Given as goal
 
 abbrev pub invariant-loop-at : goal.invariant-loop-at

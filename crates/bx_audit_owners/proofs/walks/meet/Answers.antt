@@ -6,11 +6,11 @@ use Rattle.bx_audit_bodies.specs.Reading.{IsReadAs}
 use Rattle.bx_audit_owners.specs.declared.holders.Holder.{Holder}
 use Rattle.bx_audit_owners.specs.declared.holders.Holder.TheVariants.{File as OfFile}
 use Rattle.bx_audit_owners.specs.Found.{IsFound}
-use Rattle.bx_audit_owners.specs.Holding.{Adds, holdings_of}
+use Rattle.bx_audit_owners.specs.Holding.{AddsHolder, holdings_of}
 use Rattle.bx_audit_owners.specs.Walks.{IsTakenFile, New}
 use Rattle.bx_audit_owners.proofs.Steps.{with_inode}
 use Rattle.bx_audit_owners.proofs.Walking.{dead_has_none, file_named, none_dead, other_has_none, other_is_wrong, wrong_file}
-use Rattle.bx_audit_trees.proofs.Ends.{both_torn, if_torn}
+use Rattle.bx_audit_pages.proofs.Ends.{both_torn, if_torn}
 use Rattle.bx_audit_owners.proofs.walks.meet.Goals as goal
 
 pub returns-in_err-has_holder-clause-torn : goal.returns-in_err-has_holder-clause-torn
@@ -67,7 +67,7 @@ returns-clause-ok g c = λ chunks shows found.
     let at : ArePartsAt chunks c.args.handle outline.parts claims = subst (IsOutlineAt chunks c.args.handle) c.in-File.is (c.in_ok-outline.ensures.ok chunks shows) in
     let read : IsReadAs chunks c.args.handle (Some c.in_ok-file.file) claims = subst (λ (n : ℕ). IsReadAs chunks n (Some c.in_ok-file.file) claims) handle_is
     (c.in_ok-file.ensures.ok chunks (c.in_ok-outline.ensures.shows chunks shows) (subst (λ (n : ℕ). ArePartsAt chunks n outline.parts claims) (sym handle_is) at)) in
-    let adds = subst (λ (n : ℕ). Adds before n OfFile claims (length claims) now) handle_is c.in_ok-file.ensures.adds in
+    let adds = subst (λ (n : ℕ). AddsHolder before n OfFile claims (length claims) now) handle_is c.in_ok-file.ensures.adds in
     subst (λ (m : BTreeMap ℕ Holder). IsFound chunks (holdings_of m) c.put_file.new.found.files) (sym c.in_ok-put_file.ensures.holders)
     (with_inode chunks before c.args.found.now.files c.args.handle claims found now c.put_file.new.found.files (Some c.in_ok-file.file) read
     (c.in_ok-has_holder.ensures.no c.if-branch.false) adds c.in_ok-put_file.ensures.with tt)
@@ -79,7 +79,7 @@ returns-clause-step g c =
     let outline = c.in-File.outline in
     let claims = outline.claims.items in
     let handle_is : outline.handle ≡ c.args.handle = (subst (IsRight c.args.handle) c.in-File.is c.in_ok-outline.ensures.right).0 in
-    let adds = subst (λ (n : ℕ). Adds before n OfFile claims (length claims) now) handle_is c.in_ok-file.ensures.adds in
+    let adds = subst (λ (n : ℕ). AddsHolder before n OfFile claims (length claims) now) handle_is c.in_ok-file.ensures.adds in
     let same = ap (λ (m : BTreeMap ℕ Holder). holdings_of m) c.in_ok-put_file.ensures.holders in
     New c.in_ok-file.file
     (λ chunks shows.

@@ -2,7 +2,7 @@ use Rattle.std.proofs.Common.{Err, ap, sym, subst, ◌∙◌}
 use Rattle.std.proofs.lemmas.Result.{err_from_is_err_and}
 use Rattle.bx_audit_owners.specs.Holding.{holdings_of}
 use Rattle.bx_audit_owners.proofs.KeysLeft.{AreLeft, all_left, first_torn, none_left, one_done}
-use Rattle.bx_audit_trees.proofs.Ends.{if_torn}
+use Rattle.bx_audit_pages.proofs.Ends.{if_torn}
 use Rattle.bx_audit_owners.proofs.words.check_held.Goals as goal
 
 pub loop-handle-init : goal.loop-handle-init

@@ -2,7 +2,7 @@ use Rattle.std.proofs.Common.{Ok}
 use Rattle.std.specs.Prelude.{All}
 use Rattle.bx_audit_slots.specs.OwnBlocks.{AreOwn, HasArea}
 use Rattle.bx_homes.specs.Slots.{StaysSo}
-use Rattle.bx_audit_trees.specs.Reading.{ReadsChunks}
+use Rattle.bx_audit_pages.specs.Reading.{ReadsChunks}
 use Rattle.bx_audit_slots.proofs.own_blocks.read_own_blocks.Given as goal
 
 abbrev pub invariant-loop-area : goal.invariant-loop-area

@@ -3,7 +3,7 @@ use Rattle.std.proofs.lemmas.Result.{err_from_is_err_and}
 use Rattle.bx_audit_slots.specs.Told.{IsTold}
 use Rattle.bx_audit_slots.proofs.InUse.{all_used}
 use Rattle.bx_views.specs.Truths.{Truth}
-use Rattle.bx_audit_trees.proofs.Ends.{if_torn}
+use Rattle.bx_audit_pages.proofs.Ends.{if_torn}
 use Rattle.bx_audit_slots.proofs.slots.used_slots.Goals as goal
 
 pub returns-in_err-put_area-clause-torn : goal.returns-in_err-put_area-clause-torn

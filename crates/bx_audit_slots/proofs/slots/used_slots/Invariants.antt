@@ -2,7 +2,7 @@ use Rattle.std.proofs.Common.{◌*◌, Ok}
 use Rattle.bx_audit_slots.specs.Told.{IsTold}
 use Rattle.bx_audit_slots.specs.UsedSlots.{AreUsedBelow}
 use Rattle.bx_views.specs.Truths.{Truth}
-use Rattle.bx_audit_trees.specs.Reading.{ReadsChunks}
+use Rattle.bx_audit_pages.specs.Reading.{ReadsChunks}
 use Rattle.bx_audit_slots.proofs.slots.used_slots.Given as goal
 
 abbrev pub invariant-loop-area : goal.invariant-loop-area

@@ -1,7 +1,7 @@
 use Rattle.std.proofs.Common.{ℕ, ◌+◌, ◌*◌, ◌∙◌, ap, arith, sym, subst}
 use Rattle.bx_layout.specs.declared.block.Block.{Block}
 use Rattle.bx_layout.specs.Blocks.{HasParts}
-use Rattle.bx_format.specs.Formats.{areas_truth, with_block}
+use Rattle.bx_format.specs.Formats.{areas_truth, with_chunk}
 use Rattle.bx_format.proofs.Made.{one_area, own_parts, same_blocks}
 use Rattle.bx_format.proofs.Spared.{spares_then}
 use Rattle.bx_format.specs.Moments.{IsLabelSector}
@@ -17,8 +17,8 @@ loop-area-preserved g c =
           let told = c.loop-area.invariant.rack.keeps_telling tells in
           same_blocks _ c.args.devices c.args.areas _ (areas_truth (c.loop-area.area + 1)) (c.in_ok-put_home.ensures.puts (areas_truth c.loop-area.area) told (c.loop-area.invariant.blocks tells holds))
           (λ at is.
-          ap (λ (n : ℕ). with_block (areas_truth c.loop-area.area) (1024 * n + 960) c.in_ok-block.block at) c.from.ensures
-          ∙ ap (λ (block : Block). with_block (areas_truth c.loop-area.area) (1024 * c.loop-area.area + 960) block at) c.in_ok-block.ensures ∙ one_area c.loop-area.area at);
+          ap (λ (n : ℕ). with_chunk (areas_truth c.loop-area.area) (1024 * n + 960) c.in_ok-block.block at) c.from.ensures
+          ∙ ap (λ (block : Block). with_chunk (areas_truth c.loop-area.area) (1024 * c.loop-area.area + 960) block at) c.in_ok-block.ensures ∙ one_area c.loop-area.area at);
       front = λ tells.
           let first = c.loop-area.invariant.front tells in
           let next = c.put_home.ensures.front (c.loop-area.invariant.rack.keeps_telling tells) in

@@ -1,7 +1,7 @@
 use Rattle.std.proofs.Common.{ℕ, List, subst, false, true, ◌∙◌, arith}
 use Rattle.std.proofs.lemmas.Option.{slice_get-get_or, slice_get_within}
 use Rattle.bx_volume.specs.Images.{member_disk}
-use Rattle.bx_homes.specs.Sources.{HasRoom}
+use Rattle.bx_homes.specs.Sources.{IsLongEnough}
 use Rattle.bx_homes.proofs.Labelled.{moved, moved_not, one_more, without_a, without_b}
 use Rattle.bx_homes.proofs.Rooms.{rooms_too}
 use Rattle.bx_homes.proofs.sources.first_unlabelled.Goals as goal
@@ -32,8 +32,8 @@ loop-device-preserved g c = record {
   rack = grind arith;
   room = rooms_too (g.R.Rack.state c.args.rack.now).sizes c.args.first.now c.args.rows.now c.loop-device.device _ (slice_get-get_or c.args.rows.now c.loop-device.device _ (omega (arith, c.loop-device-test.true, c.requires)))
       c.loop-device.invariant.room
-      (λ source. subst (λ (sizes : List ℕ). HasRoom sizes c.args.first.now (member_disk c.loop-device.device false)) c.loop-device.invariant.rack.sizes (c.in_ok-lacks_label.ensures.room c.if-branch.false source))
-      (λ source. subst (λ (sizes : List ℕ). HasRoom sizes c.args.first.now (member_disk c.loop-device.device true)) (c.in_ok-lacks_label.ensures.rack.sizes ∙ c.loop-device.invariant.rack.sizes) (c.in_ok-lacks_label-2.ensures.room c.if-branch-2.false source));
+      (λ source. subst (λ (sizes : List ℕ). IsLongEnough sizes c.args.first.now (member_disk c.loop-device.device false)) c.loop-device.invariant.rack.sizes (c.in_ok-lacks_label.ensures.room c.if-branch.false source))
+      (λ source. subst (λ (sizes : List ℕ). IsLongEnough sizes c.args.first.now (member_disk c.loop-device.device true)) (c.in_ok-lacks_label.ensures.rack.sizes ∙ c.loop-device.invariant.rack.sizes) (c.in_ok-lacks_label-2.ensures.room c.if-branch-2.false source));
   done = λ tells.
       let told = c.loop-device.invariant.rack.keeps_telling tells in
       let was = c.loop-device.invariant.stays in

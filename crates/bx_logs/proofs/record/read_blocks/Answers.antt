@@ -2,7 +2,7 @@ use Rattle.std.proofs.Common.{ℕ, ◌+◌, ◌*◌, arith, sym, ap, subst, ◌�
 use Rattle.std.proofs.lemmas.List.{length-map, length-append}
 use Rattle.bx_disk.specs.Disks.{Disks}
 use Rattle.bx_records.specs.Drafts.{Changed}
-use Rattle.bx_homes.specs.Standing.{StandsAt}
+use Rattle.bx_homes.specs.Standing.{BlockStandsAt}
 use Rattle.bx_homes.proofs.Sectors.{of_none, of_some}
 use Rattle.bx_logs.specs.Bodies.{StandOn}
 use Rattle.bx_logs.proofs.Pieces.{more_numbers, more_stand, no_gap}
@@ -16,7 +16,7 @@ returns-in_default-clause-none g c = λ tells changed numbers stand.
     let many = length-map changed (λ (change : Changed). change.0) in
     let same = ap length numbers in
     no_gap (g.R.Rack.state c.args.rack.now).reads c.args.disk c.args.sector c.loop-at.at changed (omega (arith, many, same, c.loop-at-test.true)) stand
-    (λ block at. none block (subst (λ (s : Disks). StandsAt s.reads c.args.disk (c.args.sector + 9 * c.loop-at.at) block) (sym was) at))
+    (λ block at. none block (subst (λ (s : Disks). BlockStandsAt s.reads c.args.disk (c.args.sector + 9 * c.loop-at.at) block) (sym was) at))
 
 pub loop-at-preserved : goal.loop-at-preserved
 loop-at-preserved g c = record {
@@ -29,8 +29,8 @@ loop-at-preserved g c = record {
       let told = c.loop-at.invariant.rack.keeps_telling tells in
       let was = c.loop-at.invariant.stays in
       let here = of_some _ c.in_ok-block.field-0 c.in-Some.block c.in-Some.is (c.in_ok-block.ensures.some told) in
-      let next = subst (λ (s : Disks). StandsAt s.reads c.args.disk (c.args.sector + 9 * c.loop-at.at) c.in-Some.block) was here in
+      let next = subst (λ (s : Disks). BlockStandsAt s.reads c.args.disk (c.args.sector + 9 * c.loop-at.at) c.in-Some.block) was here in
       subst (StandOn (g.R.Rack.state c.args.rack.now).reads c.args.disk c.args.sector) (sym c.in_ok-push.ensures.ok)
       (more_stand (g.R.Rack.state c.args.rack.now).reads c.args.disk c.args.sector c.loop-at.changed (get_or c.args.numbers.now c.loop-at.at 0, c.in-Some.block) (c.loop-at.invariant.stand tells)
-      (subst (λ (n : ℕ). StandsAt (g.R.Rack.state c.args.rack.now).reads c.args.disk (c.args.sector + 9 * n) c.in-Some.block) (sym c.loop-at.invariant.count) next));
+      (subst (λ (n : ℕ). BlockStandsAt (g.R.Rack.state c.args.rack.now).reads c.args.disk (c.args.sector + 9 * n) c.in-Some.block) (sym c.loop-at.invariant.count) next));
 }

@@ -1,5 +1,5 @@
 use Rattle.std.proofs.Common.{ℕ, reverse, subst}
-use Rattle.bx_volume.specs.Overlay.{IsTruth}
+use Rattle.bx_volume.specs.Overlay.{IsOverlaidTruth}
 use Rattle.bx_logs.specs.Logs.{log_in}
 use Rattle.bx_logs.specs.Members.{held_by}
 use Rattle.bx_overlay.proofs.Over.{are_blocks, is_truth}
@@ -19,6 +19,6 @@ returns-clause-truth c = λ disks state read truth is blocks.
     let here = is_truth disks.reads read.members state.sessions over.logs read.newest over.are over.of truth over.agreed blocks in
     record {
       logs = λ slot. reverse (log_in over.logs slot);
-      is_truth = subst (λ (n : ℕ). IsTruth (held_by disks.reads read.members) n read.first.areas state.sessions (λ slot. reverse (log_in over.logs slot)) truth) is.members.devices
-          (subst (λ (n : ℕ). IsTruth (held_by disks.reads read.members) read.members.devices n state.sessions (λ slot. reverse (log_in over.logs slot)) truth) is.members.areas here);
+      is_truth = subst (λ (n : ℕ). IsOverlaidTruth (held_by disks.reads read.members) n read.first.areas state.sessions (λ slot. reverse (log_in over.logs slot)) truth) is.members.devices
+          (subst (λ (n : ℕ). IsOverlaidTruth (held_by disks.reads read.members) read.members.devices n state.sessions (λ slot. reverse (log_in over.logs slot)) truth) is.members.areas here);
     }

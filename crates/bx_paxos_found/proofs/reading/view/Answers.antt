@@ -3,7 +3,7 @@ use Rattle.std.specs.Prelude.{IfNone, IfSome}
 use Rattle.bx_acceptor.specs.Standing.{IsFound, IsNotFound}
 use Rattle.bx_cell.specs.Halves.{Found}
 use Rattle.bx_disk.specs.Disks.{Disks}
-use Rattle.bx_facts.specs.Labelled.{IsLabelled}
+use Rattle.bx_facts.specs.Labelled.{IsReplicaLabelled}
 use Rattle.bx_paxos_found.proofs.Labelling.{unread_off}
 use Rattle.bx_paxos_found.proofs.Seeing.{not_both, seen_of}
 use Rattle.bx_paxos_found.proofs.Threes.{same_of}
@@ -21,7 +21,7 @@ returns-in_ok-seen-clause-seen g c = λ tells first same.
     let x = g.R.Rack.state c.args.rack.now in
     let here = c.in_ok-labelled.ensures.stays in
     let told = c.in_ok-labelled.ensures.rack.keeps_telling tells in
-    let label : IsLabelled c.args.devices x.sizes x.reads c.args.replica = record {
+    let label : IsReplicaLabelled c.args.devices x.sizes x.reads c.args.replica = record {
       whole = c.is_whole.ensures.0 (search rules);
       first = c.args.first.now;
       is_first = first;

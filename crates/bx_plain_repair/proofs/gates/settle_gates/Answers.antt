@@ -4,7 +4,7 @@ use Rattle.bx_disk.specs.Disks.{Disks}
 use Rattle.bx_facts.specs.Writes.{IsSettled, IsSourceIn, Sent, Writes, member_disk}
 use Rattle.bx_facts.proofs.Lists.{front_or_behind, nothing}
 use Rattle.bx_global.specs.Opening.{opening_state}
-use Rattle.bx_plain_repair.specs.Bench.{IsLabelled}
+use Rattle.bx_plain_repair.specs.Bench.{IsLabelledBench}
 use Rattle.bx_plain_repair.specs.Left.{IsLeft}
 use Rattle.bx_plain_repair.specs.Through.{one_write}
 use Rattle.bx_plain_repair.proofs.Labels.{labelled_kept}
@@ -61,7 +61,7 @@ returns-in_err-write_through-clause-left g c = λ volume floor tree doubt tells 
     let z : Disks = g.R.Rack.state c.write_through.new.rack in
     let runs = c.in_ok-runs.runs in
     let told = c.read_sectors.ensures.rack.keeps_telling tells in
-    let there = subst (λ (y : Disks). IsLabelled y volume) (sym c.read_sectors.ensures.stays) left.labelled in
+    let there = subst (λ (y : Disks). IsLabelledBench y volume) (sym c.read_sectors.ensures.stays) left.labelled in
     let labelled = labelled_kept mid z volume runs there c.write_through.ensures.rack.sizes (c.write_through.ensures.members told) (behind_label c.read_sectors.new.into runs c.in_ok-runs.ensures) in
     still_left x z volume floor tree doubt c.read_sectors.new.into runs (omega arith) (c.in_ok-read_sectors.ensures.bytes tells) c.in_ok-runs.ensures
     (λ d s content only was. c.write_through.ensures.keeps (opening_state 1 1) d s content told only (subst (λ (y : Disks). IsSettled y (opening_state 1 1) d s content) (sym c.read_sectors.ensures.stays) was))
@@ -74,7 +74,7 @@ returns-clause-left g c = λ volume floor tree doubt tells left.
     let z : Disks = g.R.Rack.state c.write_through.new.rack in
     let runs = c.in_ok-runs.runs in
     let told = c.read_sectors.ensures.rack.keeps_telling tells in
-    let there = subst (λ (y : Disks). IsLabelled y volume) (sym c.read_sectors.ensures.stays) left.labelled in
+    let there = subst (λ (y : Disks). IsLabelledBench y volume) (sym c.read_sectors.ensures.stays) left.labelled in
     let labelled = labelled_kept mid z volume runs there c.write_through.ensures.rack.sizes (c.write_through.ensures.members told) (behind_label c.read_sectors.new.into runs c.in_ok-runs.ensures) in
     still_left x z volume floor tree doubt c.read_sectors.new.into runs (omega arith) (c.in_ok-read_sectors.ensures.bytes tells) c.in_ok-runs.ensures
     (λ d s content only was. c.write_through.ensures.keeps (opening_state 1 1) d s content told only (subst (λ (y : Disks). IsSettled y (opening_state 1 1) d s content) (sym c.read_sectors.ensures.stays) was))
@@ -87,7 +87,7 @@ returns-clause-comes g c = λ volume floor tree doubt tells left.
     let z : Disks = g.R.Rack.state c.write_through.new.rack in
     let runs = c.in_ok-runs.runs in
     let told = c.read_sectors.ensures.rack.keeps_telling tells in
-    let there = subst (λ (y : Disks). IsLabelled y volume) (sym c.read_sectors.ensures.stays) left.labelled in
+    let there = subst (λ (y : Disks). IsLabelledBench y volume) (sym c.read_sectors.ensures.stays) left.labelled in
     let labelled = labelled_kept mid z volume runs there c.write_through.ensures.rack.sizes (c.write_through.ensures.members told) (behind_label c.read_sectors.new.into runs c.in_ok-runs.ensures) in
     then_comes x z volume floor tree doubt c.read_sectors.new.into runs (omega arith) (c.in_ok-read_sectors.ensures.bytes tells) c.in_ok-runs.ensures
     (λ d s content only was. c.write_through.ensures.keeps (opening_state 1 1) d s content told only (subst (λ (y : Disks). IsSettled y (opening_state 1 1) d s content) (sym c.read_sectors.ensures.stays) was))

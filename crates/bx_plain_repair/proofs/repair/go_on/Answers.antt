@@ -2,7 +2,7 @@ use Rattle.std.proofs.Common.{⊎_elim, inl, inr, List, sym, subst}
 use Rattle.bx_volume.specs.Records.{Logged, newest_in}
 use Rattle.bx_plain_repair.specs.HomesOf.{HasNone}
 use Rattle.bx_plain_repair.specs.Left.{IsLeft}
-use Rattle.bx_plain_repair.specs.Resting.{Comes, IsOpenLog}
+use Rattle.bx_plain_repair.specs.Resting.{RestsOrActed, IsOpenLog}
 use Rattle.bx_plain_repair.proofs.Finding.{found_of}
 use Rattle.bx_plain_repair.proofs.OpenLogs.{all_parts}
 use Rattle.bx_plain_repair.proofs.Results.{on_err, rose_since}
@@ -27,13 +27,13 @@ pub returns-clause-recovers : goal.returns-clause-recovers
 returns-clause-recovers g c = λ volume tree doubt records tells came.
     let found = found_of volume c.args.floor tree doubt records (g.R.Rack.state c.args.rack.now) came in
     let read = rw c.in-Some.is at (c.in_ok-log.ensures.reads records found.before found.truth found.more tells found.is) in
-    c.answer.ensures.recovers volume tree doubt records (c.read_open.ensures.rack.keeps_telling tells) (subst (Comes volume c.args.floor tree doubt records) (sym c.read_open.ensures.stays) came) read
+    c.answer.ensures.recovers volume tree doubt records (c.read_open.ensures.rack.keeps_telling tells) (subst (RestsOrActed volume c.args.floor tree doubt records) (sym c.read_open.ensures.stays) came) read
 
 pub returns-clause-left : goal.returns-clause-left
 returns-clause-left g c = λ volume tree doubt records tells came left.
     let found = found_of volume c.args.floor tree doubt records (g.R.Rack.state c.args.rack.now) came in
     let read = rw c.in-Some.is at (c.in_ok-log.ensures.reads records found.before found.truth found.more tells found.is) in
-    c.answer.ensures.left volume tree doubt records (c.read_open.ensures.rack.keeps_telling tells) (subst (Comes volume c.args.floor tree doubt records) (sym c.read_open.ensures.stays) came) read
+    c.answer.ensures.left volume tree doubt records (c.read_open.ensures.rack.keeps_telling tells) (subst (RestsOrActed volume c.args.floor tree doubt records) (sym c.read_open.ensures.stays) came) read
 
 pub returns-clause-cause : goal.returns-clause-cause
 returns-clause-cause g c = λ fault. ⊎_elim

@@ -1,8 +1,8 @@
 use Rattle.std.proofs.Common.{⊎_elim, inl, inr, ℕ, List, Option}
 use Rattle.bx_model.specs.declared.tree.Tree.{Tree}
 use Rattle.bx_volume.specs.Records.{Logged}
-use Rattle.bx_plain_repair.specs.Left.{Doubt, IsLeft}
-use Rattle.bx_plain_repair.specs.Resting.{Comes}
+use Rattle.bx_plain_repair.specs.Left.{OpenDoubt, IsLeft}
+use Rattle.bx_plain_repair.specs.Resting.{RestsOrActed}
 use Rattle.bx_plain_repair.proofs.Results.{on_err, rose_since}
 use Rattle.bx_plain_repair.proofs.Sparing.{spares_then}
 use Rattle.bx_plain_repair.proofs.repair.recover.Goals as goal
@@ -24,7 +24,7 @@ returns-clause-left g c = λ volume tree doubt tells left.
 pub returns-clause-cause : goal.returns-clause-cause
 returns-clause-cause g c = λ fault. ⊎_elim
     (λ rose. inl (rose_since (g.R.Rack.faults c.args.rack.now) (g.R.Rack.faults c.settle_gates.new.rack) (g.R.Rack.faults c.go_on.new.rack) c.settle_gates.ensures.rack.later.all rose))
-    (λ (none : (volume : ℕ) (tree : Tree) (doubt : Option Doubt) (records : List Logged) → g.R.Rack.tells c.settle_gates.new.rack → Comes volume c.args.floor tree doubt records (g.R.Rack.state c.settle_gates.new.rack) → ⊥).
+    (λ (none : (volume : ℕ) (tree : Tree) (doubt : Option OpenDoubt) (records : List Logged) → g.R.Rack.tells c.settle_gates.new.rack → RestsOrActed volume c.args.floor tree doubt records (g.R.Rack.state c.settle_gates.new.rack) → ⊥).
     inr (λ volume tree doubt tells left.
     let came = c.in_ok-settle_gates.ensures.comes volume c.args.floor tree doubt tells left in
     none volume tree doubt came.0 (c.settle_gates.ensures.rack.keeps_telling tells) came.1))

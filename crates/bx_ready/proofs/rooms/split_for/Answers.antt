@@ -2,7 +2,7 @@ use Rattle.std.proofs.Common.{List, [], Option, sym, subst, Err}
 use Rattle.bx_blink.specs.Walks.{reads_with}
 use Rattle.bx_chunks.specs.Taking.{NoSlots, TakesSlots}
 use Rattle.bx_records.specs.Drafts.{Changed}
-use Rattle.bx_posts.specs.bx_splits.specs.Cutting.{IsOwned, NeedsForSplit, SplitsAt}
+use Rattle.bx_posts.specs.bx_splits.specs.Cutting.{IsOwnPage, NeedsForSplit, SplitsAt}
 use Rattle.bx_posts.specs.bx_splits.specs.Splits.{SplitsIn, SplitsPage}
 use Rattle.bx_blink.specs.Hints.{Under}
 use Rattle.bx_ready.specs.Rooms.{FindsFull, LandsFull, LandsRoomy}
@@ -33,7 +33,7 @@ pub split-requires : goal.split-requires
 split-requires g c =
     let f = subst (λ (d : List Changed). LandsFull (reads_with (g.V.View.held c.args.view.now) (g.V.View.hints c.args.view.now) d) c.args.at.now.root c.args.at.now.key.now c.in-Some.leaf) c.new-draft.ensures (rw c.in-Some.is at c.in-Ok.ensures) in
     λ contents owned. full_owned (g.V.View.held c.args.view.now) (g.V.View.hints c.args.view.now) c.args.at.now.root c.args.at.now.key.now c.in-Some.leaf (λ at block is. g.met.V.View.shares c.args.view.now at block is) f contents
-    (subst (λ (d : List Changed). IsOwned (reads_with (g.V.View.held c.args.view.now) (g.V.View.hints c.args.view.now) d) c.in-Some.leaf contents) c.new-draft.ensures owned)
+    (subst (λ (d : List Changed). IsOwnPage (reads_with (g.V.View.held c.args.view.now) (g.V.View.hints c.args.view.now) d) c.in-Some.leaf contents) c.new-draft.ensures owned)
 
 pub returns-in-Ok-split-clause-map : goal.returns-in-Ok-split-clause-map
 returns-in-Ok-split-clause-map g c = λ truth tree u.

@@ -1,6 +1,6 @@
 use Rattle.std.proofs.Common.{ℕ, ◌+◌, ◌*◌, arith, sym, ap, subst, ◌∙◌, map, length, get_or, [], ◌∷◌, refl}
 use Rattle.std.proofs.lemmas.List.{length-map, length-append}
-use Rattle.bx_logs.specs.bx_homes.specs.Standing.{StandsAt}
+use Rattle.bx_logs.specs.bx_homes.specs.Standing.{BlockStandsAt}
 use Rattle.bx_logs.specs.bx_homes.proofs.Sectors.{of_none, of_some}
 use Rattle.bx_logs.specs.Bodies.{StandOn}
 use Rattle.bx_logs.proofs.Pieces.{more_numbers, more_stand, no_gap}
@@ -30,5 +30,5 @@ loop-at-preserved c = record {
       let here = block_there bytes (512 + 4608 * c.loop-at.at) _ (1 + 9 * c.loop-at.at) (omega arith) (omega arith) c.in-Some.block spells in
       subst (StandOn (held_in bytes) 0 1) (sym c.in_ok-push.ensures.ok)
       (more_stand (held_in bytes) 0 1 c.loop-at.changed (get_or c.args.numbers.now c.loop-at.at 0, c.in-Some.block) c.loop-at.invariant.stand
-      (subst (λ (n : ℕ). StandsAt (held_in bytes) 0 (1 + 9 * n) c.in-Some.block) (sym c.loop-at.invariant.count) here));
+      (subst (λ (n : ℕ). BlockStandsAt (held_in bytes) 0 (1 + 9 * n) c.in-Some.block) (sym c.loop-at.invariant.count) here));
 }

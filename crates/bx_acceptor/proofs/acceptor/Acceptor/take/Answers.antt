@@ -5,7 +5,7 @@ use Rattle.bx_cell.specs.Cells.{HasEither, next}
 use Rattle.bx_cell.specs.Images.{EachSure}
 use Rattle.bx_global.specs.Bytes.{held_text}
 use Rattle.bx_acceptor.specs.Disks.{Writes}
-use Rattle.bx_acceptor.specs.Standing.{IsStanding, Standing}
+use Rattle.bx_acceptor.specs.Standing.{IsAcceptorView, AcceptorView}
 use Rattle.bx_acceptor.proofs.Kept.{held_by, stored_before, stored_so, unmoved_either, with_cell, writes_nothing}
 use Rattle.bx_acceptor.proofs.Taking.{answered, became, brought_here, brought_is, cell_after, changes_not, became_so, no_cell, stands_with, takes_here, took_so, unmoved, untaken}
 use Rattle.bx_acceptor.proofs.acceptor.Acceptor.take.Goals as goal
@@ -128,7 +128,7 @@ returns-in_err-from-clause-answers g c =
 
 pub returns-in_err-from-clause-standing : goal.returns-in_err-from-clause-standing
 returns-in_err-from-clause-standing g c =
-    subst IsStanding c.self.view_is c.self.invariant
+    subst IsAcceptorView c.self.view_is c.self.invariant
 
 pub returns-in_err-from-clause-holds : goal.returns-in_err-from-clause-holds
 returns-in_err-from-clause-holds g c =
@@ -168,7 +168,7 @@ returns-in_default-clause-spare g c =
 
 pub returns-in_default-clause-standing : goal.returns-in_default-clause-standing
 returns-in_default-clause-standing g c =
-    subst IsStanding c.self.view_is c.self.invariant
+    subst IsAcceptorView c.self.view_is c.self.invariant
 
 pub returns-in_default-clause-holds : goal.returns-in_default-clause-holds
 returns-in_default-clause-holds g c =
@@ -208,7 +208,7 @@ returns-in_err-serve-clause-either g c =
 
 pub returns-in_err-serve-clause-disks : goal.returns-in_err-serve-clause-disks
 returns-in_err-serve-clause-disks g c =
-    λ tells. subst (λ (a : Standing). Writes (g.R.Rack.state c.args.rack.now) (g.R.Rack.state c.serve.new.rack) (g.R.Rack.moment c.args.rack.now) (g.R.Rack.moment c.serve.new.rack) (g.R.Rack.left_since c.args.rack.now) (g.R.Rack.left_since c.serve.new.rack) a.replica) c.self.view_is (c.in_err-serve.ensures.disks tells)
+    λ tells. subst (λ (a : AcceptorView). Writes (g.R.Rack.state c.args.rack.now) (g.R.Rack.state c.serve.new.rack) (g.R.Rack.moment c.args.rack.now) (g.R.Rack.moment c.serve.new.rack) (g.R.Rack.left_since c.args.rack.now) (g.R.Rack.left_since c.serve.new.rack) a.replica) c.self.view_is (c.in_err-serve.ensures.disks tells)
 
 pub returns-clause-stored : goal.returns-clause-stored
 returns-clause-stored g c =
@@ -228,7 +228,7 @@ returns-clause-either g c =
 
 pub returns-clause-disks : goal.returns-clause-disks
 returns-clause-disks g c =
-    λ tells. subst (λ (a : Standing). Writes (g.R.Rack.state c.args.rack.now) (g.R.Rack.state c.serve.new.rack) (g.R.Rack.moment c.args.rack.now) (g.R.Rack.moment c.serve.new.rack) (g.R.Rack.left_since c.args.rack.now) (g.R.Rack.left_since c.serve.new.rack) a.replica) c.self.view_is (c.in_ok-serve.ensures.disks tells)
+    λ tells. subst (λ (a : AcceptorView). Writes (g.R.Rack.state c.args.rack.now) (g.R.Rack.state c.serve.new.rack) (g.R.Rack.moment c.args.rack.now) (g.R.Rack.moment c.serve.new.rack) (g.R.Rack.left_since c.args.rack.now) (g.R.Rack.left_since c.serve.new.rack) a.replica) c.self.view_is (c.in_ok-serve.ensures.disks tells)
 
 pub invariant_of-self : goal.invariant_of-self
 invariant_of-self g c =

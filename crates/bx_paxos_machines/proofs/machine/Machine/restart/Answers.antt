@@ -4,7 +4,7 @@ use Rattle.bx_base.specs.declared.names.Actor.TheVariants.{Replica as OfReplica}
 use Rattle.bx_facts.specs.Pasts.{register_failed, register_restarted, register_with}
 use Rattle.bx_paxos.proofs.Sending.{start_sends}
 use Rattle.bx_paxos.specs.Fits.{Fits, Turned, going}
-use Rattle.bx_proposer.specs.Standing.{Standing as Proposer}
+use Rattle.bx_proposer.specs.Standing.{ProposerView as Proposer}
 use Rattle.bx_paxos_machines.specs.Parts.{IsOf, IsPart, IsWhole, name_of, proposer_of}
 use Rattle.bx_paxos_machines.specs.declared.machine.Machine.{Machine}
 use Rattle.bx_paxos_machines.proofs.Others.{other_part, other_starts, quiet_moments, replica_part, sync_labels, sync_members, sync_moments, sync_only}

@@ -3,7 +3,7 @@ use Rattle.bx_facts.specs.Pasts.{Decides, register_with}
 use Rattle.bx_paxos.proofs.Replicas.{proposer_takes}
 use Rattle.bx_paxos.proofs.Sending.{proposer_sends}
 use Rattle.bx_paxos.specs.Fits.{Fits, Turned, going}
-use Rattle.bx_proposer.specs.Standing.{Standing as Proposer}
+use Rattle.bx_proposer.specs.Standing.{ProposerView as Proposer}
 use Rattle.bx_rounds.specs.Courses.{LeadsOn}
 use Rattle.bx_paxos_machines.specs.Parts.{HasCells, IsOf, IsPart, IsWhole, KnowsPlace, cell_of, course_of, name_of, proposer_of}
 use Rattle.bx_paxos_machines.specs.declared.machine.Machine.{Machine}

@@ -13,7 +13,7 @@ use Rattle.bx_node_steps.proofs.Answering.{AnswersFrom, AreNumbered, IsOther, an
 use Rattle.bx_node_steps.proofs.Order.{among_put, behind_all, may_put, order_front, order_last, put_among, put_in_order}
 use Rattle.bx_node_tries.specs.Tries.{AllGo, AreNone, CallGoes, IsAnswerTo, is_attempted}
 use Rattle.bx_node_tries.specs.Tries.AllGo.{MoreGo, NoneGo}
-use Rattle.bx_node_tries.specs.Tries.Goes.{Answered, Begins, Needs, Stays}
+use Rattle.bx_node_tries.specs.Tries.CallGoes.{Answered, Begins, Needs, Stays}
 use Rattle.bx_node_tries.specs.declared.round.Begun.{Begun}
 use Rattle.bx_node_tries.specs.declared.round.Round.{Round}
 use Rattle.bx_node_tries.specs.declared.round.Said.{Said}

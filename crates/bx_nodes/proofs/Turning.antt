@@ -19,7 +19,7 @@ use Rattle.bx_node_tries.specs.declared.round.Said.{Said}
 use Rattle.bx_node_steps.specs.declared.machine.Machine.{Machine}
 use Rattle.bx_node_tries.specs.Tries.{AllGo, AreNeeded, CallGoes, MayWait, is_newer}
 use Rattle.bx_node_tries.specs.Tries.AllGo.{MoreGo, NoneGo}
-use Rattle.bx_node_tries.specs.Tries.Goes.{Answered, Begins, Needs as Needing, Stays}
+use Rattle.bx_node_tries.specs.Tries.CallGoes.{Answered, Begins, Needs as Needing, Stays}
 use Rattle.bx_node_tries.specs.Tries.MayWait.{Changes, Newer, Over as IsOver, Wants}
 use Rattle.bx_node_steps.proofs.Order.{wait_still}
 use Rattle.bx_node_tries.specs.declared.round.Begun.{Begun}

@@ -4,7 +4,7 @@ use Rattle.std.proofs.lemmas.Iterator.Adapters.{YieldsList-from_vec}
 use Rattle.std.proofs.lemmas.Iterator.Consumers.{YieldsList-end}
 use Rattle.bx_node_tries.specs.Tries.{AllGo}
 use Rattle.bx_node_tries.specs.Tries.AllGo.{NoneGo, MoreGo}
-use Rattle.bx_node_tries.specs.Tries.Goes.{Stays}
+use Rattle.bx_node_tries.specs.Tries.CallGoes.{Stays}
 use Rattle.bx_node_tries.specs.declared.round.Round.{Round}
 use Rattle.bx_node_tries.specs.declared.round.Waiting.{Waiting}
 use Rattle.bx_node_tries.proofs.Led.{none_led, still_needed}

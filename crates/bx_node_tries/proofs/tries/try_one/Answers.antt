@@ -1,6 +1,6 @@
 use Rattle.std.proofs.Common.{◌≡◌, ◌∙◌, false, sym, ℕ, List, [], ◌∷◌, ◌++◌, Option, refl, ap, subst}
 use Rattle.std.specs.Prelude.{IfSome}
-use Rattle.bx_node_tries.specs.Tries.Goes.{Answered, Needs}
+use Rattle.bx_node_tries.specs.Tries.CallGoes.{Answered, Needs}
 use Rattle.bx_node_tries.specs.Tries.MayWait.{Changes, Newer, Over, Wants}
 use Rattle.bx_node_tries.specs.Tries.{IsChange, MayWait, Tried}
 use Rattle.bx_node_tries.specs.declared.round.Said.{Said}

@@ -23,7 +23,7 @@ module _ (MayStop : Type 0) where
   pub begins_newest : (newest : List Line) → AllowedNewest (Allows MayStop) newest → BeginsSchedule (reverse newest)
   begins_newest [] done = tt
   begins_newest (line ∷ before) done =
-      let place : HasPlace (length (reverse before) == 0) line = rw (length-reverse before) done.0.in_place.0 in
+      let place : HasPlace (length (reverse before) == 0) line = rw (length-reverse before) done.0.in_place in
       rw (reverse-append (line ∷ []) before) (begins_push (reverse before) line (begins_newest before done.1) place)
 
   pub few_newest : (newest : List Line) → AllowedNewest (Allows MayStop) newest → length newest ≤ 4294967295

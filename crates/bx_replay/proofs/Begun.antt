@@ -16,14 +16,14 @@ use Rattle.bx_script.proofs.Spelled.{spelling_injective}
 use Rattle.bx_script.specs.ScheduleLine.{spelling}
 use Rattle.bx_script.specs.declared.line.Line.{Line}
 use Rattle.bx_script.specs.declared.line.Line.TheVariants.{Heading}
-use Rattle.bx_replay.specs.Lines.{IsInPlace}
 use Rattle.bx_replay.specs.Replay.{IsBegun, Reached, ReplayStands}
+use Rattle.bx_script.specs.Schedule.{HasPlace}
 
 first_is : {A : Type 0} (x y : A) (xs ys : List A) → x ∷ xs ≡ y ∷ ys → x ≡ y
 first_is x y xs ys e = cc
 
 -- a text begins with one line
-one_first : (text : List ℕ) (a b : Line) (a_rest b_rest : List ℕ) → IsInPlace true a → IsInPlace true b → BeginsWith text (spelling a) a_rest → BeginsWith text (spelling b) b_rest → a ≡ b
+one_first : (text : List ℕ) (a b : Line) (a_rest b_rest : List ℕ) → HasPlace true a → HasPlace true b → BeginsWith text (spelling a) a_rest → BeginsWith text (spelling b) b_rest → a ≡ b
 one_first text a b a_rest b_rest a_place b_place a_begins b_begins =
     spelling_injective a b a_place.0.0 b_place.0.0
     (first_is (spelling a) (spelling b) (lines_of a_rest) (lines_of b_rest) (sym (lines_of-begins text (spelling a) a_rest a_begins) ∙ lines_of-begins text (spelling b) b_rest b_begins))
@@ -33,7 +33,7 @@ module _ (volume nodes devices areas : ℕ) where
   heading = Heading volume nodes devices areas
 
   -- a cluster in which nothing happened yet shows what the heading tells
-  pub reached_first : (shape : Shape) (seen : Seen) (greatest : ℕ) → IsInPlace true heading → shape.nodes ≡ nodes → shape.devices ≡ devices → greatest ≡ 0 → IsNew shape seen → Reached ⊥ seen greatest (heading ∷ [])
+  pub reached_first : (shape : Shape) (seen : Seen) (greatest : ℕ) → HasPlace true heading → shape.nodes ≡ nodes → shape.devices ≡ devices → greatest ≡ 0 → IsNew shape seen → Reached ⊥ seen greatest (heading ∷ [])
   reached_first shape seen greatest place nodes_are devices_are zero new = record {
     headed = omega arith;
     are_done = (record { few = omega arith; in_place = place; there = tt; steady = tt; fit = (tt, tt) }, tt);
@@ -46,7 +46,7 @@ module _ (volume nodes devices areas : ℕ) where
     };
   }
 
-  pub begun : (shape : Shape) (seen : Seen) (greatest : ℕ) (text rest : List ℕ) → IsInPlace true heading → BeginsWith text (spelling heading) rest → shape.nodes ≡ nodes → shape.devices ≡ devices → greatest ≡ 0 → IsNew shape seen → IsBegun seen greatest text rest
+  pub begun : (shape : Shape) (seen : Seen) (greatest : ℕ) (text rest : List ℕ) → HasPlace true heading → BeginsWith text (spelling heading) rest → shape.nodes ≡ nodes → shape.devices ≡ devices → greatest ≡ 0 → IsNew shape seen → IsBegun seen greatest text rest
   begun shape seen greatest text rest place begins nodes_are devices_are zero new = record {
     heading = heading;
     in_place = place;
@@ -72,8 +72,8 @@ module _ (volume nodes devices areas : ℕ) where
   }
 
   -- and so with any heading that the text begins with, which is that one
-  pub led_first : (Led : Tree → List Part → Type 0) (lacking : set.FinSet nat_cmp) (text rest : List ℕ) → IsInPlace true heading → BeginsWith text (spelling heading) rest → Led (first_tree volume areas) [] → lacking ≡ set.empty
-      → (other : Line) (left start : List ℕ) → IsInPlace true other → BeginsWith text (spelling other) left → ReplayStands ⊥ Led lacking (record { line = other; parts = [] } ∷ []) start start
+  pub led_first : (Led : Tree → List Part → Type 0) (lacking : set.FinSet nat_cmp) (text rest : List ℕ) → HasPlace true heading → BeginsWith text (spelling heading) rest → Led (first_tree volume areas) [] → lacking ≡ set.empty
+      → (other : Line) (left start : List ℕ) → HasPlace true other → BeginsWith text (spelling other) left → ReplayStands ⊥ Led lacking (record { line = other; parts = [] } ∷ []) start start
   led_first Led lacking text rest place begins led none other left start other_place other_begins =
       subst (λ (line : Line). ReplayStands ⊥ Led lacking (record { line = line; parts = [] } ∷ []) start start) (one_first text heading other rest left place other_place begins other_begins)
       (stands_first Led lacking start led none)

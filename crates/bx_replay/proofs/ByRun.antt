@@ -98,7 +98,7 @@ module _ (MayStop : Type 0) where
 
   turned_by_run : (done : List Line) (text : List ℕ) (reason : Reason) (value : Line) → InRange value → text ≡ spelling value → Allows MayStop (reverse done) value → IsTurnedAway MayStop done text reason → GoesByRun MayStop reason value
   turned_by_run done text reason value in_range spelled allows away =
-      let same : away.value ≡ value = spelling_injective away.value value away.in_place.0.0 in_range (sym away.spelled ∙ spelled) in
+      let same : away.value ≡ value = spelling_injective away.value value away.in_place.0 in_range (sym away.spelled ∙ spelled) in
       goes_by_run reason (reverse done) value allows (subst (IsRefusedLine MayStop reason (after_lines (reverse done))) same away.why)
 
   refuses_by_run : (done : List Line) (line : List ℕ) (reason : Reason) (value : Line) → InRange value → line ≡ spelling value → Allows MayStop (reverse done) value → Refuses MayStop done line reason → GoesByRun MayStop reason value

@@ -21,13 +21,13 @@ use Rattle.bx_schedule.specs.Doing.{IsDone, IsLine}
 use Rattle.bx_schedule.specs.Lacking.{AreLacking}
 use Rattle.bx_schedule.specs.Places.{HasAsMany, Place, has_stopped, lines_by}
 use Rattle.bx_schedule.specs.Placing.{ArePartsOf, Done, IsByLines, is_down_after, is_down_by, lines_of, nodes_after, parts_of, schedule_of}
-use Rattle.bx_script.specs.Schedule.{is_heading, reading_of}
+use Rattle.bx_script.specs.Schedule.{HasPlace, is_heading, reading_of}
 use Rattle.bx_script.specs.TraceText.{InTraceRange, trace_text}
 use Rattle.bx_script.specs.declared.line.Line.{Line}
 use Rattle.bx_script.specs.declared.line.Line.TheVariants.{Heading, Call, Run, Tick, Deliver, Next, Sync, Hold, Free, Drop, Crash, CrashAll, Restart, RestartAll, Blank}
 use Rattle.bx_script.specs.declared.trace_line.TraceLine.{TraceLine}
 use Rattle.bx_replay.specs.Headline.{opening_of}
-use Rattle.bx_replay.specs.Lines.{Allows, IsInPlace, after_lines, devices_in}
+use Rattle.bx_replay.specs.Lines.{Allows, after_lines, devices_in}
 use Rattle.bx_replay.specs.Replay.{Reached, ShowsLines, ReplayStands, StandsAfter}
 use Rattle.bx_replay.proofs.Refusals.{TellsNone, line_allowed}
 use Rattle.bx_replay.proofs.TraceTexts.{trace_text-append}
@@ -118,7 +118,7 @@ by_lines MayStop seen greatest done shows who there = by (seen.down who) (is_dow
         none (inr may) = inr may
 
 module _ {C R : Type 0} (seen_of : C → Seen) (led_of : C → Disks → Tree → List Part → Type 0) (ra : racks.Ghosts R) (laws : LineLaws) (tells_none : TellsNone)
-    (line : Line) (old new : Place C) (before after : R) (is_done : IsDone seen_of led_of ra line old before new after) (place : IsInPlace false line) (start : ℕ) (first : start ≤ ra.faults before) where
+    (line : Line) (old new : Place C) (before after : R) (is_done : IsDone seen_of led_of ra line old before new after) (place : HasPlace false line) (start : ℕ) (first : start ≤ ra.faults before) where
   abbrev Was : Type 0
   Was = Rose start (ra.faults before)
 

@@ -19,13 +19,14 @@ use Rattle.bx_script.specs.declared.trace_line.TraceLine.TheVariants.{Acted}
 use Rattle.bx_stops.specs.declared.stop.Reason.{Reason}
 use Rattle.bx_stops.specs.declared.stop.Reason.TheVariants.{Grammar}
 use Rattle.bx_replay.specs.Headline.{Headline, opening_of}
-use Rattle.bx_replay.specs.Lines.{IsInPlace, IsRefusedLine, after_lines}
+use Rattle.bx_replay.specs.Lines.{IsRefusedLine, after_lines}
 use Rattle.bx_replay.specs.Outcome.{IsBroken, IsCutOff, IsRefused, IsReplayed, closing_text}
 use Rattle.bx_replay.specs.Replay.{Going, IsRead, Reached, ReplayStands, StandsAfter, WroteOn}
 use Rattle.bx_replay.proofs.Allowed.{are_done, begins_newest}
 use Rattle.bx_replay.proofs.Headlines.{IsOfLines, no_headline}
 use Rattle.bx_replay.proofs.NextLines.{IsRefusedHere}
 use Rattle.bx_replay.proofs.ReadLines.{all_read, cut_at, cut_first, lines_read, one_more, read_lines, refused_empty, refused_first, refused_line, refused_outside}
+use Rattle.bx_script.specs.Schedule.{HasPlace}
 
 -- what led to a cluster has the headline's property
 abbrev pub Heads : Type 0 → (Tree → List Part → Type 0) → Type 0
@@ -80,7 +81,7 @@ module _ (MayStop : Type 0) (Led : Tree → List Part → Type 0) (lacking : set
         holds = record { first = refused_outside MayStop seen greatest text rest number so_far here; trace = its_trace; last = head.0; headline = head.1; output-is = refl };
       }
 
-  pub stops_refused : Heads MayStop Led → (reason : Reason) (line : Line) (next : List ℕ) → number < 4294967295 → BeginsWith rest (spelling line) next → IsInPlace false line → IsRefusedLine MayStop reason (after_lines (lines_of going.done)) line
+  pub stops_refused : Heads MayStop Led → (reason : Reason) (line : Line) (next : List ℕ) → number < 4294967295 → BeginsWith rest (spelling line) next → HasPlace false line → IsRefusedLine MayStop reason (after_lines (lines_of going.done)) line
       → WroteOn start written (IsRefused MayStop text (number + 1) reason)
   stops_refused heads reason line next few begins place why =
       let head = heads going.done going.stands.led of_lines in

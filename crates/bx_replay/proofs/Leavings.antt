@@ -16,11 +16,12 @@ use Rattle.bx_script.specs.declared.trace_line.TraceLine.{TraceLine}
 use Rattle.bx_script.specs.declared.trace_line.TraceLine.TheVariants.{Acted}
 use Rattle.bx_stops.specs.declared.stop.Stop.{Stop}
 use Rattle.bx_stops.specs.declared.stop.Stop.TheVariants as stops
-use Rattle.bx_replay.specs.Lines.{IsInPlace, after_lines}
+use Rattle.bx_replay.specs.Lines.{after_lines}
 use Rattle.bx_replay.specs.Outcome.{IsBroken, IsReplayed, IsShownBy}
 use Rattle.bx_replay.specs.Replay.{Begins, DoesLine, Ends, GivesLine, Going, HasBeginCause, HasFinishCause, HasLineCause, HasStepCause, IsRead, IsRefusedFor, IsShownAs, IsUnread, Leaves, Reached, StandsAfter, WroteOn}
 use Rattle.bx_replay.proofs.Goings.{ClosesSo, Heads, begins_broken, begins_cut, begins_empty, begins_outside, finishes, stops_broken, stops_cut, stops_outside, stops_refused, stops_torn, stops_unfinished}
 use Rattle.bx_replay.proofs.ReadLines.{all_read, cut_at, cut_first, refused_empty, refused_first, refused_line, refused_outside}
+use Rattle.bx_script.specs.Schedule.{HasPlace}
 
 pub begin_stops : (MayStop : Type 0) {A : Type 0} (seen : A → Seen) (greatest : A → ℕ) (Tells : Type 0) (ReplayStands : Tree → List TraceLine → Type 0) (stop : Stop) (text rest left start : List ℕ) (before now bench_before bench_now : ℕ) → HasBeginCause stop before now bench_before bench_now
     → Begins seen greatest (Err stop) text rest left → Leaves MayStop Tells ReplayStands (Err stop) text left start start
@@ -56,7 +57,7 @@ module _ (MayStop Tells : Type 0) (ReplayStands : Tree → List TraceLine → Ty
   -- Where a line is refused, or its lines of the trace aren't all written.
   pub step_stops : (stop : Stop) (text rest next left start old new : List ℕ) (number before now : ℕ) (line : Line) (Led_now : Tree → List Part → Type 0) (heads_now : Tells → Heads MayStop Led_now) (lacking_now : set.FinSet nat_cmp) (seen_now : Seen) (greatest_now : ℕ)
       → (so_far : IsRead MayStop seen greatest text rest number) → (going : Tells → Going MayStop Led lacking seen greatest text rest number start old) → number < 4294967295 → BeginsWith rest (spelling line) next
-      → IsInPlace false line → HasStepCause stop (number + 1) before now → IsRefusedFor MayStop stop (number + 1) (after_lines so_far.done) line → ((tells : Tells) → IsRefusedFor MayStop stop (number + 1) (after_lines (lines_of (going tells).done)) line)
+      → HasPlace false line → HasStepCause stop (number + 1) before now → IsRefusedFor MayStop stop (number + 1) (after_lines so_far.done) line → ((tells : Tells) → IsRefusedFor MayStop stop (number + 1) (after_lines (lines_of (going tells).done)) line)
       → ((tells : Tells) → DoesLine (Err stop) (λ written. Reached MayStop seen_now greatest_now (line ∷ lines_of (going tells).done) × StandsAfter MayStop Led_now lacking_now line (going tells).done start written) old new)
       → Leaves MayStop Tells ReplayStands (Err stop) text left start new
   step_stops (stops.Refused n reason) text rest next left start old new number before now line Led_now heads_now lacking_now seen_now greatest_now so_far going few begins place cause refused refused_then does =

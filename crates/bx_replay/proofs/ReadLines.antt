@@ -13,7 +13,7 @@ use Rattle.bx_script.proofs.Spelled.{spelling_lacks_feed}
 use Rattle.bx_stops.specs.declared.stop.Reason.{Reason}
 use Rattle.bx_stops.specs.declared.stop.Reason.TheVariants.{Grammar, NoMachine, ClockBack, NoPacket, Up, Down, NothingToSync, StillNeeded}
 use Rattle.bx_opens.specs.bx_world_events.specs.Refusals.{Seen}
-use Rattle.bx_replay.specs.Lines.{IsInPlace, IsRefusedLine, after_lines}
+use Rattle.bx_replay.specs.Lines.{IsRefusedLine, after_lines}
 use Rattle.bx_replay.specs.Outcome.{IsCut, IsPlayable, IsReadTo, IsReplayRefusal, IsRefusedAt, IsTurnedAway}
 use Rattle.bx_replay.specs.Replay.{IsRead}
 use Rattle.bx_replay.proofs.Allowed.{are_done, begins_newest, few_newest}
@@ -114,7 +114,7 @@ module _ (MayStop : Type 0) where
   }
 
   pub outside : (done : List Line) (number : ℕ) (first : List ℕ) (others : List (List ℕ)) → 0 < length done → number ≡ length done
-      → (4294967295 < number + 1) ⊎ ((value : Line) → IsInPlace ((number + 1) == 1) value → first ≢ spelling value) → IsRefusedAt MayStop (reverse done) (first ∷ others) Grammar
+      → (4294967295 < number + 1) ⊎ ((value : Line) → HasPlace ((number + 1) == 1) value → first ≢ spelling value) → IsRefusedAt MayStop (reverse done) (first ∷ others) Grammar
   outside done number first others some count (inl many) = inl (omega (arith, count, many, length-reverse done))
   outside done number first others some count (inr none) = inr (λ value place. none value (rw (not_first done number some count) place))
 
@@ -123,7 +123,7 @@ module _ (MayStop : Type 0) where
       refused_at seen greatest text rest number so_far Grammar (here.0 ∷ here.1) here.2 (outside so_far.done number here.0 here.1 so_far.reached.headed so_far.count here.3)
 
   -- a line in the grammar is turned away
-  pub turned_away : (done : List Line) (line : Line) (reason : Reason) → 0 < length done → length done < 4294967295 → IsInPlace false line → IsRefusedLine MayStop reason (after_lines done) line
+  pub turned_away : (done : List Line) (line : Line) (reason : Reason) → 0 < length done → length done < 4294967295 → HasPlace false line → IsRefusedLine MayStop reason (after_lines done) line
       → IsTurnedAway MayStop (reverse done) (spelling line) reason
   turned_away done line reason some few place why = record {
     few = omega (arith, few, length-reverse done);
@@ -133,7 +133,7 @@ module _ (MayStop : Type 0) where
     why = rw (reverse-reverse done) why;
   }
 
-  pub line_refused_at : (done : List Line) (line : Line) (others : List (List ℕ)) (reason : Reason) → 0 < length done → length done < 4294967295 → IsInPlace false line → IsRefusedLine MayStop reason (after_lines done) line
+  pub line_refused_at : (done : List Line) (line : Line) (others : List (List ℕ)) (reason : Reason) → 0 < length done → length done < 4294967295 → HasPlace false line → IsRefusedLine MayStop reason (after_lines done) line
       → IsRefusedAt MayStop (reverse done) (spelling line ∷ others) reason
   line_refused_at done line others Grammar some few place why = absurd why
   line_refused_at done line others NoMachine some few place why = turned_away done line NoMachine some few place why
@@ -145,7 +145,7 @@ module _ (MayStop : Type 0) where
   line_refused_at done line others StillNeeded some few place why = turned_away done line StillNeeded some few place why
 
   abbrev pub refused_line : (seen : Seen) (greatest : ℕ) (text rest next : List ℕ) (number : ℕ) (line : Line) (so_far : IsRead MayStop seen greatest text rest number) → number < 4294967295 → BeginsWith rest (spelling line) next
-      → IsInPlace false line → (reason : Reason) → IsRefusedLine MayStop reason (after_lines so_far.done) line → IsReplayRefusal MayStop text (number + 1) reason
+      → HasPlace false line → (reason : Reason) → IsRefusedLine MayStop reason (after_lines so_far.done) line → IsReplayRefusal MayStop text (number + 1) reason
   refused_line seen greatest text rest next number line so_far few begins place reason why =
       refused_at seen greatest text rest number so_far reason (spelling line ∷ lines_of next) (lines_of-begins rest (spelling line) next begins)
       (line_refused_at so_far.done line (lines_of next) reason so_far.reached.headed (let count = so_far.count in omega (arith, few, count)) place why)
@@ -158,7 +158,7 @@ module _ (MayStop : Type 0) where
   abbrev pub refused_empty : (text : List ℕ) → text ≡ [] → IsReplayRefusal MayStop text 1 Grammar
   refused_empty text e = begins_refused text [] (ap lines_of e) (refl, refl)
 
-  pub first_outside : (first : List ℕ) (others : List (List ℕ)) → (4294967295 < 1) ⊎ ((value : Line) → IsInPlace (1 == 1) value → first ≢ spelling value) → IsRefusedAt MayStop [] (first ∷ others) Grammar
+  pub first_outside : (first : List ℕ) (others : List (List ℕ)) → (4294967295 < 1) ⊎ ((value : Line) → HasPlace (1 == 1) value → first ≢ spelling value) → IsRefusedAt MayStop [] (first ∷ others) Grammar
   first_outside first others (inl many) = absurd (omega (arith, many))
   first_outside first others (inr none) = inr none
 

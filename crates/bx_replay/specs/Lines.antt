@@ -13,21 +13,6 @@ use Rattle.bx_script.specs.declared.line.Line.TheVariants.{Heading, Call, Tick, 
 use Rattle.bx_stops.specs.declared.stop.Reason.{Reason}
 use Rattle.bx_stops.specs.declared.stop.Reason.TheVariants.{Grammar, NoMachine, ClockBack, NoPacket, Up, Down, NothingToSync, StillNeeded}
 
--- ---- where lines may stand
-
--- A line of this stage: no machine crashes by a line, nor restarts, nor loses its disk.
-abbrev pub is_of_stage : Line → Bool
-is_of_stage (Crash machine noise) = false
-is_of_stage (CrashAll noise) = false
-is_of_stage (Restart reading machine) = false
-is_of_stage (RestartAll reading) = false
-is_of_stage (Blank machine) = false
-is_of_stage line = true
-
--- the line has its place in a schedule, as its first one or a later one, and is of this stage
-abbrev pub IsInPlace : Bool → Line → Type 0
-IsInPlace first line = HasPlace first line × (is_of_stage line ≡ true)
-
 -- ---- what lines name
 
 -- the machines that a line names; those between which a packet is to arrive needn't be there
@@ -123,7 +108,7 @@ IsFit MayStop machines line = IfSome (needs_up line) (λ who. machines.down who 
 -- disk is needed, lines don't tell.)
 pub record Allows (MayStop : Type 0) (before : List Line) (line : Line) : Type 0 where
   pub few : length before < 4294967295
-  pub in_place : IsInPlace (length before == 0) line
+  pub in_place : HasPlace (length before == 0) line
   pub there : AllAreThere (after_lines before) line
   pub steady : IsSteady (after_lines before) line
   pub fit : IsFit MayStop (after_lines before) line

@@ -7,7 +7,7 @@ use Rattle.bx_model.specs.Listing.{listing}
 use Rattle.bx_model.specs.declared.tree.Tree.{Tree}
 use Rattle.bx_opens.specs.Opening.{AreOpenAlone}
 use Rattle.bx_opens.specs.bx_rack_audit.specs.Alone.{StandAlone}
-use Rattle.bx_script.specs.Schedule.{IsSchedule}
+use Rattle.bx_script.specs.Schedule.{HasPlace, IsSchedule}
 use Rattle.bx_script.specs.ScheduleLine.{spelling}
 use Rattle.bx_script.specs.TraceText.{trace_text}
 use Rattle.bx_script.specs.declared.line.Line.{Line}
@@ -16,7 +16,7 @@ use Rattle.bx_script.specs.declared.trace_line.TraceLine.TheVariants.{Acted}
 use Rattle.bx_stops.specs.declared.stop.Reason.{Reason}
 use Rattle.bx_stops.specs.declared.stop.Reason.TheVariants.{Grammar, NoMachine, ClockBack, NoPacket, Up, Down, NothingToSync, StillNeeded}
 use Rattle.bx_replay.specs.Headline.{Headline}
-use Rattle.bx_replay.specs.Lines.{Allows, AreDone, GoesByRun, IsInPlace, IsRefusedLine, after_lines}
+use Rattle.bx_replay.specs.Lines.{Allows, AreDone, GoesByRun, IsRefusedLine, after_lines}
 
 -- what comes after the trace: the word `end`, the closing lines, and the listing of the tree
 abbrev pub closing_text : List TraceLine → Tree → List ℕ
@@ -54,13 +54,13 @@ pub record IsReplayed (MayStop : Type 0) (text : List ℕ) (ReplayStands : Tree 
 pub record IsTurnedAway (MayStop : Type 0) (before : List Line) (text : List ℕ) (reason : Reason) : Type 0 where
   pub few : length before < 4294967295
   pub value : Line
-  pub in_place : IsInPlace (length before == 0) value
+  pub in_place : HasPlace (length before == 0) value
   pub spelled : text ≡ spelling value
   pub why : IsRefusedLine MayStop reason (after_lines (reverse before)) value
 
 -- A line of text is refused behind these lines, for a reason. The text decides that it is outside the grammar: no line that has its place there is spelled so, or there is no room for one.
 abbrev pub Refuses : Type 0 → List Line → List ℕ → Reason → Type 0
-Refuses MayStop before text Grammar = (4294967295 ≤ length before) ⊎ ((value : Line) → IsInPlace (length before == 0) value → text ≢ spelling value)
+Refuses MayStop before text Grammar = (4294967295 ≤ length before) ⊎ ((value : Line) → HasPlace (length before == 0) value → text ≢ spelling value)
 Refuses MayStop before text NoMachine = IsTurnedAway MayStop before text NoMachine
 Refuses MayStop before text (ClockBack by) = IsTurnedAway MayStop before text (ClockBack by)
 Refuses MayStop before text (NoPacket packet) = IsTurnedAway MayStop before text (NoPacket packet)

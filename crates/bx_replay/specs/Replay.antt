@@ -26,8 +26,9 @@ use Rattle.bx_stops.specs.declared.stop.Reason.TheVariants.{Grammar}
 use Rattle.bx_stops.specs.declared.stop.Stop.{Stop}
 use Rattle.bx_stops.specs.declared.stop.Stop.TheVariants as stops
 use Rattle.bx_replay.specs.Headline.{opening_of}
-use Rattle.bx_replay.specs.Lines.{Allows, IsInPlace, IsRefusedLine, Machines, after_lines}
+use Rattle.bx_replay.specs.Lines.{Allows, IsRefusedLine, Machines, after_lines}
 use Rattle.bx_replay.specs.Outcome.{IsBroken, IsCut, IsCutOff, IsPlayable, IsReadTo, IsReplayRefusal, IsRefused, IsReplayed, closing_text}
+use Rattle.bx_script.specs.Schedule.{HasPlace}
 
 -- A cluster shows what lines tell of its machines: no other is down, unless one may have stopped by itself.
 pub record ShowsLines (MayStop : Type 0) (machines : Machines) (seen : Seen) (greatest : ℕ) : Type 0 where
@@ -115,7 +116,7 @@ GivesLine (Ok (Some line)) number text rest left = BeginsWith text (spelling lin
 GivesLine (Ok None) number text rest left = (text ≡ []) × (left ≡ [])
 GivesLine (Err (stops.Refused line reason)) number text rest left =
     (first : List ℕ) × (others : List (List ℕ)) × (text_lines text ≡ first ∷ others)
-    × ((4294967295 < number) ⊎ ((value : Line) → IsInPlace (number == 1) value → first ≢ spelling value))
+    × ((4294967295 < number) ⊎ ((value : Line) → HasPlace (number == 1) value → first ≢ spelling value))
 GivesLine (Err stops.ReadFault) number text rest left = (piece : List ℕ) × (text ≡ piece ++ left) × LacksFeed piece × (length piece ≤ 18600)
 GivesLine (Err stops.WriteFault) number text rest left = ⊥
 GivesLine (Err stops.DiskFault) number text rest left = ⊥
@@ -134,7 +135,7 @@ HasLineCause stops.OutOfMemory number before now = Unit {0}
 -- The text begins with a heading, with which a cluster that shows this was begun; no clock was read, and no machine stopped.
 pub record IsBegun (seen : Seen) (greatest : ℕ) (text rest : List ℕ) : Type 0 where
   pub heading : Line
-  pub in_place : IsInPlace true heading
+  pub in_place : HasPlace true heading
   pub begins : BeginsWith text (spelling heading) rest
   pub reached : Reached ⊥ seen greatest (heading ∷ [])
 
@@ -149,7 +150,7 @@ Begins seen greatest (Err stops.OutOfMemory) text rest left = Unit {0}
 
 -- The heading that the text begins with has no events: with it the cluster stands for what was written before.
 abbrev pub BeginsLed : {A : Type 0} → (A → Tree → List Part → Type 0) → (A → set.FinSet nat_cmp) → Result A Stop → List ℕ → Type 0
-BeginsLed Led lacking (Ok begun) text = (heading : Line) (rest start : List ℕ) → IsInPlace true heading → BeginsWith text (spelling heading) rest
+BeginsLed Led lacking (Ok begun) text = (heading : Line) (rest start : List ℕ) → HasPlace true heading → BeginsWith text (spelling heading) rest
     → ReplayStands ⊥ (Led begun) (lacking begun) (record { line = heading; parts = [] } ∷ []) start start
 BeginsLed Led lacking (Err stop) text = Unit {0}
 

@@ -3,8 +3,8 @@
 ghost use Rattle.std.specs.Prelude.{◌≡◌, ◌≢◌, ◌≤◌, ◌==◌, ◌++◌, IfOk, IfErr, IfSome, IfNone, OnSome};
 ghost use Rattle.bx_script.specs.declared.line.Line.{Line};
 ghost use Rattle.bx_script.specs.ScheduleLine.{spelling};
-ghost use Rattle.bx_replay.specs.Lines.{IsInPlace, is_of_stage};
 ghost use Rattle.bx_replay.specs.Replay.{GivesLine, HasLineCause, UnlessRead};
+ghost use Rattle.bx_script.specs.Schedule.{HasPlace};
 
 use bx_base::OutOfMemory;
 use bx_outside::{LineReader, Next, Source};
@@ -13,7 +13,7 @@ use bx_stops::{Reason, Stop};
 use std::alloc::Global;
 
 /// The line with this number, counted from 1, of a schedule; `None` at the end of the input. It is refused where it is
-/// outside the grammar, not in its place or not of this stage, and where a schedule can't have so many lines.
+/// outside the grammar or not in its place, and where a schedule can't have so many lines.
 pub fn next_line<S: Source>(
     alloc: Global,
     reader: &mut LineReader,
@@ -23,7 +23,7 @@ pub fn next_line<S: Source>(
     requires { reader.old.most ≡ 18600 }
     ensures gives { S.tells input.old → GivesLine result number (reader.old.ahead ++ S.left input.old)
         (reader.new.ahead ++ S.left input.new) (S.left input.new) }
-    ensures in_place { IfOk result (λ found. IfSome found (IsInPlace (number == 1))) }
+    ensures in_place { IfOk result (λ found. IfSome found (HasPlace (number == 1))) }
     ensures few { IfOk result (λ found. OnSome found (number ≤ 4294967295)) }
     ensures cause { IfErr result (λ stop. HasLineCause stop number (S.faults input.old) (S.faults input.new)) }
     ensures first { UnlessRead result (S.faults input.new ≡ S.faults input.old) }
@@ -45,27 +45,13 @@ pub fn next_line<S: Source>(
     }
 }
 
-/// The line that a text spells, if it may stand there: the heading is the first line, and no other is a heading; and it is of this stage.
+/// The line that a text spells, if it may stand there: the heading is the first line, and no other is a heading.
 fn line_at(alloc: Global, text: &[u8], first: bool) -> Result<Option<Line>, OutOfMemory>
-    ensures found { IfOk result (λ found. IfSome found (λ line. IsInPlace first line × (text.now ≡ spelling line))) }
-    ensures none { IfOk result (λ found. IfNone found ((line : Line) → IsInPlace first line → text.now ≢ spelling line)) }
+    ensures found { IfOk result (λ found. IfSome found (λ line. HasPlace first line × (text.now ≡ spelling line))) }
+    ensures none { IfOk result (λ found. IfNone found ((line : Line) → HasPlace first line → text.now ≢ spelling line)) }
 {
     match Line::read(alloc, text)? {
-        Some(line) if line.is_heading() == first && is_of_stage(&line) => Ok(Some(line)),
+        Some(line) if line.is_heading() == first => Ok(Some(line)),
         _ => Ok(None),
     }
-}
-
-/// The line is of this stage: no machine crashes by it, nor restarts, nor loses its disk.
-fn is_of_stage(line: &Line) -> bool
-    ensures { result ≡ is_of_stage line.now }
-{
-    !matches!(
-        line,
-        Line::Crash { .. }
-            | Line::CrashAll { .. }
-            | Line::Restart { .. }
-            | Line::RestartAll { .. }
-            | Line::Blank { .. }
-    )
 }

@@ -8,8 +8,9 @@ ghost use Rattle.bx_model.specs.declared.tree.Tree.{Tree};
 ghost use Rattle.bx_schedule.specs.Places.{CanGo, place_of};
 ghost use Rattle.bx_schedule.specs.Placing.{Done, lines_of};
 ghost use Rattle.bx_script.specs.declared.line.Line.{Line};
-ghost use Rattle.bx_replay.specs.Lines.{IsInPlace, after_lines};
+ghost use Rattle.bx_replay.specs.Lines.{after_lines};
 ghost use Rattle.bx_replay.specs.Replay.{DoesLine, HasStepCause, IsRefusedFor, Reached, ReplayStands, StandsAfter, UnlessWrite};
+ghost use Rattle.bx_script.specs.Schedule.{HasPlace};
 
 use crate::stops::stop_of;
 use bx_disk::CrashRack;
@@ -38,7 +39,7 @@ pub(crate) fn step<C: Cluster, K: Sink, B: CrashRack>(
     bench: &mut B,
     out: &mut K,
 ) -> Result<(), Stop>
-    requires line { IsInPlace false at.line.now }
+    requires line { HasPlace false at.line.now }
     requires goes { CanGo C.seen C.room B.Rack (place_of schedule.old) bench.old }
     requires few { C.events schedule.old.cluster + 20 < 4611686018427387904 }
     ensures goes { OnOk result (CanGo C.seen C.room B.Rack (place_of schedule.new) bench.new) }

@@ -14,7 +14,7 @@ use std::alloc::Global;
 
 /// The line with this number, counted from 1, of a schedule; `None` at the end of the input. It is refused where it is
 /// outside the grammar or not in its place, and where a schedule can't have so many lines.
-pub fn next_line<S: Source>(
+pub(crate) fn next_line<S: Source>(
     alloc: Global,
     reader: &mut LineReader,
     input: &mut S,

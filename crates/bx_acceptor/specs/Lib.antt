@@ -1,4 +1,4 @@
 pub mod Disks
 pub mod Saving
-pub mod AcceptorView
+pub mod Standing
 pub mod Starting

@@ -3,6 +3,6 @@ pub mod Hearing
 pub mod Lost
 pub mod Sending
 pub mod Serves
-pub mod HostView
+pub mod Standing
 pub mod Steps
 pub mod Turns

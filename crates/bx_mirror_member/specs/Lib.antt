@@ -1,3 +1,3 @@
-pub mod MemberView
+pub mod Standing
 pub mod Acting
 pub mod Steps

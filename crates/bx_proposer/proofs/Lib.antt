@@ -1,1 +1,1 @@
-pub mod ProposerView
+pub mod Standing

@@ -1,3 +1,3 @@
 pub mod Names
 pub mod Letters
-pub mod ProposerView
+pub mod Standing

@@ -4,7 +4,7 @@ use Rattle.bx_blink.specs.bx_truth.specs.Chunks.{chunks_of}
 use Rattle.bx_blink.specs.bx_truth.specs.PageTrees.{PageTree, IsIn, IsTree}
 use Rattle.bx_blink.specs.bx_truth.proofs.OneTree.{same_height, same_levels}
 use Rattle.bx_blink.specs.bx_views.specs.Truths.{Truth, Hints}
-use Rattle.bx_inodes.specs.Hints.{HintsFit, Place, StandsAt}
+use Rattle.bx_inodes.specs.Hints.{HintsFit, Place, PlaceStands}
 
 module _ (areas : ℕ) (hints : Hints) (truth : Truth) (root : ℕ) (a b : PageTree) (is_a : IsTree (chunks_of areas truth) root a) (is_b : IsTree (chunks_of areas truth) root b) (fit : HintsFit areas hints truth root a) where
   height : a.height ≡ b.height
@@ -13,7 +13,7 @@ module _ (areas : ℕ) (hints : Hints) (truth : Truth) (root : ℕ) (a b : PageT
   level_same : (level : ℕ) → level ≤ a.height → a.level level ≡ b.level level
   level_same level le = same_levels (chunks_of areas truth) root a b is_a is_b (a.height - level) level (omega (arith, le))
 
-  stands_in : (handle : ℕ) (place : Place) → StandsAt a handle place → StandsAt b handle place
+  stands_in : (handle : ℕ) (place : Place) → PlaceStands a handle place → PlaceStands b handle place
   stands_in handle place s = record {
     node = s.node;
     within = let w = s.within in omega (arith, w, height);

@@ -1,0 +1,4 @@
+pub mod Datagrams
+pub mod Draws
+pub mod Progress
+pub mod Schedules

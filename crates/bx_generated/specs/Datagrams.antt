@@ -21,7 +21,7 @@ number_of Statfs = 17
 number_of Symlink = 13
 
 -- the call's number, CALL (0), version 2 of RPC, NFS (100003) in version 2, the procedure, and an empty credential and verifier of flavor AUTH_NONE (0)
-abbrev pub header : ℕ → Procedure → List ℕ
+unfoldable pub header : ℕ → Procedure → List ℕ
 header number procedure = words (number ∷ 0 ∷ 2 ∷ 100003 ∷ 2 ∷ number_of procedure ∷ 0 ∷ 0 ∷ 0 ∷ 0 ∷ [])
 
 -- the name with a number: the letter f, and the number
@@ -29,15 +29,15 @@ abbrev pub name_of : ℕ → List ℕ
 name_of number = codes "f" ++ decimal number
 
 -- the file handle of the root, which is the first that a volume gives: slot 0 of area 0 in generation 1
-abbrev pub root_text : ℕ → List ℕ
+unfoldable pub root_text : ℕ → List ℕ
 root_text volume = fixed_text (file_text volume 1)
 
 -- the name with a number in the root
-abbrev pub place_text : ℕ → ℕ → List ℕ
+unfoldable pub place_text : ℕ → ℕ → List ℕ
 place_text volume number = root_text volume ++ opaque_text (name_of number)
 
 -- attributes to set: the mode, or none where it is 2^32 - 1; no others
-abbrev pub attributes_text : ℕ → List ℕ
+unfoldable pub attributes_text : ℕ → List ℕ
 attributes_text mode = words (mode ∷ 4294967295 ∷ 4294967295 ∷ 4294967295 ∷ 4294967295 ∷ 4294967295 ∷ 4294967295 ∷ 4294967295 ∷ [])
 
 -- The file that is written to: slot 2 + 2 * first of area 0, in generation 1. In an order of calls without others that is what the first file of so many that are made gets.

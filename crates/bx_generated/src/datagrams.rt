@@ -30,7 +30,7 @@ const DIRECTORY_MODE: u32 = 0o755;
 const CONTENT: [u8; 100] = [b'x'; 100];
 
 /// The datagram of the call with a number, from 1 on, of a volume.
-#[tactic(auto, unfolding(crate::specs::Datagrams::datagram))]
+#[tactic(auto, unfolding(crate::specs::Datagrams::datagram, crate::specs::Datagrams::header))]
 pub(crate) fn datagram(
     alloc: Global,
     volume: u64,
@@ -117,6 +117,7 @@ fn put_made(
 }
 
 /// Puts the file handle of a file, its place and what is written there.
+#[tactic(auto, unfolding(crate::specs::Datagrams::arguments))]
 fn put_written(
     writer: &mut Writer,
     volume: u64,
@@ -130,10 +131,12 @@ fn put_written(
     let handle = (u64::from(2 + 2 * first) << 32) + 1;
     writer.put_fixed(&file_handle(volume, handle))?;
     writer.put_words(&[0, 97 * second, 0])?;
-    writer.put_opaque(&CONTENT)
+    writer.put_opaque(&CONTENT)?;
+    Ok(())
 }
 
 /// Puts the root's file handle.
+#[tactic(auto, unfolding(crate::specs::Datagrams::root_text))]
 fn put_root(writer: &mut Writer, volume: u64) -> Result<(), OutOfMemory>
     ensures { OnOk result (writer.new ≡ writer.old ++ root_text volume) }
 {
@@ -141,6 +144,7 @@ fn put_root(writer: &mut Writer, volume: u64) -> Result<(), OutOfMemory>
 }
 
 /// Puts the root's file handle, and the name with a number.
+#[tactic(auto, unfolding(crate::specs::Datagrams::place_text))]
 fn put_place(
     alloc: Global,
     writer: &mut Writer,
@@ -151,7 +155,8 @@ fn put_place(
 {
     put_root(writer, volume)?;
     let name = name(alloc, number)?;
-    writer.put_opaque(name.as_slice())
+    writer.put_opaque(name.as_slice())?;
+    Ok(())
 }
 
 /// The name with a number: the letter f, and the number.
@@ -165,6 +170,7 @@ fn name(alloc: Global, number: u32) -> Result<Vec<u8>, OutOfMemory>
 }
 
 /// Puts attributes to set: a mode, where it isn't `UNSET`.
+#[tactic(auto, unfolding(crate::specs::Datagrams::attributes_text))]
 fn put_attributes(writer: &mut Writer, mode: u32) -> Result<(), OutOfMemory>
     ensures { OnOk result (writer.new ≡ writer.old ++ attributes_text mode) }
 {

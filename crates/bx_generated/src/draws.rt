@@ -1,9 +1,10 @@
 //! What is drawn for a call.
 
 ghost use Rattle.std.specs.Prelude.{◌≡◌, ◌<◌, ◌≤◌};
-ghost use Rattle.rand_pcg.specs.Pcg.{pcg32};
-ghost use Rattle.bx_generated.specs.Draws.{after_five, drawn, procedure_of};
+ghost use Rattle.bx_disk.specs.Crash.{seeded};
+ghost use Rattle.bx_generated.specs.Draws.{after_five, after_word, drawn, procedure_of, word_of};
 
+use rand_core::SeedableRng;
 use rand_core::utils::NextWord;
 use rand_pcg::Pcg32;
 
@@ -47,6 +48,14 @@ pub struct Draw {
     pub turn: u32,
 }
 
+/// The generator with a seed.
+#[tactic(auto, unfolding(bx_disk::specs::Crash::seeded))]
+pub(crate) fn seeded(seed: u64) -> Pcg32
+    ensures { result ≡ seeded seed }
+{
+    Pcg32::seed_from_u64(seed)
+}
+
 /// Draws a call for one of so many nodes.
 pub(crate) fn next_draw(generator: &mut Pcg32, nodes: u32) -> Draw
     requires { 0 < nodes }
@@ -56,12 +65,21 @@ pub(crate) fn next_draw(generator: &mut Pcg32, nodes: u32) -> Draw
     ensures after { generator.new ≡ after_five generator.old }
 {
     Draw {
-        node: generator.next_word() % nodes,
-        procedure: procedure_with(generator.next_word() % 10),
-        first: generator.next_word() % 100,
-        second: generator.next_word() % 100,
-        turn: generator.next_word() % 10,
+        node: next_word(generator) % nodes,
+        procedure: procedure_with(next_word(generator) % 10),
+        first: next_word(generator) % 100,
+        second: next_word(generator) % 100,
+        turn: next_word(generator) % 10,
     }
+}
+
+/// Draws a word.
+#[tactic(auto, unfolding(crate::specs::Draws::word_of, crate::specs::Draws::after_word))]
+fn next_word(generator: &mut Pcg32) -> u32
+    ensures value { result ≡ word_of generator.old }
+    ensures after { generator.new ≡ after_word generator.old }
+{
+    generator.next_word()
 }
 
 /// The procedure with a number below 10.

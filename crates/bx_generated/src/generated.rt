@@ -1,6 +1,6 @@
 //! A generated schedule, call by call.
 
-ghost use Rattle.std.specs.Prelude.{◌≡◌, ◌<◌, ◌≤◌, ◌+◌, ◌++◌, OnOk, nat_le, ℕ};
+ghost use Rattle.std.specs.Prelude.{◌≡◌, ◌<◌, ◌≤◌, ◌+◌, ◌++◌, OnErr, OnOk, nat_le, ℕ};
 ghost use Rattle.bx_base.specs.Text.{ended};
 ghost use Rattle.bx_script.specs.ScheduleLine.{spelling};
 ghost use Rattle.bx_script.specs.declared.line.Line.TheVariants.{Heading};
@@ -8,10 +8,9 @@ ghost use Rattle.bx_generated.specs.Datagrams.{datagram};
 ghost use Rattle.bx_generated.specs.Schedules.{again_lines, call_lines, crash_lines, freed_lines, held_lines, lines_behind, node_ticks, reading_at, text_of_lines, tick_lines, ticks};
 
 use crate::datagrams::datagram;
-use crate::draws::{Draw, next_draw};
+use crate::draws::{Draw, next_draw, seeded};
 use crate::lines::{put_call, put_crash, put_heading, put_restart, put_run, put_tick, put_wants};
 use bx_base::{Actor, OutOfMemory};
-use rand_core::SeedableRng;
 use rand_pcg::Pcg32;
 use std::alloc::Global;
 use std::marker::Model;
@@ -30,33 +29,37 @@ pub struct Generated {
     nodes: u32,
     calls: u32,
     made: u32,
+    next: Draw,
 }
 
 impl Model for Generated {
-    ghost use Rattle.std.specs.Prelude.{◌≡◌, ◌≤◌, ◌<◌};
-    ghost use Rattle.bx_generated.specs.Draws.{generator_behind};
+    ghost use Rattle.std.specs.Prelude.{◌≡◌, ◌≤◌, ◌<◌, ◌+◌};
+    ghost use Rattle.bx_generated.specs.Draws.{draw_behind, generator_behind};
     ghost use Rattle.bx_generated.specs.Progress.{Progress};
 
     ghost Value = { Progress };
 
     ghost view = { λ g. record { seed = g.seed; nodes = g.nodes; calls = g.calls; made = g.made } };
 
-    ghost invariant = { λ g. (g.generator ≡ generator_behind g.seed g.made) × (1 ≤ g.nodes) × (g.nodes ≤ 4) × (g.made ≤ g.calls) };
+    ghost invariant = { λ g. (g.generator ≡ generator_behind g.seed (g.made + 1)) × (g.next ≡ draw_behind g.seed g.nodes g.made) × (g.next.first < 100) × (g.next.second < 100) × (1 ≤ g.nodes) × (g.made ≤ g.calls) × (g.calls ≤ 20000) };
 }
 
 impl Generated {
-    /// The schedule of a seed, with so many nodes, 1 to 4, and calls. No call is made yet.
+    /// The schedule of a seed, with so many nodes, and calls, at most 20000. No call is made yet.
     pub fn new(seed: u64, nodes: u32, calls: u32) -> Generated
         requires some { 1 ≤ nodes }
-        requires most { nodes ≤ 4 }
+        requires most { calls ≤ 20000 }
         ensures { result ≡ record { seed = seed; nodes = nodes; calls = calls; made = 0 } }
     {
+        let mut generator = seeded(seed);
+        let next = next_draw(&mut generator, nodes);
         Generated {
-            generator: Pcg32::seed_from_u64(seed),
+            generator,
             seed,
             nodes,
             calls,
             made: 0,
+            next,
         }
     }
 
@@ -74,18 +77,30 @@ impl Generated {
         put_heading(text, self.seed, self.nodes)
     }
 
-    /// Makes the next call, and puts its lines behind a text, with those that come behind it. Without memory a part of them is put.
-    #[tactic(auto, unfolding(crate::specs::Schedules::lines_behind))]
+    /// Makes the next call, and puts its lines behind a text, with those that come behind it. Without memory a part of them is put, and the
+    /// call isn't made.
     pub fn put_next(&mut self, alloc: Global, text: &mut Vec<u8>) -> Result<(), OutOfMemory>
         requires { self.old.made < self.old.calls }
         ensures text { OnOk result (text.new.items ≡ text.old.items ++ text_of_lines (lines_behind self.old.seed self.old.nodes self.old.calls self.old.made)) }
-        ensures made { self.new ≡ record self.old { made = self.old.made + 1 } }
+        ensures made { OnOk result (self.new ≡ record self.old { made = self.old.made + 1 }) }
+        ensures err { OnErr result (self.new ≡ self.old) }
     {
-        let draw = next_draw(&mut self.generator, self.nodes);
+        self.put_lines(alloc, text)?;
         self.made += 1;
-        put_call_lines(alloc, text, self.seed, self.made, &draw)?;
-        put_ticks(text, self.nodes, self.made)?;
-        put_crash_lines(text, self.nodes, self.calls, self.made)
+        self.next = next_draw(&mut self.generator, self.nodes);
+        Ok(())
+    }
+
+    // Puts the lines of the next call behind a text, with those that come behind it.
+    #[tactic(auto, unfolding(crate::specs::Schedules::lines_behind))]
+    fn put_lines(&self, alloc: Global, text: &mut Vec<u8>) -> Result<(), OutOfMemory>
+        requires { self.now.made < self.now.calls }
+        ensures { OnOk result (text.new.items ≡ text.old.items ++ text_of_lines (lines_behind self.now.seed self.now.nodes self.now.calls self.now.made)) }
+    {
+        let number = self.made + 1;
+        put_call_lines(alloc, text, self.seed, number, &self.next)?;
+        put_ticks(text, self.nodes, number)?;
+        put_crash_lines(text, self.nodes, self.calls, number)
     }
 }
 
@@ -173,6 +188,7 @@ fn put_ticks(text: &mut Vec<u8>, nodes: u32, number: u32) -> Result<(), OutOfMem
 }
 
 /// Puts the ticks of the first so many nodes.
+#[tactic(auto, using(crate::proofs::Texts::node_step), unfolding(crate::specs::Schedules::node_ticks))]
 fn put_node_ticks(text: &mut Vec<u8>, nodes: u32, number: u32) -> Result<(), OutOfMemory>
     ensures { OnOk result (text.new.items ≡ text.old.items ++ text_of_lines (node_ticks number nodes)) }
 {

@@ -1,2 +1,4 @@
 pub mod Drawing
+pub mod Grammar
+pub mod Sized
 pub mod Texts

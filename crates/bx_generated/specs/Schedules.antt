@@ -56,7 +56,7 @@ ticks nodes number =
 unfoldable pub crash_lines : ℕ → ℕ → ℕ → List Line
 crash_lines nodes calls number =
     if nat_le 5 calls && ((number % (calls / 5) == 0) && nat_le (number / (calls / 5)) 4) then
-        Crash (Node (number / (calls / 5) % nodes)) Keep ∷ Restart (reading_at number) (Node (number / (calls / 5) % nodes)) ∷ run_line number ∷ []
+    Crash (Node (number / (calls / 5) % nodes)) Keep ∷ Restart (reading_at number) (Node (number / (calls / 5) % nodes)) ∷ run_line number ∷ []
     else []
 
 -- the lines of the call behind so many others, whose number is one more, and of what comes behind it

@@ -17,6 +17,7 @@ const ROOT: u64 = 1;
 
 /// NFS, and the version of it and of RPC.
 const NFS: u32 = 100003;
+
 const VERSION: u32 = 2;
 
 /// What an attribute is that isn't set.
@@ -24,6 +25,7 @@ const UNSET: u32 = u32::MAX;
 
 /// The modes of files and of directories.
 const FILE_MODE: u32 = 0o644;
+
 const DIRECTORY_MODE: u32 = 0o755;
 
 /// What is written to files.
@@ -118,12 +120,7 @@ fn put_made(
 
 /// Puts the file handle of a file, its place and what is written there.
 #[tactic(auto, unfolding(crate::specs::Datagrams::arguments))]
-fn put_written(
-    writer: &mut Writer,
-    volume: u64,
-    first: u32,
-    second: u32,
-) -> Result<(), OutOfMemory>
+fn put_written(writer: &mut Writer, volume: u64, first: u32, second: u32) -> Result<(), OutOfMemory>
     requires first { first < 100 }
     requires second { second < 100 }
     ensures { OnOk result (writer.new ≡ writer.old ++ arguments volume Write first second) }

@@ -57,11 +57,7 @@ pub(crate) fn put_run(text: &mut Vec<u8>, reading: u64) -> Result<(), OutOfMemor
 }
 
 /// Puts a tick's line.
-pub(crate) fn put_tick(
-    text: &mut Vec<u8>,
-    reading: u64,
-    machine: Actor,
-) -> Result<(), OutOfMemory>
+pub(crate) fn put_tick(text: &mut Vec<u8>, reading: u64, machine: Actor) -> Result<(), OutOfMemory>
     ensures { OnOk result (text.new.items ≡ text.old.items ++ ended (spelling (Tick reading machine))) }
 {
     push(text, b"tick")?;

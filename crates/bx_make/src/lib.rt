@@ -3,6 +3,7 @@
 
 mod counts;
 mod makes;
+pub mod probe;
 mod source;
 
 pub use makes::{Plan, make};

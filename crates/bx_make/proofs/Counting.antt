@@ -190,7 +190,7 @@ count_told : (word : List ℕ) (test : TraceLine → Bool) (trace closing : List
 count_told word test trace closing tells other fits =
     let one = count_trace word test trace (ended (codes "end") ++ trace_text closing) tells (in_front trace closing fits) in
     let two = count_one word (codes "end") (trace_text closing) end_lacks (omega arith) in
-    let none : cond (begins_with word (codes "end" ++ 10 ∷ trace_text closing)) 1 0 ≡ 0 = ap (λ (b : Bool). cond b 1 0) (other (trace_text closing)) in
+    let none : cond {A = ℕ} (begins_with word (codes "end" ++ 10 ∷ trace_text closing)) 1 0 ≡ 0 = ap (λ (b : Bool). cond b 1 0) (other (trace_text closing)) in
     let three = count_trace word test closing [] tells (in_back trace closing fits) in
     let same : trace_text closing ++ [] ≡ trace_text closing = append-nil (trace_text closing) in
     let last : count_lines word true (trace_text closing) ≡ number_of test closing + 0 = ap (count_lines word true) (sym same) ∙ three ∙ ap (λ (n : ℕ). number_of test closing + n) (empty word) in

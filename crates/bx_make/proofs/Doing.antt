@@ -36,6 +36,10 @@ onto_reverse [] before = refl
 onto_reverse (line ∷ lines) before =
     onto_reverse lines (line ∷ before) ∙ sym (ap (λ (l : List Line). l ++ before) (reverse-append (line ∷ []) lines) ∙ append_assoc (reverse lines) (line ∷ []) before)
 
+onto_length : (lines before : List Line) → length (onto lines before) ≡ length lines + length before
+onto_length [] before = omega arith
+onto_length (line ∷ lines) before = let h = onto_length lines (line ∷ before) in omega (arith, h)
+
 module _ (MayStop : Type 0) (nodes : ℕ) where
   -- How it stands behind lines, the newest first: each was allowed, the cluster has the nodes and one device, no clock is past a reading, and every machine is up, but maybe one.
   record Stands (down : Actor → Bool) (reading most : ℕ) (before : List Line) : Type 0 where
@@ -344,9 +348,9 @@ module _ (MayStop : Type 0) (nodes : ℕ) where
       subst (AllowedNewest (Allows MayStop)) whole all.allowed
 
   -- there are few of them
-  pub generated_few : (seed calls : ℕ) → seed < 2 ^ 64 → 1 ≤ nodes → nodes ≤ 4 → calls ≤ 20000 → length (onto (generated seed nodes calls) []) ≤ 4294967295
+  pub generated_few : (seed calls : ℕ) → seed < 2 ^ 64 → 1 ≤ nodes → nodes ≤ 4 → calls ≤ 20000 → length (generated seed nodes calls) ≤ 4294967295
   unfolding generated
   generated_few seed calls fits one four few =
       let all = after_all seed calls calls (Heading seed nodes 1 2 ∷ []) few one four (begun seed fits one four) in
       let h = all.few in
-      omega (arith, h, few)
+      omega (arith, h, few, onto_length (lines_to seed nodes calls calls) (Heading seed nodes 1 2 ∷ []))

@@ -1,2 +1,4 @@
 pub mod Counting
 pub mod Doing
+pub mod Feeds
+pub mod Refused

@@ -61,7 +61,10 @@ impl GeneratedSource {
         ensures faults { self.new.faults ≡ self.old.faults }
         ensures none { OnOk result (length self.new.ahead ≡ 0 → self.new.behind ≡ []) }
     {
-        if self.at < self.text.len() || self.generated.is_done() {
+        if self.at < self.text.len() {
+            return Ok(());
+        }
+        if self.generated.is_done() {
             return Ok(());
         }
         let mut text = Vec::new(self.alloc);

@@ -1,8 +1,8 @@
 //! The counts of lines of a trace.
 
-ghost use Rattle.std.specs.Prelude.{◌≡◌, ◌≤◌, ◌++◌, ◌+◌, [], ◌∷◌, true, codes, decimal, drop, length, take, IfOk, OnOk};
+ghost use Rattle.std.specs.Prelude.{◌≡◌, ◌≤◌, ◌++◌, ◌+◌, ◌&&◌, if◌then◌else◌, [], ◌∷◌, true, codes, decimal, drop, length, take, IfOk, OnOk};
 ghost use Rattle.bx_base.specs.Text.{ended, text_of};
-ghost use Rattle.bx_make.specs.Counts.{bytes_before, count_line, count_lines, seen_text};
+ghost use Rattle.bx_make.specs.Counts.{begins_with, bytes_before, count_line, count_lines, seen_text};
 
 use bx_base::{OutOfMemory, push};
 use itoa::Buffer;
@@ -28,32 +28,48 @@ pub(crate) fn counts(alloc: Global, calls: u32, output: &[u8]) -> Result<Vec<u8>
 }
 
 /// How many bytes come before the first line of a file.
+#[tactic(auto, unfolding(crate::specs::Counts::bytes_before))]
 fn listing_at(output: &[u8]) -> usize
     ensures value { result ≡ bytes_before (codes "file ") true output.now }
     ensures within { result ≤ length output.now }
 {
     let mut starts = true;
-    let mut at = 0;
-    while at < output.len() && !(starts && output[at..].starts_with(FILE)) {
+    for at in 0..output.len() {
+        if begins(output, at, starts, FILE) {
+            return at;
+        }
         starts = output[at] == b'\n';
-        at += 1;
     }
-    at
+    output.len()
 }
 
 /// How many lines begin with a word.
+#[tactic(auto, unfolding(crate::specs::Counts::count_lines))]
 fn count(text: &[u8], word: &[u8]) -> usize
     ensures value { result ≡ count_lines word.now true text.now }
 {
     let mut count = 0;
     let mut starts = true;
     for at in 0..text.len() {
-        if starts && text[at..].starts_with(word) {
-            count += 1;
-        }
+        count += one_where(begins(text, at, starts, word));
         starts = text[at] == b'\n';
     }
     count
+}
+
+// Whether a line begins at a place, and begins with a word there.
+fn begins(text: &[u8], at: usize, starts: bool, word: &[u8]) -> bool
+    requires { at ≤ length text.now }
+    ensures { result ≡ (starts && begins_with word.now (drop at text.now)) }
+{
+    starts && text[at..].starts_with(word)
+}
+
+// 1 or 0.
+fn one_where(holds: bool) -> usize
+    ensures { result ≡ (if holds then 1 else 0) }
+{
+    if holds { 1 } else { 0 }
 }
 
 /// Puts a line of a word and a number.

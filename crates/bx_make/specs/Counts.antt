@@ -1,7 +1,6 @@
 -- How many lines of each kind a trace has, with what comes behind it.
-use Rattle.std.specs.Prelude.{ℕ, ◌+◌, ◌==◌, ◌&&◌, Bool, true, false, if◌then◌else◌, List, [], ◌∷◌, ◌++◌, length, codes, decimal, take, drop}
-use Rattle.std.specs.List.{count_by}
-use Rattle.std.specs.Str.{bytes_eq}
+use Rattle.std.specs.Prelude.{ℕ, ◌+◌, ◌==◌, ◌&&◌, nat_eq, Bool, true, false, if◌then◌else◌, List, [], ◌∷◌, ◌++◌, codes, decimal, take, drop}
+use Rattle.std.specs.List.{count_by, starts_with}
 use Rattle.bx_base.specs.Text.{ended, spaced, text_of}
 use Rattle.bx_model.specs.Listing.{listing}
 use Rattle.bx_model.specs.declared.tree.Tree.{Tree}
@@ -27,7 +26,7 @@ is_again line = false
 
 -- whether a text begins with these bytes
 abbrev pub begins_with : List ℕ → List ℕ → Bool
-begins_with word text = bytes_eq (take (length word) text) word
+begins_with word text = starts_with nat_eq text word
 
 -- how many lines of a text begin with a word; the first byte begins one, where it is said so
 unfoldable pub count_lines : List ℕ → Bool → List ℕ → ℕ

@@ -1,4 +1,5 @@
 pub mod Counting
 pub mod Doing
 pub mod Feeds
+pub mod Made
 pub mod Refused

@@ -3,7 +3,6 @@
 
 mod counts;
 mod makes;
-pub mod probe;
 mod source;
 
 pub use makes::{Plan, make};

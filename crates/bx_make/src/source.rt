@@ -1,6 +1,6 @@
 //! A generated schedule as a source of bytes.
 
-ghost use Rattle.std.specs.Prelude.{◌≡◌, ◌≤◌, ◌<◌, [], ◌++◌, length, take, IfOk, OnOk, OnErr, min};
+ghost use Rattle.std.specs.Prelude.{◌≡◌, ◌≤◌, ◌<◌, ◌^◌, [], ◌++◌, length, take, IfOk, OnOk, OnErr, min};
 ghost use Rattle.bx_base.specs.Faults.{Rose};
 ghost use Rattle.bx_generated.specs.Schedules.{generated_text};
 
@@ -42,6 +42,7 @@ impl GeneratedSource {
         requires some { 1 ≤ nodes }
         requires most { calls ≤ 20000 }
         ensures text { IfOk result (λ source. source.ahead ++ source.behind ≡ generated_text seed nodes calls) }
+        ensures fits { seed < 2 ^ 64 }
     {
         let generated = Generated::new(seed, nodes, calls);
         let mut text = Vec::new(alloc);

@@ -1,0 +1,20 @@
+-- The six lines of a replay.
+use Rattle.std.proofs.Common.{◌≡◌, ℕ, ◌<◌, List, ◌++◌, length, take, refl, ◌∙◌}
+use Rattle.bx_generated.specs.Schedules.{generated_text}
+use Rattle.bx_model.specs.declared.tree.Tree.{Tree}
+use Rattle.bx_replay.specs.Outcome.{IsReplayed}
+use Rattle.bx_replay.specs.Replay.{WroteOn}
+use Rattle.bx_script.specs.declared.trace_line.TraceLine.{TraceLine}
+use Rattle.bx_make.specs.Counts.{seen_text}
+use Rattle.bx_make.specs.Makes.{IsMade, IsMadeInPart}
+use Rattle.bx_make.proofs.Counting.{seen_is}
+
+module _ (MayStop : Type 0) (seed nodes calls : ℕ) (Stands : Tree → List TraceLine → Type 0) (replay text : List ℕ) (replayed : IsReplayed MayStop (generated_text seed nodes calls) Stands replay) (is : text ≡ seen_text calls replay) where
+  made : IsMade MayStop seed nodes calls Stands text
+  made = record { replay = replay; replayed = replayed; output-is = is ∙ seen_is calls replay replayed.trace replayed.closing replayed.last replayed.headline.in_range replayed.output-is }
+
+  pub made_whole : (old new : List ℕ) → new ≡ old ++ text → WroteOn old new (IsMade MayStop seed nodes calls Stands)
+  made_whole old new wrote = record { output = text; added = wrote; holds = made }
+
+  pub made_part : (old new : List ℕ) → (n : ℕ) × (n < length text) × (new ≡ old ++ take n text) → WroteOn old new (IsMadeInPart MayStop seed nodes calls Stands)
+  made_part old new wrote = record { output = take wrote.0 text; added = wrote.2; holds = record { whole = text; made = made; size = wrote.0; part = refl } }

@@ -10,8 +10,9 @@ use Rattle.clap.specs.declared.parser.matches.ArgMatches.{ArgMatches}
 use Rattle.clap.specs.declared.parser.matches.ArgMatches.TheViews.{out-ArgMatches}
 use Rattle.clap.proofs.OnLiterals.{clap_on_literals}
 use Rattle.bx_command_line.specs.declared.command_line.CommandLine.{CommandLine}
-use Rattle.bx_command_line.specs.declared.command_line.CommandLine.TheVariants.{Replay, Format, Check}
-use Rattle.bx_command_line.specs.CommandLines.{AreInRange, AreNone, AreWordsOf, Spell, grammar, words_of}
+use Rattle.bx_command_line.specs.declared.command_line.CommandLine.TheVariants.{Replay, Format, Check, Make}
+use Rattle.bx_command_line.specs.CommandLines.{AreInRange, AreNone, ArePlanned, AreWordsOf, Spell, grammar, words_of}
+use Rattle.bx_command_line.proofs.MakeWords.{takes_make}
 use Rattle.bx_command_line.proofs.Plain.{IsPlain, both, passes, plain_decimal, steps}
 
 -- ---- `format` and three words
@@ -96,6 +97,10 @@ takes_words (Format volume devices areas) words spelled =
     takes_format (decimal volume) (decimal devices) (decimal areas) (plain_decimal volume range.most_volume)
     (plain_decimal devices (let most = range.most_devices in omega (arith, most))) (plain_decimal areas (let most = range.most_areas in omega (arith, most)))
 takes_words Check words spelled = takes_check
+takes_words (Make seed nodes calls) words spelled =
+    let range : ArePlanned seed nodes calls = spelled.in_range in
+    takes_make (decimal seed) (decimal nodes) (decimal calls) (plain_decimal seed range.most_seed)
+    (plain_decimal nodes (let most = range.most_nodes in omega (arith, most))) (plain_decimal calls (let most = range.most_calls in omega (arith, most)))
 
 pub takes_line : (words : List Text) (line : CommandLine) → Spell words line → takes grammar words ≡ true
 takes_line words line spelled = ap (takes grammar) spelled.are ∙ takes_words line words spelled
@@ -113,12 +118,14 @@ abbrev pub name_of : CommandLine → Text
 name_of Replay = codes "replay"
 name_of (Format volume devices areas) = codes "format"
 name_of Check = codes "check"
+name_of (Make seed nodes calls) = codes "make"
 
 enters : (line : CommandLine) → name_in (subcommand_of grammar (words_of line)) ≡ Some (name_of line)
 unfolding clap_on_literals
 enters Replay = refl
 enters (Format volume devices areas) = refl
 enters Check = refl
+enters (Make seed nodes calls) = refl
 
 first_of_pair : {A : Type 0} (name : A → Text) (rows : A → List Row) (met : Option A) → name_in (option_map (λ b. (name b, rows b)) met) ≡ option_map name met
 first_of_pair name rows None = refl
@@ -142,13 +149,14 @@ module _ (words : List Text) (m : ArgMatches) (matches : HasMatchesOf grammar wo
   pub no_name : subcommand_name_of m ≡ None → AreNone words
   no_name none line spelled = absurd (let found = names words m line matches spelled in let e : None ≡ Some (name_of line) = sym none ∙ found in cc)
 
-  -- it was none of these three, or isn't alone
-  pub others : (name : Text) → subcommand_name_of m ≡ Some name → (name ≡ codes "format" → ⊥) → (name ≡ codes "replay" → words ≡ name ∷ [] → ⊥) → (name ≡ codes "check" → words ≡ name ∷ [] → ⊥) → AreNone words
-  others name named no_format no_replay no_check Replay spelled =
+  -- it was none of these four, or isn't alone
+  pub others : (name : Text) → subcommand_name_of m ≡ Some name → (name ≡ codes "format" → ⊥) → (name ≡ codes "make" → ⊥) → (name ≡ codes "replay" → words ≡ name ∷ [] → ⊥) → (name ≡ codes "check" → words ≡ name ∷ [] → ⊥) → AreNone words
+  others name named no_format no_make no_replay no_check Replay spelled =
       let is = same_name name Replay named spelled in no_replay is (spelled.are ∙ ap (λ (w : Text). w ∷ []) (sym is))
-  others name named no_format no_replay no_check (Format volume devices areas) spelled = no_format (same_name name (Format volume devices areas) named spelled)
-  others name named no_format no_replay no_check Check spelled =
+  others name named no_format no_make no_replay no_check (Format volume devices areas) spelled = no_format (same_name name (Format volume devices areas) named spelled)
+  others name named no_format no_make no_replay no_check Check spelled =
       let is = same_name name Check named spelled in no_check is (spelled.are ∙ ap (λ (w : Text). w ∷ []) (sym is))
+  others name named no_format no_make no_replay no_check (Make seed nodes calls) spelled = no_make (same_name name (Make seed nodes calls) named spelled)
 
   -- it was `format`
   pub of_format : (name : Text) (found : Option CommandLine) → subcommand_name_of m ≡ Some name → name ≡ codes "format" → IfSome found (Spell words)
@@ -160,3 +168,16 @@ module _ (words : List Text) (m : ArgMatches) (matches : HasMatchesOf grammar wo
       by Replay spelled = let e : 102 ≡ 114 = ap head_of (sym is ∙ same_name name Replay named spelled) in omega (arith, e)
       by (Format volume devices areas) spelled = none refl volume devices areas spelled
       by Check spelled = let e : 102 ≡ 99 = ap head_of (sym is ∙ same_name name Check named spelled) in omega (arith, e)
+      by (Make seed nodes calls) spelled = let e : 102 ≡ 109 = ap head_of (sym is ∙ same_name name (Make seed nodes calls) named spelled) in omega (arith, e)
+
+  -- it was `make`
+  pub of_make : (name : Text) (found : Option CommandLine) → subcommand_name_of m ≡ Some name → name ≡ codes "make" → IfSome found (Spell words)
+      → (found ≡ None → (seed nodes calls : ℕ) → Spell words (Make seed nodes calls) → ⊥) → AreWordsOf words found
+  of_make name (Some line) named is some none = some
+  of_make name None named is some none = λ line spelled. by line spelled
+    where
+      by : (line : CommandLine) → Spell words line → ⊥
+      by Replay spelled = let e : 109 ≡ 114 = ap head_of (sym is ∙ same_name name Replay named spelled) in omega (arith, e)
+      by (Format volume devices areas) spelled = let e : 109 ≡ 102 = ap head_of (sym is ∙ same_name name (Format volume devices areas) named spelled) in omega (arith, e)
+      by Check spelled = let e : 109 ≡ 99 = ap head_of (sym is ∙ same_name name Check named spelled) in omega (arith, e)
+      by (Make seed nodes calls) spelled = none refl seed nodes calls spelled

@@ -2,9 +2,9 @@
 
 ghost use Rattle.std.specs.Prelude.{◌≡◌, ◌↔◌, IfOk, IsTrue, [], ◌∷◌, map, string_bytes};
 ghost use Rattle.clap.specs.Words.{HasMatchesOf, app_of};
-ghost use Rattle.bx_command_line.specs.CommandLines.{AreWordsOf, format_app, grammar};
+ghost use Rattle.bx_command_line.specs.CommandLines.{AreWordsOf, format_app, grammar, make_app};
 
-use crate::numbers::format_line;
+use crate::numbers::{format_line, make_line};
 use bx_base::OutOfMemory;
 use clap::error::ErrorKind;
 use clap::{Arg, ArgMatches, Command};
@@ -26,6 +26,15 @@ pub enum CommandLine {
     },
     /// `check`: the rack is read, and the listing of its file tree written to the output.
     Check,
+    /// `make S N C`: a schedule is generated and replayed, and six lines that tell of the replay written to the output.
+    Make {
+        /// What the generator begins with.
+        seed: u64,
+        /// How many nodes there are, 1 to 4.
+        nodes: u32,
+        /// How many calls there are, 1 to 20000.
+        calls: u32,
+    },
 }
 
 impl CommandLine {
@@ -59,7 +68,8 @@ fn command<'a>(alloc: Global) -> Result<Command<'a>, AllocError>
         .disable_help_subcommand(true)
         .subcommand(Command::new(alloc, "replay"))?
         .subcommand(format(alloc)?)?
-        .subcommand(Command::new(alloc, "check"))
+        .subcommand(Command::new(alloc, "check"))?
+        .subcommand(make(alloc)?)
 }
 
 // The command `format`.
@@ -72,6 +82,16 @@ fn format<'a>(alloc: Global) -> Result<Command<'a>, AllocError>
         .arg(Arg::new(alloc, "A").required(true))
 }
 
+// The command `make`.
+fn make<'a>(alloc: Global) -> Result<Command<'a>, AllocError>
+    ensures { IfOk result (λ command. app_of command ≡ make_app) }
+{
+    Command::new(alloc, "make")
+        .arg(Arg::new(alloc, "S").required(true))?
+        .arg(Arg::new(alloc, "N").required(true))?
+        .arg(Arg::new(alloc, "C").required(true))
+}
+
 // The command line of words that `clap` takes. It takes `replay --` too, and any texts as numbers, so the words are read besides.
 fn line_of(matches: &ArgMatches<'_>, words: &[String]) -> Option<CommandLine>
     ensures { HasMatchesOf grammar (map string_bytes words.now) matches.now → AreWordsOf (map string_bytes words.now) result }
@@ -79,6 +99,8 @@ fn line_of(matches: &ArgMatches<'_>, words: &[String]) -> Option<CommandLine>
     let name = matches.subcommand_name()?;
     if name == "format" {
         format_line(words)
+    } else if name == "make" {
+        make_line(words)
     } else if name == "replay" && are_only(words, name) {
         Some(CommandLine::Replay)
     } else if name == "check" && are_only(words, name) {

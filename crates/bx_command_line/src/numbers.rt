@@ -2,7 +2,7 @@
 
 ghost use Rattle.std.specs.Prelude.{◌≡◌, ◌≢◌, ◌≤◌, ℕ, IfSome, None, [], ◌∷◌, codes, decimal, map, string_bytes};
 ghost use Rattle.bx_command_line.specs.CommandLines.{Spell};
-ghost use Rattle.bx_command_line.specs.declared.command_line.CommandLine.TheVariants.{Format};
+ghost use Rattle.bx_command_line.specs.declared.command_line.CommandLine.TheVariants.{Format, Make};
 
 use crate::command_line::CommandLine;
 use itoa::Buffer;
@@ -22,6 +22,24 @@ pub fn format_line(words: &[String]) -> Option<CommandLine>
         volume: number(volume.as_str(), 0, u64::MAX)?,
         devices: number(devices.as_str(), 1, 4)? as u32,
         areas: number(areas.as_str(), 1, 64)? as u16,
+    })
+}
+
+/// The command line `make S N C` that these words spell; `None` where they don't.
+pub fn make_line(words: &[String]) -> Option<CommandLine>
+    ensures some { IfSome result (λ line. Spell (map string_bytes words.now) line) }
+    ensures none { result ≡ None → (seed nodes calls : ℕ) → Spell (map string_bytes words.now) (Make seed nodes calls) → ⊥ }
+{
+    let [name, seed, nodes, calls] = words else {
+        return None;
+    };
+    if name.as_str() != "make" {
+        return None;
+    }
+    Some(CommandLine::Make {
+        seed: number(seed.as_str(), 0, u64::MAX)?,
+        nodes: number(nodes.as_str(), 1, 4)? as u32,
+        calls: number(calls.as_str(), 1, 20000)? as u32,
     })
 }
 

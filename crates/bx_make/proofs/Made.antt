@@ -1,12 +1,16 @@
 -- The six lines of a replay.
 use Rattle.std.proofs.Common.{◌≡◌, ℕ, ◌<◌, List, ◌++◌, length, take, refl, ◌∙◌}
+use Rattle.std.specs.Prelude.{Result, Ok, Err, IfErr}
+use Rattle.std.specs.Result.{IsErrAnd}
 use Rattle.bx_generated.specs.Schedules.{generated_text}
 use Rattle.bx_model.specs.declared.tree.Tree.{Tree}
 use Rattle.bx_replay.specs.Outcome.{IsReplayed}
 use Rattle.bx_replay.specs.Replay.{WroteOn}
 use Rattle.bx_script.specs.declared.trace_line.TraceLine.{TraceLine}
+use Rattle.bx_stops.specs.declared.stop.Stop.{Stop}
+use Rattle.bx_stops.specs.declared.stop.Stop.TheVariants as stops
 use Rattle.bx_make.specs.Counts.{seen_text}
-use Rattle.bx_make.specs.Makes.{IsMade, IsMadeInPart}
+use Rattle.bx_make.specs.Makes.{IsMade, IsMadeInPart, LeavesPart}
 use Rattle.bx_make.proofs.Counting.{seen_is}
 
 module _ (MayStop : Type 0) (seed nodes calls : ℕ) (Stands : Tree → List TraceLine → Type 0) (replay text : List ℕ) (replayed : IsReplayed MayStop (generated_text seed nodes calls) Stands replay) (is : text ≡ seen_text calls replay) where
@@ -18,3 +22,8 @@ module _ (MayStop : Type 0) (seed nodes calls : ℕ) (Stands : Tree → List Tra
 
   pub made_part : (old new : List ℕ) → (n : ℕ) × (n < length text) × (new ≡ old ++ take n text) → WroteOn old new (IsMadeInPart MayStop seed nodes calls Stands)
   made_part old new wrote = record { output = take wrote.0 text; added = wrote.2; holds = record { whole = text; made = made; size = wrote.0; part = refl } }
+
+-- a part of the six lines, where the sink failed
+pub write_part : {A : Type 0} (result : Result A Stop) (old new : List ℕ) (Part : List ℕ → Type 0) → IsErrAnd result (λ stop. stop ≡ stops.WriteFault) → WroteOn old new Part → IfErr result (λ stop. LeavesPart stop old new Part)
+write_part (Ok x) old new Part is wrote = tt
+write_part (Err stop) old new Part is wrote = rw is wrote

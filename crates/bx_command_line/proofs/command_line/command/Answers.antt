@@ -1,7 +1,7 @@
 use Rattle.std.proofs.Common.{rules, ◌∙◌, ◌≡◌, ◌&&◌, Bool, true, false, not, refl, ap, ap₂, codes}
 use Rattle.std.proofs.lemmas.Result.{IfOk-weaker}
 use Rattle.clap.specs.Words.{App, app_of, new_app, with_subcommand}
-use Rattle.bx_command_line.specs.CommandLines.{format_app, top}
+use Rattle.bx_command_line.specs.CommandLines.{format_app, make_app, top}
 use Rattle.bx_command_line.proofs.command_line.command.Goals as goal
 
 -- the third of these tests fails: in a plain command no argument is global
@@ -21,4 +21,7 @@ returns c =
     c.in_ok-subcommand.ensures.shape (search rules) ∙ ap₂ with_subcommand top_is (ap (λ (a : App). a.top) replay_is) in
     let two : app_of c.in_ok-subcommand-2.field-0 ≡ with_subcommand (with_subcommand top (new_app (codes "replay")).top) format_app.top =
     c.in_ok-subcommand-2.ensures.shape (third _ _ _ _ (ap (λ (a : App). a.top.is_plain) format_is)) ∙ ap₂ with_subcommand one (ap (λ (a : App). a.top) format_is) in
-    IfOk-weaker c.subcommand-3.result _ _ (λ command adds. adds.shape (search rules) ∙ ap₂ with_subcommand two (ap (λ (a : App). a.top) check_is)) c.subcommand-3.ensures
+    let three : app_of c.in_ok-subcommand-3.field-0 ≡ with_subcommand (with_subcommand (with_subcommand top (new_app (codes "replay")).top) format_app.top) (new_app (codes "check")).top =
+    c.in_ok-subcommand-3.ensures.shape (search rules) ∙ ap₂ with_subcommand two (ap (λ (a : App). a.top) check_is) in
+    let make_is : app_of c.in_ok-make.field-0 ≡ make_app = c.in_ok-make.ensures in
+    IfOk-weaker c.subcommand-4.result _ _ (λ command adds. adds.shape (third _ _ _ _ (ap (λ (a : App). a.top.is_plain) make_is)) ∙ ap₂ with_subcommand three (ap (λ (a : App). a.top) make_is)) c.subcommand-4.ensures

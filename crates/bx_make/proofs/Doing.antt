@@ -149,17 +149,38 @@ module _ (MayStop : Type 0) (nodes : ℕ) where
 
   may_hold : (reading node : ℕ) → node ≤ 3 → node < nodes → May none_down none_down reading (Hold (Node node) (Server 0) 8)
   may_hold reading node low lt = record {
-    place = (hold_later node low).place; there = λ m n d. (omega (arith, lt, n), (omega arith, tt)); read = inl refl; up = tt; lies = tt; same_nodes = λ before. refl; same_devices = λ before. refl; now_down = λ who. refl;
+    place = (hold_later node low).place;
+    there = λ m n d. (omega (arith, lt, n), (omega arith, tt));
+    read = inl refl;
+    up = tt;
+    lies = tt;
+    same_nodes = λ before. refl;
+    same_devices = λ before. refl;
+    now_down = λ who. refl;
   }
 
   may_free : (reading node : ℕ) → node ≤ 3 → node < nodes → May none_down none_down reading (Free (Node node) (Server 0) 8)
   may_free reading node low lt = record {
-    place = (free_later node low).place; there = λ m n d. (omega (arith, lt, n), (omega arith, tt)); read = inl refl; up = tt; lies = tt; same_nodes = λ before. refl; same_devices = λ before. refl; now_down = λ who. refl;
+    place = (free_later node low).place;
+    there = λ m n d. (omega (arith, lt, n), (omega arith, tt));
+    read = inl refl;
+    up = tt;
+    lies = tt;
+    same_nodes = λ before. refl;
+    same_devices = λ before. refl;
+    now_down = λ who. refl;
   }
 
   may_drop : (reading node : ℕ) → node ≤ 3 → node < nodes → May none_down none_down reading (Drop (Node node) (Server 0) 8)
   may_drop reading node low lt = record {
-    place = (drop_later node low).place; there = λ m n d. (omega (arith, lt, n), (omega arith, tt)); read = inl refl; up = tt; lies = tt; same_nodes = λ before. refl; same_devices = λ before. refl; now_down = λ who. refl;
+    place = (drop_later node low).place;
+    there = λ m n d. (omega (arith, lt, n), (omega arith, tt));
+    read = inl refl;
+    up = tt;
+    lies = tt;
+    same_nodes = λ before. refl;
+    same_devices = λ before. refl;
+    now_down = λ who. refl;
   }
 
   -- the one machine that is down
@@ -168,7 +189,14 @@ module _ (MayStop : Type 0) (nodes : ℕ) where
 
   may_crash : (reading node : ℕ) → node ≤ 3 → node < nodes → May none_down (only_down node) reading (Crash (Node node) Keep)
   may_crash reading node low lt = record {
-    place = (crash_later node low).place; there = λ m n d. (omega (arith, lt, n), tt); read = inl refl; up = refl; lies = tt; same_nodes = λ before. refl; same_devices = λ before. refl; now_down = λ who. refl;
+    place = (crash_later node low).place;
+    there = λ m n d. (omega (arith, lt, n), tt);
+    read = inl refl;
+    up = refl;
+    lies = tt;
+    same_nodes = λ before. refl;
+    same_devices = λ before. refl;
+    now_down = λ who. refl;
   }
 
   same_itself : (n : ℕ) → eqb n n ≡ true
@@ -223,7 +251,7 @@ module _ (MayStop : Type 0) (nodes : ℕ) where
       chosen (eqb draw.turn 1) t (most + 1 + 1 + 1 + 1) 2 (drop ∷ free ∷ []) b4 s4 (wider none_down t t (most + 1 + 1 + 1 + 1 + 1 + 1) (most + 1 + 1 + 1 + 1 + 2) (free ∷ drop ∷ b4) (omega arith) (omega arith) s6) in
       let s8 : Up t (most + 6) (onto (cond (eqb draw.turn 1) (drop ∷ free ∷ []) []) b4) = wider none_down t t (most + 1 + 1 + 1 + 1 + 2) (most + 6) _ (omega arith) (omega arith) s7 in
       let whole : onto (cond (eqb draw.turn 1) (hold ∷ []) [] ++ (call ∷ run_line number ∷ (cond (eqb draw.turn 0) (call ∷ []) [] ++ cond (eqb draw.turn 1) (drop ∷ free ∷ []) []))) before
-          ≡ onto (cond (eqb draw.turn 1) (drop ∷ free ∷ []) []) b4 =
+      ≡ onto (cond (eqb draw.turn 1) (drop ∷ free ∷ []) []) b4 =
       onto_append (cond (eqb draw.turn 1) (hold ∷ []) []) (call ∷ run_line number ∷ (cond (eqb draw.turn 0) (call ∷ []) [] ++ cond (eqb draw.turn 1) (drop ∷ free ∷ []) [])) before
       ∙ onto_append (cond (eqb draw.turn 0) (call ∷ []) []) (cond (eqb draw.turn 1) (drop ∷ free ∷ []) []) b3 in
       subst (Up t (most + 6)) (sym whole) s8

@@ -60,11 +60,7 @@ pub fn make<O: Opens, K: Sink, B: CrashRack>(
 }
 
 /// Replays the generated schedule, and keeps what is written.
-fn traced<O: Opens, B: CrashRack>(
-    alloc: Global,
-    plan: Plan,
-    bench: &mut B,
-) -> Result<MemSink, Stop>
+fn traced<O: Opens, B: CrashRack>(alloc: Global, plan: Plan, bench: &mut B) -> Result<MemSink, Stop>
     requires some { 1 ≤ plan.nodes }
     requires most { plan.nodes ≤ 4 }
     requires few { plan.calls ≤ 20000 }

@@ -36,5 +36,5 @@ returns-else-eq-4 c = λ matches.
     ])
     (λ is alone. elim c.else-eq-4.branch [
       | else-eq-4-via-then-eq-4+else-are_only-2 w ↦ let yes = w.are_only-then-eq-4.ensures.1 alone in let no = w.if-are_only-2.false in cc
-      | else-eq-4-via-else-eq-4 w ↦ let yes = (bytes_eq-Decides name (codes "check")).1 is in let test = c.eq-else-eq-3.ensures in let no = w.if-eq-3.false in cc
+      | else-eq-4-via-else-eq-4 w ↦ let yes = (bytes_eq-Decides name (codes "check")).1 is in let test = c.eq-else-eq-3.ensures in let no = w.if-eq-4.false in cc
     ])

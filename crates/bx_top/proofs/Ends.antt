@@ -7,7 +7,7 @@ use Rattle.std.specs.Prelude.{Option, Some, None}
 use Rattle.bx_base.specs.Faults.{Rose}
 use Rattle.bx_command_line.proofs.Lines.{one_line}
 use Rattle.bx_command_line.specs.declared.command_line.CommandLine.{CommandLine}
-use Rattle.bx_command_line.specs.declared.command_line.CommandLine.TheVariants.{Replay, Format, Check}
+use Rattle.bx_command_line.specs.declared.command_line.CommandLine.TheVariants.{Replay, Format, Check, Make}
 use Rattle.bx_command_line.specs.CommandLines.{AreInRange, AreNone, AreWordsOf, Spell}
 use Rattle.bx_disk.specs.declared.rack.Rack as racks
 use Rattle.bx_layout.specs.declared.label.Label.{Label}
@@ -18,6 +18,7 @@ use Rattle.bx_replay.proofs.Goings.{begins_broken}
 use Rattle.bx_statuses.specs.Checks.{CheckEnds}
 use Rattle.bx_statuses.specs.Formats.{FormatEnds}
 use Rattle.bx_statuses.specs.Report.{IsAmong}
+use Rattle.bx_top.specs.Makes.{MakeEnds}
 use Rattle.bx_top.specs.Replays.{ReplayEnds}
 
 -- ---- words
@@ -46,6 +47,24 @@ module _ (words : List (List ℕ)) where
 
   pub format_or_check : {A : Type 0} (volume devices areas : ℕ) → Spell words (Format volume devices areas) → Spell words Check → A
   format_or_check volume devices areas one other = absurd (let e = one_line words (Format volume devices areas) Check one other in cc)
+
+  pub replay_or_make : {A : Type 0} (seed nodes calls : ℕ) → Spell words Replay → Spell words (Make seed nodes calls) → A
+  replay_or_make seed nodes calls one other = absurd (let e = one_line words Replay (Make seed nodes calls) one other in cc)
+
+  pub format_or_make : {A : Type 0} (volume devices areas seed nodes calls : ℕ) → Spell words (Format volume devices areas) → Spell words (Make seed nodes calls) → A
+  format_or_make volume devices areas seed nodes calls one other = absurd (let e = one_line words (Format volume devices areas) (Make seed nodes calls) one other in cc)
+
+  pub check_or_make : {A : Type 0} (seed nodes calls : ℕ) → Spell words Check → Spell words (Make seed nodes calls) → A
+  check_or_make seed nodes calls one other = absurd (let e = one_line words Check (Make seed nodes calls) one other in cc)
+
+  pub make_as : {K B : Type 0} (sink : sinks.Ghosts K) (rack : racks.Ghosts B) (out out_new : K) (bench bench_new : B) (status s n k seed nodes calls : ℕ) → Spell words (Make s n k) → Spell words (Make seed nodes calls)
+      → MakeEnds sink rack s n k out out_new bench bench_new status → MakeEnds sink rack seed nodes calls out out_new bench bench_new status
+  make_as sink rack out out_new bench bench_new status s n k seed nodes calls one other ends =
+      let same = one_line words (Make s n k) (Make seed nodes calls) one other in
+      let seeds : s ≡ seed = cc in
+      let many : n ≡ nodes = cc in
+      let all : k ≡ calls = cc in
+      rw (seeds, many, all) at ends
 
   -- the label of a volume that words ask for
   abbrev pub label_of : (volume devices areas : ℕ) → Label

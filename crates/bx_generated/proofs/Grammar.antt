@@ -65,13 +65,13 @@ pub call_later : (volume number : ℕ) (draw : Draw) → number ≤ 20000 → Is
 call_later volume number draw few drawn =
     let bytes = datagram_are volume number draw drawn.first drawn.second in
     let call : IsCall (reading_at number) draw.node draw.node (datagram volume number draw) =
-      record {
-        reading_fits = omega (arith, few);
-        node_fits = omega (arith, drawn.node);
-        client_fits = omega (arith, drawn.node);
-        short = omega (arith, bytes.few);
-        bytes = IsBytes-from_each _ bytes.each;
-      } in
+    record {
+      reading_fits = omega (arith, few);
+      node_fits = omega (arith, drawn.node);
+      client_fits = omega (arith, drawn.node);
+      short = omega (arith, bytes.few);
+      bytes = IsBytes-from_each _ bytes.each;
+    } in
     record { place = (call, refl); own = refl }
 
 -- a line for wants of a node, by which packets are held, freed or dropped

@@ -91,9 +91,11 @@ module _ {K B : Type 0} (sink : sinks.Ghosts K) (rack : racks.Ghosts B) (seed no
         among_of : (status ≡ 5) ⊎ (status ≡ 9) → IsAmong (0 ∷ 4 ∷ 5 ∷ 9 ∷ []) status
         among_of (inl e) = rw e refl
         among_of (inr e) = rw e refl
+
         zero_or : status ≡ 0 → (status ≡ 5) ⊎ (status ≡ 9) → ⊥
         zero_or zero (inl e) = omega (arith, zero, e)
         zero_or zero (inr e) = omega (arith, zero, e)
+
         complete_of : (status ≡ 5) ⊎ (status ≡ 9) → rack.tells bench → (Rose (rack.faults bench) (rack.faults bench_new) → ⊥) → (status ≡ 0) ⊎ (status ≡ 9)
         complete_of (inl five) tells none = absurd (no_disk (rack.tells bench) (rack.faults bench) (rack.faults bench_new) tells none (cause five))
         complete_of (inr nine) tells none = inr nine

@@ -1,3 +1,4 @@
+pub mod Course
 pub mod Disks
 pub mod Doing
 pub mod Lacking

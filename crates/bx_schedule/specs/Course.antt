@@ -1,0 +1,59 @@
+-- What each line of a schedule did, from where the line before it left the cluster. All of this is data: of the cluster there is what it shows.
+use Rattle.std.specs.Prelude.{◌≡◌, ℕ, Bool, true, false, List, [], Option, Some, None}
+use Rattle.std.specs.FinSet as set
+use Rattle.bx_base.specs.declared.names.Actor.{Actor}
+use Rattle.bx_cluster.specs.Steps.{greatest_reading}
+use Rattle.bx_driver.specs.Lanes.{lane_cmp}
+use Rattle.bx_driver.specs.Steps.{EventStep, parts_with}
+use Rattle.bx_history.specs.Parts.{Part}
+use Rattle.bx_script.specs.Schedule.{reading_of}
+use Rattle.bx_script.specs.declared.line.Line.{Line}
+use Rattle.bx_script.specs.declared.line.Line.TheVariants.{Heading}
+use Rattle.bx_world_events.specs.Causes.{IsThere}
+use Rattle.bx_world_events.specs.Refusals.{Seen}
+use Rattle.bx_world_events.specs.declared.event.EventError.{EventError}
+use Rattle.bx_schedule.specs.Doing.{IsLine, held_after}
+use Rattle.bx_schedule.specs.Places.{Place, has_stopped}
+use Rattle.bx_schedule.specs.Refusing.{IsRefusal, at_clock}
+
+-- Where a schedule stands between two lines: what its cluster shows, the lanes that are held, and the greatest reading of the lines.
+pub record Standing : Type 0 where
+  pub seen : Seen
+  pub held : set.FinSet lane_cmp
+  pub clock : ℕ
+
+-- what this is of a place
+abbrev pub standing_of : {C : Type 0} → (C → Seen) → Place C → Standing
+standing_of seen_of place = record { seen = seen_of place.cluster; held = place.held; clock = place.clock }
+
+-- Behind its heading a schedule has a cluster of so many nodes and devices, of which all machines are up; nothing was sent, no lane is held, and no clock was read.
+pub record IsOpened (nodes devices : ℕ) (at : Standing) : Type 0 where
+  pub nodes_are : at.seen.nodes ≡ nodes
+  pub devices_are : at.seen.devices ≡ devices
+  pub post : at.seen.post ≡ []
+  pub greatest : at.seen.greatest ≡ 0
+  pub up : (who : Actor) → IsThere at.seen who → at.seen.down who ≡ false
+  pub held : at.held ≡ set.empty
+  pub clock : at.clock ≡ 0
+
+-- A line behind the heading was done: it wasn't refused; the steps that it has led from what was shown to what is shown, each is a part of a run, and none stopped a machine where none may have
+-- stopped by itself; the lanes that are held, and the greatest reading, go on by it.
+pub record Moves (MayStop : Type 0) (line : Line) (parts : List Part) (from to : Standing) : Type 0 where
+  pub allowed : IsRefusal (at_clock from.clock from.seen) line None
+  pub steps : List EventStep
+  pub is : IsLine from.held line from.seen steps to.seen
+  pub parts_are : parts ≡ parts_with steps []
+  pub stopped : has_stopped steps ≡ true → MayStop
+  pub held : to.held ≡ held_after line from.held
+  pub clock : to.clock ≡ greatest_reading (reading_of line) from.clock
+
+-- A line with its parts was done: the heading opens a cluster, before which there is none; any other line goes on from where a schedule stood.
+pub data CameBy (MayStop : Type 0) (line : Line) (parts : List Part) (before now : Option Standing) : Type 0 where
+  Opened : (volume nodes devices areas : ℕ) (at : Standing) → line ≡ Heading volume nodes devices areas → parts ≡ [] → before ≡ None → now ≡ Some at → IsOpened nodes devices at → CameBy MayStop line parts before now
+  Moved : (from to : Standing) → before ≡ Some from → now ≡ Some to → Moves MayStop line parts from to → CameBy MayStop line parts before now
+
+-- Where a schedule stands, a line is refused, for this cause.
+pub record RefusesThere (at : Option Standing) (line : Line) (error : EventError) : Type 0 where
+  pub standing : Standing
+  pub stands : at ≡ Some standing
+  pub cause : IsRefusal (at_clock standing.clock standing.seen) line (Some error)

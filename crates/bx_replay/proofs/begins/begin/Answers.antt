@@ -64,7 +64,7 @@ returns-in-Some-Heading g c =
       led = λ source_tells bench_tells. led_first c.in-Some-Heading.volume c.in-Some-Heading.nodes c.in-Some-Heading.devices c.in-Some-Heading.areas _ _ (standing_of g.O.Made.Shows.seen (place_of c.new.result)) _ _ place (rw (c.in-Some-Heading.is, c.in-Some-Heading.field-0-is) at (read.gives source_tells)) (rw same (made.led bench_tells)) (ap (λ (p : Place g.row.O-Made.Denot). p.lacking) c.new.ensures)
           (opened_first c.in-Some-Heading.volume c.in-Some-Heading.nodes c.in-Some-Heading.devices c.in-Some-Heading.areas shape _ refl refl (rw same made.new) (ap (λ (p : Place g.row.O-Made.Denot). p.held) c.new.ensures) (ap (λ (p : Place g.row.O-Made.Denot). p.clock) c.new.ensures));
       holds = λ bench_tells. (first_tree c.in-Some-Heading.volume c.in-Some-Heading.areas, [], rw same (made.led bench_tells));
-      goes = goes_first _ _ _ _ _ _ shape same made.new place.0.0.most_nodes place.0.0.most_devices made.room;
+      goes = goes_first _ _ _ _ _ _ shape same made.new place.0.most_nodes place.0.most_devices made.room;
       events = rw same made.events;
       cause = tt;
       first = read.first;

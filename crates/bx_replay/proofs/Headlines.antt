@@ -79,7 +79,7 @@ pub record HeadlineAt (MayStop : Type 0) (schedule : List Line) (trace closing :
   pub stands : headline.placed.now ≡ now
 
 -- points behind the trace close a history, as the headline says
-headline_of : (MayStop : Type 0) (done : List Done) (points : List Point) (history : List traces.Entry) (last next : Tree) → IsOfLines MayStop done
+headline_of : (MayStop : Type 0) (done : List Done) (points : List Point) (history : List traces.Entry) (last next : Tree) → (is : IsOfLines MayStop done)
     → AwaitsNewest EntryStep rules (opening_of (schedule_of done)) (parts_of done) history last (waiting (parts_of done)) → IsClosed EntryStep rules (opening_of (schedule_of done)) (parts_of done) points next
     → AllByRecursion InTraceRange (map Acted points) → HeadlineAt MayStop (schedule_of done) (reverse (trace_of (parts_of done))) (map Acted points) next is.now
 headline_of MayStop done points history last next is accounts closes in_range =

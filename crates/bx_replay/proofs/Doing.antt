@@ -17,7 +17,7 @@ use Rattle.bx_model.specs.declared.tree.Tree.{Tree}
 use Rattle.bx_opens.specs.bx_cluster.specs.Steps.{greatest_reading}
 use Rattle.bx_opens.specs.bx_world_events.specs.Causes.{IsThere as IsInCluster}
 use Rattle.bx_opens.specs.bx_world_events.specs.Refusals.{Seen}
-use Rattle.bx_schedule.specs.Course.{Moves, Standing, standing_of}
+use Rattle.bx_schedule.specs.Course.{Moves, standing_of}
 use Rattle.bx_schedule.specs.Course.CameBy.{Moved}
 use Rattle.bx_schedule.specs.Doing.{IsDone, IsLine}
 use Rattle.bx_schedule.specs.Lacking.{AreLacking}

@@ -11,8 +11,8 @@ use Rattle.bx_model.specs.declared.tree.Tree.{Tree}
 use Rattle.bx_opens.specs.Opening.{IsNew, first_tree}
 use Rattle.bx_opens.specs.declared.opens.Shape.{Shape}
 use Rattle.bx_opens.specs.bx_world_events.specs.Refusals.{Seen}
-use Rattle.bx_schedule.specs.Course.{IsOpened, Standing}
-use Rattle.bx_schedule.specs.Course.CameBy.{Opened}
+use Rattle.bx_schedule.specs.Execution.{IsOpened, Snapshot}
+use Rattle.bx_schedule.specs.Execution.ComesBy.{Opened}
 use Rattle.bx_schedule.specs.Places.{CanGo, Place}
 use Rattle.bx_script.proofs.Spelled.{spelling_injective}
 use Rattle.bx_script.specs.ScheduleLine.{spelling}
@@ -57,7 +57,7 @@ module _ (volume nodes devices areas : ℕ) where
   }
 
   -- so a schedule stands behind its heading
-  pub opened_first : (shape : Shape) (now : Standing) → shape.nodes ≡ nodes → shape.devices ≡ devices → IsNew shape now.seen → now.held ≡ set.empty → now.clock ≡ 0 → IsOpened nodes devices now
+  pub opened_first : (shape : Shape) (now : Snapshot) → shape.nodes ≡ nodes → shape.devices ≡ devices → IsNew shape now.seen → now.held ≡ set.empty → now.clock ≡ 0 → IsOpened nodes devices now
   opened_first shape now nodes_are devices_are new held zero = record {
     nodes_are = new.nodes ∙ nodes_are;
     devices_are = new.devices ∙ devices_are;
@@ -69,7 +69,7 @@ module _ (volume nodes devices areas : ℕ) where
   }
 
   -- with what led to it: nothing
-  pub stands_first : (Led : Tree → List Part → Type 0) (lacking : set.FinSet nat_cmp) (now : Standing) (start : List ℕ) → Led (first_tree volume areas) [] → lacking ≡ set.empty → IsOpened nodes devices now
+  pub stands_first : (Led : Tree → List Part → Type 0) (lacking : set.FinSet nat_cmp) (now : Snapshot) (start : List ℕ) → Led (first_tree volume areas) [] → lacking ≡ set.empty → IsOpened nodes devices now
       → ReplayStands ⊥ Led lacking now (record { line = heading; parts = [] } ∷ []) start start
   stands_first Led lacking now start led none opened = record {
     led = led;
@@ -82,13 +82,13 @@ module _ (volume nodes devices areas : ℕ) where
       },
       tt,
     );
-    course = (None, refl, Opened volume nodes devices areas now refl refl refl refl opened);
+    execution = (None, refl, Opened volume nodes devices areas now refl refl refl refl opened);
     in_range = tt;
     output = sym (append-nil start);
   }
 
   -- and so with any heading that the text begins with, which is that one
-  pub led_first : (Led : Tree → List Part → Type 0) (lacking : set.FinSet nat_cmp) (now : Standing) (text rest : List ℕ) → HasPlace true heading → BeginsWith text (spelling heading) rest → Led (first_tree volume areas) [] → lacking ≡ set.empty → IsOpened nodes devices now
+  pub led_first : (Led : Tree → List Part → Type 0) (lacking : set.FinSet nat_cmp) (now : Snapshot) (text rest : List ℕ) → HasPlace true heading → BeginsWith text (spelling heading) rest → Led (first_tree volume areas) [] → lacking ≡ set.empty → IsOpened nodes devices now
       → (other : Line) (left start : List ℕ) → HasPlace true other → BeginsWith text (spelling other) left → ReplayStands ⊥ Led lacking now (record { line = other; parts = [] } ∷ []) start start
   led_first Led lacking now text rest place begins led none opened other left start other_place other_begins =
       subst (λ (line : Line). ReplayStands ⊥ Led lacking now (record { line = line; parts = [] } ∷ []) start start) (one_first text heading other rest left place other_place begins other_begins)

@@ -9,7 +9,7 @@ use Rattle.bx_base.specs.declared.names.Point.{Point}
 use Rattle.bx_history.specs.Parts.{Part, trace_of}
 use Rattle.bx_model.specs.declared.tree.Tree.{Tree}
 use Rattle.bx_opens.specs.Opening.{first_tree}
-use Rattle.bx_schedule.specs.Course.{Standing}
+use Rattle.bx_schedule.specs.Execution.{Snapshot}
 use Rattle.bx_schedule.specs.Placing.{Done, lines_of, parts_of, schedule_of}
 use Rattle.bx_script.specs.ScheduleLine.{spelling}
 use Rattle.bx_script.specs.TraceText.{trace_text}
@@ -21,7 +21,7 @@ use Rattle.bx_stops.specs.declared.stop.Reason.TheVariants.{Grammar}
 use Rattle.bx_stops.specs.declared.stop.Stop.TheVariants.{Refused}
 use Rattle.bx_replay.specs.Headline.{Headline, opening_of}
 use Rattle.bx_replay.specs.Lines.{IsRefusedLine, after_lines}
-use Rattle.bx_replay.specs.Outcome.{IsBroken, IsCutOff, IsRefused, IsReplayed, IsTurnedAwayThere, closing_text}
+use Rattle.bx_replay.specs.Outcome.{AtEnd, IsBroken, IsCutOff, IsRefused, IsReplayed, IsTurnedAwayThere, closing_text}
 use Rattle.bx_replay.specs.Replay.{Going, IsRead, IsRefusedThere, Reached, ReplayStands, StandsAfter, WroteOn}
 use Rattle.bx_replay.proofs.Allowed.{are_done, begins_newest}
 use Rattle.bx_replay.proofs.Headlines.{HeadlineAt, IsOfLines, no_headline}
@@ -33,7 +33,7 @@ use Rattle.bx_script.specs.Schedule.{HasPlace}
 abbrev pub Heads : Type 0 → (Tree → List Part → Type 0) → Type 0
 Heads MayStop Led = (done : List Done) → Led (opening_of (schedule_of done)) (parts_of done) → (is : IsOfLines MayStop done) → (last : Tree) × HeadlineAt MayStop (schedule_of done) (reverse (trace_of (parts_of done))) [] last is.now
 
-module _ (MayStop : Type 0) (Led : Tree → List Part → Type 0) (lacking : set.FinSet nat_cmp) (now : Standing) (text rest : List ℕ) (number : ℕ) (start written : List ℕ)
+module _ (MayStop : Type 0) (Led : Tree → List Part → Type 0) (lacking : set.FinSet nat_cmp) (now : Snapshot) (text rest : List ℕ) (number : ℕ) (start written : List ℕ)
     (going : Going MayStop Led lacking now text rest number start written) where
   abbrev pub so_far : IsRead MayStop now.seen now.clock text rest number
   so_far = record { done = lines_of going.done; reached = going.reached; read = going.read; count = going.count }
@@ -42,7 +42,7 @@ module _ (MayStop : Type 0) (Led : Tree → List Part → Type 0) (lacking : set
   its_trace = reverse (trace_of (parts_of going.done))
 
   abbrev pub of_lines : IsOfLines MayStop going.done
-  of_lines = record { of_lines = going.stands.of_lines; now = Some now; course = going.stands.course; in_range = going.stands.in_range }
+  of_lines = record { of_lines = going.stands.of_lines; now = Some now; execution = going.stands.execution; in_range = going.stands.in_range }
 
   pub stops_broken : Heads MayStop Led → WroteOn start written (IsBroken MayStop text)
   stops_broken heads =
@@ -97,14 +97,14 @@ module _ (MayStop : Type 0) (Led : Tree → List Part → Type 0) (lacking : set
           trace = its_trace;
           last = head.0;
           headline = head.1.headline;
-          there = inr (subst (λ (at : Option Standing). IsTurnedAwayThere at (spelling line ∷ text_lines next) (number + 1) reason) (sym head.1.stands) (turned_there line next reason there));
+          there = inr (subst (λ (at : Option Snapshot). IsTurnedAwayThere at (spelling line ∷ text_lines next) (number + 1) reason) (sym head.1.stands) (turned_there line next reason there));
           output-is = refl;
         };
       }
 
   -- ---- with one line more
 
-  module _ (Now : Type 0) (Led_now : Tree → List Part → Type 0) (lacking_now : set.FinSet nat_cmp) (later : Standing) (line : Line) (next after : List ℕ) (begins : BeginsWith rest (spelling line) next)
+  module _ (Now : Type 0) (Led_now : Tree → List Part → Type 0) (lacking_now : set.FinSet nat_cmp) (later : Snapshot) (line : Line) (next after : List ℕ) (begins : BeginsWith rest (spelling line) next)
       (reached : Reached Now later.seen later.clock (line ∷ lines_of going.done)) where
     pub going_on : StandsAfter Now Led_now lacking_now later line going.done start after → Going Now Led_now lacking_now later text next (number + 1) start after
     going_on stands = record {
@@ -119,7 +119,7 @@ module _ (MayStop : Type 0) (Led : Tree → List Part → Type 0) (lacking : set
     pub stops_torn : Heads Now Led_now → (text_new : List ℕ) (n : ℕ) → after ≡ written ++ take n text_new → StandsAfter Now Led_now lacking_now later line going.done start (written ++ text_new) → WroteOn start after (IsBroken Now text)
     stops_torn heads text_new n part stands =
         let done : List Done = record { line = line; parts = stands.parts } ∷ going.done in
-        let head = heads done stands.stands.led (record { of_lines = stands.stands.of_lines; now = Some later; course = stands.stands.course; in_range = stands.stands.in_range }) in
+        let head = heads done stands.stands.led (record { of_lines = stands.stands.of_lines; now = Some later; execution = stands.stands.execution; in_range = stands.stands.in_range }) in
         let trace : List ℕ = trace_text (reverse (trace_of (parts_of done))) in
         let wrote : List ℕ = trace_text its_trace ++ take n text_new in
         let joined : written ++ text_new ≡ start ++ (trace_text its_trace ++ text_new) = ap (λ (w : List ℕ). w ++ text_new) going.stands.output ∙ append_assoc start (trace_text its_trace) text_new in
@@ -146,11 +146,11 @@ module _ (MayStop : Type 0) (Led : Tree → List Part → Type 0) (lacking : set
 -- ---- the end
 
 -- The closing points are told of the tree: with them the trace has the headline's property.
-abbrev pub ClosesSo : Type 0 → List Done → Tree → List Point → Type 0
-ClosesSo MayStop done tree points = Headline MayStop (schedule_of done) (reverse (trace_of (parts_of done))) (map Acted points) tree
+abbrev pub ClosesSo : Type 0 → List Done → Option Snapshot → Tree → List Point → Type 0
+ClosesSo MayStop done now tree points = HeadlineAt MayStop (schedule_of done) (reverse (trace_of (parts_of done))) (map Acted points) tree now
 
-module _ (MayStop : Type 0) (Led : Tree → List Part → Type 0) (lacking : set.FinSet nat_cmp) (now : Standing) (text : List ℕ) (number : ℕ) (start before : List ℕ)
-    (going : Going MayStop Led lacking now text [] number start before) (tree : Tree) (points : List Point) (closes : ClosesSo MayStop going.done tree points) where
+module _ (MayStop : Type 0) (Led : Tree → List Part → Type 0) (lacking : set.FinSet nat_cmp) (now : Snapshot) (text : List ℕ) (number : ℕ) (start before : List ℕ)
+    (going : Going MayStop Led lacking now text [] number start before) (tree : Tree) (points : List Point) (closes : ClosesSo MayStop going.done (Some now) tree points) where
   abbrev trace : List TraceLine
   trace = reverse (trace_of (parts_of going.done))
 
@@ -174,13 +174,13 @@ module _ (MayStop : Type 0) (Led : Tree → List Part → Type 0) (lacking : set
       more = drop n closing;
       read = read_lines MayStop now.seen now.clock text [] number read;
       are_done = are_done MayStop (lines_of going.done) going.reached.are_done;
-      headline = closes;
+      headline = closes.headline;
       part = inr (refl, append_assoc (trace_text trace) (take n closing) (drop n closing) ∙ ap (λ (w : List ℕ). trace_text trace ++ w) (take-append-drop n closing));
     };
   }
 
   -- all of it was
-  pub finishes : (ReplayStands : Tree → List TraceLine → Type 0) (after : List ℕ) → after ≡ before ++ closing → ReplayStands tree (map Acted points) → WroteOn start after (IsReplayed MayStop text ReplayStands)
+  pub finishes : (ReplayStands : AtEnd) (after : List ℕ) → after ≡ before ++ closing → ReplayStands (Some now) tree (map Acted points) → WroteOn start after (IsReplayed MayStop text ReplayStands)
   finishes ReplayStands after all stands = record {
     output = trace_text trace ++ closing;
     added = all ∙ ap (λ (w : List ℕ). w ++ closing) going.stands.output ∙ append_assoc start (trace_text trace) closing;
@@ -189,9 +189,9 @@ module _ (MayStop : Type 0) (Led : Tree → List Part → Type 0) (lacking : set
       trace = trace;
       closing = map Acted points;
       last = tree;
-      headline = closes;
+      headline = closes.headline;
       output-is = refl;
-      stands = stands;
+      stands = subst (λ (at : Option Snapshot). ReplayStands at tree (map Acted points)) (sym closes.stands) stands;
     };
   }
 

@@ -21,8 +21,8 @@ use Rattle.bx_model.specs.History.{IsStep}
 use Rattle.bx_opens.specs.Opening.{first_tree}
 use Rattle.bx_opens.specs.bx_cluster.specs.Closing.{Doubt, HasActed, IsDoubted, Tells}
 use Rattle.bx_opens.specs.bx_cluster.specs.Runs as runs
-use Rattle.bx_schedule.specs.Course.{Standing}
-use Rattle.bx_schedule.specs.Placing.{AreOfLines, Done, IsCourse, parts_of, schedule_of}
+use Rattle.bx_schedule.specs.Execution.{Snapshot}
+use Rattle.bx_schedule.specs.Placing.{AreOfLines, Done, IsExecution, parts_of, schedule_of}
 use Rattle.bx_opens.specs.AtOnce.{IsAtOnce}
 use Rattle.bx_steps.specs.Steps as engine
 use Rattle.bx_replay.specs.Headline.{rules, opening_of, AreTyped, EntryStep, Headline}
@@ -69,12 +69,12 @@ one_told first last tree trace history others fits leads fits' leads' =
 -- what was done, and led to where a schedule stands now, and of which the trace is in range
 pub record IsOfLines (MayStop : Type 0) (done : List Done) : Type 0 where
   pub of_lines : AreOfLines MayStop done
-  pub now : Option Standing
-  pub course : IsCourse MayStop done now
+  pub now : Option Snapshot
+  pub execution : IsExecution MayStop done now
   pub in_range : AllByRecursion InTraceRange (trace_of (parts_of done))
 
 -- the headline, by which a schedule stands so now
-pub record HeadlineAt (MayStop : Type 0) (schedule : List Line) (trace closing : List TraceLine) (last : Tree) (now : Option Standing) : Type 0 where
+pub record HeadlineAt (MayStop : Type 0) (schedule : List Line) (trace closing : List TraceLine) (last : Tree) (now : Option Snapshot) : Type 0 where
   pub headline : Headline MayStop schedule trace closing last
   pub stands : headline.placed.now ≡ now
 
@@ -98,7 +98,7 @@ headline_of MayStop done points history last next is accounts closes in_range =
           along = refl;
           of_lines = is.of_lines;
           now = is.now;
-          course = is.course;
+          execution = is.execution;
           whole = sym (reverse-reverse (trace_of (parts_of done)));
           placed = accounts.placed;
           closed = closes.closed;
@@ -179,8 +179,8 @@ module _ (Of : Tree → traces.Entry → Tree → Type 0) (at_once : List ℕ �
 
     -- with what is told at the end
     pub headline_told : (slots : ℕ) (next : Tree) (opened : List Point) → Tells Of doubts slots account.last next opened → AllByRecursion InTraceRange (map Acted opened)
-        → Headline MayStop (schedule_of done) (reverse (trace_of (parts_of done))) (map Acted opened) next
-    headline_told slots next opened told in_range = (headline_of MayStop done opened account.history account.last next stood accounts (closing slots next opened told).closes in_range).headline
+        → HeadlineAt MayStop (schedule_of done) (reverse (trace_of (parts_of done))) (map Acted opened) next stood.now
+    headline_told slots next opened told in_range = headline_of MayStop done opened account.history account.last next stood accounts (closing slots next opened told).closes in_range
 
 -- before the first line
 pub no_headline : (MayStop : Type 0) → Headline MayStop [] [] [] (first_tree 0 1)
@@ -190,7 +190,7 @@ no_headline MayStop = record {
   typed = tt;
   fits = refl;
   legal = refl;
-  placed = record { done = []; along = refl; of_lines = tt; now = None; course = refl; whole = refl; placed = tt; closed = tt };
+  placed = record { done = []; along = refl; of_lines = tt; now = None; execution = refl; whole = refl; placed = tt; closed = tt };
   in_range = tt;
   only = λ others tree fits leads. one_told (first_tree 0 1) (first_tree 0 1) tree [] [] others refl refl fits leads;
 }

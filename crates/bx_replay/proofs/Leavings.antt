@@ -1,15 +1,16 @@
 -- What a replay leaves, by what stopped it.
-use Rattle.std.proofs.Common.{◌≡◌, ℕ, ◌+◌, ◌<◌, Bool, false, List, [], ◌∷◌, ap, subst, Result, Ok, Err, inl, inr}
+use Rattle.std.proofs.Common.{◌≡◌, ℕ, ◌+◌, ◌<◌, Bool, false, List, [], ◌∷◌, ap, refl, subst, Option, Some, Result, Ok, Err, inl, inr}
 use Rattle.std.specs.Prelude.{IfErr, OnOk, ◌⊎◌, map}
 use Rattle.std.specs.FinSet as set
 use Rattle.std.specs.Ordering.{nat_cmp}
 use Rattle.bx_base.specs.Text.{BeginsWith}
 use Rattle.bx_base.specs.declared.names.Point.{Point}
 use Rattle.bx_disk.specs.Disks.{Disks}
+use Rattle.bx_disk.specs.declared.noise.Noise.TheVariants.{Drop}
 use Rattle.bx_history.specs.Parts.{Part}
 use Rattle.bx_model.specs.declared.tree.Tree.{Tree}
 use Rattle.bx_opens.specs.bx_world_events.specs.Refusals.{Seen}
-use Rattle.bx_schedule.specs.Course.{Standing}
+use Rattle.bx_schedule.specs.Execution.{Snapshot}
 use Rattle.bx_schedule.specs.Placing.{Done, lines_of}
 use Rattle.bx_script.specs.ScheduleLine.{spelling}
 use Rattle.bx_script.specs.declared.line.Line.{Line}
@@ -17,14 +18,15 @@ use Rattle.bx_script.specs.declared.trace_line.TraceLine.{TraceLine}
 use Rattle.bx_script.specs.declared.trace_line.TraceLine.TheVariants.{Acted}
 use Rattle.bx_stops.specs.declared.stop.Stop.{Stop}
 use Rattle.bx_stops.specs.declared.stop.Stop.TheVariants as stops
+use Rattle.bx_replay.specs.Bench.{all_crashed}
 use Rattle.bx_replay.specs.Lines.{after_lines}
-use Rattle.bx_replay.specs.Outcome.{IsBroken, IsReplayed, IsShownBy}
+use Rattle.bx_replay.specs.Outcome.{AtEnd, IsBroken, IsReplayed, IsShownBy}
 use Rattle.bx_replay.specs.Replay.{Begins, DoesLine, Ends, GivesLine, Going, HasBeginCause, HasFinishCause, HasLineCause, HasStepCause, IsRead, IsRefusedFor, IsRefusedThere, IsShownAs, IsUnread, Leaves, Reached, StandsAfter, WroteOn}
 use Rattle.bx_replay.proofs.Goings.{ClosesSo, Heads, begins_broken, begins_cut, begins_empty, begins_outside, finishes, stops_broken, stops_cut, stops_outside, stops_refused, stops_torn, stops_unfinished}
 use Rattle.bx_replay.proofs.ReadLines.{all_read, cut_at, cut_first, refused_empty, refused_first, refused_line, refused_outside}
 use Rattle.bx_script.specs.Schedule.{HasPlace}
 
-pub begin_stops : (MayStop : Type 0) {A : Type 0} (seen : A → Seen) (greatest : A → ℕ) (Tells : Type 0) (ReplayStands : Tree → List TraceLine → Type 0) (stop : Stop) (text rest left start : List ℕ) (before now bench_before bench_now : ℕ) → HasBeginCause stop before now bench_before bench_now
+pub begin_stops : (MayStop : Type 0) {A : Type 0} (seen : A → Seen) (greatest : A → ℕ) (Tells : Type 0) (ReplayStands : AtEnd) (stop : Stop) (text rest left start : List ℕ) (before now bench_before bench_now : ℕ) → HasBeginCause stop before now bench_before bench_now
     → Begins seen greatest (Err stop) text rest left → Leaves MayStop Tells ReplayStands (Err stop) text left start start
 begin_stops MayStop seen greatest Tells ReplayStands (stops.Refused line reason) text rest left start before now bench_before bench_now cause (inl e) = rw (cause.0, cause.1) (refused_empty MayStop text e, λ _. begins_empty MayStop text start e)
 begin_stops MayStop seen greatest Tells ReplayStands (stops.Refused line reason) text rest left start before now bench_before bench_now cause (inr here) = rw (cause.0, cause.1) (refused_first MayStop text here, λ _. begins_outside MayStop text start here)
@@ -35,12 +37,12 @@ begin_stops MayStop seen greatest Tells ReplayStands stops.DiskFault text rest l
 begin_stops MayStop seen greatest Tells ReplayStands stops.OutOfMemory text rest left start before now bench_before bench_now cause begins = λ _. begins_broken MayStop text start
 
 -- An end that comes behind the reading back of a tree, with its closing points; or a part of it.
-pub record IsEnding (MayStop : Type 0) (disks : Disks) (lacks : ℕ → Bool) (r : Result (Unit {0}) Stop) (old new : List ℕ) (done : List Done) : Type 0 where
+pub record IsEnding (MayStop : Type 0) (now : Option Snapshot) (disks : Disks) (lacks : ℕ → Bool) (r : Result (Unit {0}) Stop) (old new : List ℕ) (done : List Done) : Type 0 where
   pub tree : Tree
-  pub closes : (points : List Point) → IsShownAs disks lacks tree points → ClosesSo MayStop done tree points
+  pub closes : (points : List Point) → IsShownAs disks lacks tree points → ClosesSo MayStop done now tree points
   pub ends : Ends r disks lacks tree old new
 
-module _ (MayStop Tells : Type 0) (ReplayStands : Tree → List TraceLine → Type 0) (Led : Tree → List Part → Type 0) (heads : Tells → Heads MayStop Led) (lacking : set.FinSet nat_cmp) (now : Standing) where
+module _ (MayStop Tells : Type 0) (ReplayStands : AtEnd) (Led : Tree → List Part → Type 0) (heads : Tells → Heads MayStop Led) (lacking : set.FinSet nat_cmp) (now : Snapshot) where
   pub line_stops : (stop : Stop) (text rest next left start written : List ℕ) (number faults faults_now : ℕ)
       → IsRead MayStop now.seen now.clock text rest number → (Tells → Going MayStop Led lacking now text rest number start written) → HasLineCause stop (number + 1) faults faults_now → GivesLine (Err stop) (number + 1) rest next left
       → Leaves MayStop Tells ReplayStands (Err stop) text left start written
@@ -56,7 +58,7 @@ module _ (MayStop Tells : Type 0) (ReplayStands : Tree → List TraceLine → Ty
       λ tells. stops_broken MayStop Led lacking now text rest number start written (going tells) (heads tells)
 
   -- Where a line is refused, or its lines of the trace aren't all written.
-  pub step_stops : (stop : Stop) (text rest next left start old new : List ℕ) (number faults faults_now : ℕ) (line : Line) (Led_now : Tree → List Part → Type 0) (heads_now : Tells → Heads MayStop Led_now) (lacking_now : set.FinSet nat_cmp) (later : Standing)
+  pub step_stops : (stop : Stop) (text rest next left start old new : List ℕ) (number faults faults_now : ℕ) (line : Line) (Led_now : Tree → List Part → Type 0) (heads_now : Tells → Heads MayStop Led_now) (lacking_now : set.FinSet nat_cmp) (later : Snapshot)
       → (so_far : IsRead MayStop now.seen now.clock text rest number) → (going : Tells → Going MayStop Led lacking now text rest number start old) → number < 4294967295 → BeginsWith rest (spelling line) next
       → HasPlace false line → HasStepCause stop (number + 1) faults faults_now → IsRefusedFor MayStop stop (number + 1) (after_lines so_far.done) line → ((tells : Tells) → IsRefusedFor MayStop stop (number + 1) (after_lines (lines_of (going tells).done)) line) → IsRefusedThere now line stop
       → ((tells : Tells) → DoesLine (Err stop) (λ written. Reached MayStop later.seen later.clock (line ∷ lines_of (going tells).done) × StandsAfter MayStop Led_now lacking_now later line (going tells).done start written) old new)
@@ -81,16 +83,16 @@ module _ (MayStop Tells : Type 0) (ReplayStands : Tree → List TraceLine → Ty
     broken : (tells : Tells) → WroteOn start old (IsBroken MayStop text)
     broken tells = stops_broken MayStop Led lacking now text [] number start old (going tells) (heads tells)
 
-    torn : (tells : Tells) (new : List ℕ) → IsEnding MayStop disks lacks (Err stops.WriteFault) old new (going tells).done → WroteOn start new (IsBroken MayStop text)
+    torn : (tells : Tells) (new : List ℕ) → IsEnding MayStop (Some now) disks lacks (Err stops.WriteFault) old new (going tells).done → WroteOn start new (IsBroken MayStop text)
     torn tells new it = stops_unfinished MayStop Led lacking now text number start old (going tells) it.tree it.ends.0 (it.closes it.ends.0 it.ends.1) new it.ends.2.0 it.ends.2.1
 
-    whole : (x : Unit {0}) (tells : Tells) (new : List ℕ) → IsEnding MayStop disks lacks (Ok x) old new (going tells).done → ((tree : Tree) (points : List Point) → IsShownAs disks lacks tree points → ReplayStands tree (map Acted points)) → WroteOn start new (IsReplayed MayStop text ReplayStands)
+    whole : (x : Unit {0}) (tells : Tells) (new : List ℕ) → IsEnding MayStop (Some now) disks lacks (Ok x) old new (going tells).done → ((tree : Tree) (points : List Point) → IsShownAs disks lacks tree points → ReplayStands (Some now) tree (map Acted points)) → WroteOn start new (IsReplayed MayStop text ReplayStands)
     whole x tells new it shown =
         finishes MayStop Led lacking now text number start old (going tells) it.tree it.ends.0 (it.closes it.ends.0 it.ends.1) ReplayStands new it.ends.2 (shown it.tree it.ends.0 it.ends.1)
 
     pub finish_leaves : (r : Result (Unit {0}) Stop) (left new : List ℕ) (faults faults_now : ℕ) (Held : Type 0) (bench_before bench_now : ℕ) → left ≡ [] → IfErr r (λ stop. HasFinishCause stop faults faults_now Held bench_before bench_now)
-        → ((tells : Tells) → IsEnding MayStop disks lacks r old new (going tells).done ⊎ (IsUnread r × (new ≡ old)))
-        → (Tells → OnOk r ((tree : Tree) (points : List Point) → IsShownAs disks lacks tree points → ReplayStands tree (map Acted points))) → Leaves MayStop Tells ReplayStands r text left start new
+        → ((tells : Tells) → IsEnding MayStop (Some now) disks lacks r old new (going tells).done ⊎ (IsUnread r × (new ≡ old)))
+        → (Tells → OnOk r ((tree : Tree) (points : List Point) → IsShownAs disks lacks tree points → ReplayStands (Some now) tree (map Acted points))) → Leaves MayStop Tells ReplayStands r text left start new
     finish_leaves (Ok x) left new faults faults_now Held bench_before bench_now all cause ended shown =
         (all_read MayStop now.seen now.clock text number so_far, all, λ tells. elim (ended tells) [ inl it ↦ whole x tells new it (shown tells) | inr none ↦ absurd none.0 ])
     finish_leaves (Err (stops.Refused n reason)) left new faults faults_now Held bench_before bench_now all cause ended shown = absurd cause
@@ -103,8 +105,11 @@ module _ (MayStop Tells : Type 0) (ReplayStands : Tree → List TraceLine → Ty
         λ tells. elim (ended tells) [ inl it ↦ rw (it.ends) (broken tells) | inr none ↦ rw (none.1) (broken tells) ]
 
 -- what is shown at the end stands so on the disks
-pub shown_by : (disks : Disks) (lacks : ℕ → Bool) (tree : Tree) (points : List Point) → IsShownAs disks lacks tree points → IsShownBy disks tree (map Acted points)
-shown_by disks lacks tree points is = record {
+pub shown_by : (disks : Disks) (now : Snapshot) (lacks : ℕ → Bool) → disks ≡ all_crashed now.disks Drop → (tree : Tree) (points : List Point) → IsShownAs disks lacks tree points → IsShownBy disks (Some now) tree (map Acted points)
+shown_by disks now lacks dropped tree points is = record {
+  left = now;
+  leaves = refl;
+  dropped = dropped;
   stands = is.stands;
   closing_open = record { points = is.opened; open_are = is.open_are; of = lacks; lines_are = ap (map Acted) is.points_are };
 }

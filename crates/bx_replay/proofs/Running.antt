@@ -6,7 +6,7 @@ use Rattle.bx_base.specs.Text.{BeginsWith}
 use Rattle.bx_history.specs.Parts.{Part}
 use Rattle.bx_model.specs.declared.tree.Tree.{Tree}
 use Rattle.bx_opens.specs.bx_world_events.specs.Refusals.{Seen}
-use Rattle.bx_schedule.specs.Course.{Standing}
+use Rattle.bx_schedule.specs.Execution.{Snapshot}
 use Rattle.bx_schedule.specs.Placing.{lines_of}
 use Rattle.bx_script.specs.ScheduleLine.{spelling}
 use Rattle.bx_script.specs.declared.line.Line.{Line}
@@ -19,7 +19,7 @@ module _ (P Q : Type 0) (gives : P → Q) (seen : Seen) (greatest : ℕ) (text r
   read_later so_far = record { done = so_far.done; reached = reached_weaker P Q gives seen greatest so_far.done so_far.reached; read = so_far.read; count = so_far.count }
 
 -- all of it
-abbrev pub going_later : (P Q : Type 0) (gives : P → Q) (now : Standing) (text rest : List ℕ) (number : ℕ) (Led : Tree → List Part → Type 0) (lacking : set.FinSet nat_cmp) (start written : List ℕ)
+abbrev pub going_later : (P Q : Type 0) (gives : P → Q) (now : Snapshot) (text rest : List ℕ) (number : ℕ) (Led : Tree → List Part → Type 0) (lacking : set.FinSet nat_cmp) (start written : List ℕ)
     → Going P Led lacking now text rest number start written → Going Q Led lacking now text rest number start written
 going_later P Q gives now text rest number Led lacking start written going = record {
   done = going.done;
@@ -37,7 +37,7 @@ module _ (MayStop : Type 0) (seen : Seen) (greatest : ℕ) (text rest : List ℕ
   pub read_first : IsRead MayStop seen greatest text rest 1
   read_first = record { done = begun.heading ∷ []; reached = reached_now; read = read_on text text rest [] begun.heading tt (inl refl) begun.begins; count = refl }
 
-pub going_first : (MayStop : Type 0) (now : Standing) (text rest : List ℕ) (begun : IsBegun now.seen now.clock text rest) (Led : Tree → List Part → Type 0) (lacking : set.FinSet nat_cmp) (start : List ℕ)
+pub going_first : (MayStop : Type 0) (now : Snapshot) (text rest : List ℕ) (begun : IsBegun now.seen now.clock text rest) (Led : Tree → List Part → Type 0) (lacking : set.FinSet nat_cmp) (start : List ℕ)
     → ReplayStands ⊥ Led lacking now (record { line = begun.heading; parts = [] } ∷ []) start start → Going MayStop Led lacking now text rest 1 start start
 going_first MayStop now text rest begun Led lacking start stands =
     record {

@@ -14,7 +14,7 @@ returns-in-Err-clause-refused g c = λ start done first reached.
 pub returns-in-Err-clause-there : goal.returns-in-Err-clause-there
 returns-in-Err-clause-there g c =
     rw c.stop_of.ensures (refuses_there g.C.Shows.seen g.C.Cluster.led g.B.Rack c.args.at.line.now c.args.at.number c.in-Err.error (cleared (place_of c.args.schedule.now)) (place_of c.step.new.self) c.args.bench.now c.step.new.rack
-    c.in-Err.ensures.ends.refused)
+    c.in-Err.ensures.ends.refused (g.B.Rack.state c.args.bench.now))
 
 pub returns-in_err-write_all-clause-does : goal.returns-in_err-write_all-clause-does
 returns-in_err-write_all-clause-does g c = λ start done begun sink_tells bench_tells first few reached stands.

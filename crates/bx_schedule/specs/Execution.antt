@@ -3,6 +3,7 @@ use Rattle.std.specs.Prelude.{◌≡◌, ℕ, Bool, true, false, List, [], Optio
 use Rattle.std.specs.FinSet as set
 use Rattle.bx_base.specs.declared.names.Actor.{Actor}
 use Rattle.bx_cluster.specs.Steps.{greatest_reading}
+use Rattle.bx_disk.specs.Disks.{Disks}
 use Rattle.bx_driver.specs.Lanes.{lane_cmp}
 use Rattle.bx_driver.specs.Steps.{EventStep, parts_with}
 use Rattle.bx_history.specs.Parts.{Part}
@@ -12,22 +13,24 @@ use Rattle.bx_script.specs.declared.line.Line.TheVariants.{Heading}
 use Rattle.bx_world_events.specs.Causes.{IsThere}
 use Rattle.bx_world_events.specs.Refusals.{Seen}
 use Rattle.bx_world_events.specs.declared.event.EventError.{EventError}
-use Rattle.bx_schedule.specs.Doing.{IsLine, held_after}
+use Rattle.bx_schedule.specs.Disks.{AreDisks}
+use Rattle.bx_schedule.specs.Doing.{IsLine, held_after, noise_of}
 use Rattle.bx_schedule.specs.Places.{Place, has_stopped}
 use Rattle.bx_schedule.specs.Refusing.{IsRefusal, at_clock}
 
--- Where a schedule stands between two lines: what its cluster shows, the lanes that are held, and the greatest reading of the lines.
-pub record Standing : Type 0 where
+-- Where a schedule stands between two lines: what its cluster shows, the lanes that are held, the greatest reading of the lines, and what the disks hold.
+pub record Snapshot : Type 0 where
   pub seen : Seen
   pub held : set.FinSet lane_cmp
   pub clock : ℕ
+  pub disks : Disks
 
--- what this is of a place
-abbrev pub standing_of : {C : Type 0} → (C → Seen) → Place C → Standing
-standing_of seen_of place = record { seen = seen_of place.cluster; held = place.held; clock = place.clock }
+-- of a place, over these disks
+abbrev pub snapshot_of : {C : Type 0} → (C → Seen) → Place C → Disks → Snapshot
+snapshot_of seen_of place disks = record { seen = seen_of place.cluster; held = place.held; clock = place.clock; disks = disks }
 
 -- Behind its heading a schedule has a cluster of so many nodes and devices, of which all machines are up; nothing was sent, no lane is held, and no clock was read.
-pub record IsOpened (nodes devices : ℕ) (at : Standing) : Type 0 where
+pub record IsOpened (nodes devices : ℕ) (at : Snapshot) : Type 0 where
   pub nodes_are : at.seen.nodes ≡ nodes
   pub devices_are : at.seen.devices ≡ devices
   pub post : at.seen.post ≡ []
@@ -36,9 +39,9 @@ pub record IsOpened (nodes devices : ℕ) (at : Standing) : Type 0 where
   pub held : at.held ≡ set.empty
   pub clock : at.clock ≡ 0
 
--- A line behind the heading was done: it wasn't refused; the steps that it has led from what was shown to what is shown, each is a part of a run, and none stopped a machine where none may have
--- stopped by itself; the lanes that are held, and the greatest reading, go on by it.
-pub record Moves (MayStop : Type 0) (line : Line) (parts : List Part) (from to : Standing) : Type 0 where
+-- A line behind the heading was done: it wasn't refused; its steps led from what was shown to what is shown, each is a part of a run, and none stopped a machine where none may have stopped by
+-- itself; the lanes that are held, and the greatest reading, go on by the line; and right behind a step the disk of its machine crashes, with the noise of the line, or is replaced.
+pub record Executes (MayStop : Type 0) (line : Line) (parts : List Part) (from to : Snapshot) : Type 0 where
   pub allowed : IsRefusal (at_clock from.clock from.seen) line None
   pub steps : List EventStep
   pub is : IsLine from.held line from.seen steps to.seen
@@ -46,14 +49,15 @@ pub record Moves (MayStop : Type 0) (line : Line) (parts : List Part) (from to :
   pub stopped : has_stopped steps ≡ true → MayStop
   pub held : to.held ≡ held_after line from.held
   pub clock : to.clock ≡ greatest_reading (reading_of line) from.clock
+  pub disks : AreDisks (noise_of line) to.seen steps from.disks to.disks
 
 -- A line with its parts was done: the heading opens a cluster, before which there is none; any other line goes on from where a schedule stood.
-pub data CameBy (MayStop : Type 0) (line : Line) (parts : List Part) (before now : Option Standing) : Type 0 where
-  Opened : (volume nodes devices areas : ℕ) (at : Standing) → line ≡ Heading volume nodes devices areas → parts ≡ [] → before ≡ None → now ≡ Some at → IsOpened nodes devices at → CameBy MayStop line parts before now
-  Moved : (from to : Standing) → before ≡ Some from → now ≡ Some to → Moves MayStop line parts from to → CameBy MayStop line parts before now
+pub data ComesBy (MayStop : Type 0) (line : Line) (parts : List Part) (before now : Option Snapshot) : Type 0 where
+  Opened : (volume nodes devices areas : ℕ) (at : Snapshot) → line ≡ Heading volume nodes devices areas → parts ≡ [] → before ≡ None → now ≡ Some at → IsOpened nodes devices at → ComesBy MayStop line parts before now
+  Executed : (from to : Snapshot) → before ≡ Some from → now ≡ Some to → Executes MayStop line parts from to → ComesBy MayStop line parts before now
 
 -- Where a schedule stands, a line is refused, for this cause.
-pub record RefusesThere (at : Option Standing) (line : Line) (error : EventError) : Type 0 where
-  pub standing : Standing
-  pub stands : at ≡ Some standing
-  pub cause : IsRefusal (at_clock standing.clock standing.seen) line (Some error)
+pub record RefusesAt (at : Option Snapshot) (line : Line) (error : EventError) : Type 0 where
+  pub here : Snapshot
+  pub stands : at ≡ Some here
+  pub cause : IsRefusal (at_clock here.clock here.seen) line (Some error)

@@ -19,7 +19,7 @@ use Rattle.bx_script.specs.declared.trace_line.TraceLine.TheVariants.{Acted}
 use Rattle.bx_stops.specs.declared.stop.Reason.{Reason}
 use Rattle.bx_stops.specs.declared.stop.Reason.TheVariants.{Grammar}
 use Rattle.bx_stops.specs.declared.stop.Stop.TheVariants.{Refused}
-use Rattle.bx_replay.specs.Headline.{Headline, opening_of}
+use Rattle.bx_replay.specs.Headline.{opening_of}
 use Rattle.bx_replay.specs.Lines.{IsRefusedLine, after_lines}
 use Rattle.bx_replay.specs.Outcome.{AtEnd, IsBroken, IsCutOff, IsRefused, IsReplayed, IsTurnedAwayThere, closing_text}
 use Rattle.bx_replay.specs.Replay.{Going, IsRead, IsRefusedThere, Reached, ReplayStands, StandsAfter, WroteOn}

@@ -14,7 +14,6 @@ use Rattle.bx_schedule.specs.Execution.{Snapshot}
 use Rattle.bx_schedule.specs.Placing.{Done, lines_of}
 use Rattle.bx_script.specs.ScheduleLine.{spelling}
 use Rattle.bx_script.specs.declared.line.Line.{Line}
-use Rattle.bx_script.specs.declared.trace_line.TraceLine.{TraceLine}
 use Rattle.bx_script.specs.declared.trace_line.TraceLine.TheVariants.{Acted}
 use Rattle.bx_stops.specs.declared.stop.Stop.{Stop}
 use Rattle.bx_stops.specs.declared.stop.Stop.TheVariants as stops

@@ -1,5 +1,5 @@
 -- What each line of a schedule did, from where the line before it left the cluster. All of this is data: of the cluster there is what it shows.
-use Rattle.std.specs.Prelude.{◌≡◌, ℕ, Bool, true, false, List, [], Option, Some, None}
+use Rattle.std.specs.Prelude.{◌≡◌, ℕ, true, false, List, [], Option, Some, None}
 use Rattle.std.specs.FinSet as set
 use Rattle.bx_base.specs.declared.names.Actor.{Actor}
 use Rattle.bx_cluster.specs.Steps.{greatest_reading}

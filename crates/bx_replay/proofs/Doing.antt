@@ -229,9 +229,10 @@ module _ {C R : Type 0} (seen_of : C → Seen) (led_of : C → Disks → Tree �
             of (inr may) = inr (goes_on may)
 
     -- all lines of the trace were written, or a part of them
-    pub stands_all : old.text ≡ [] → (now : List ℕ) → now ≡ written ++ new.text → StandsAfter Now (led_of new.cluster (ra.state after)) new.lacking (snapshot_of seen_of new (ra.state after)) line done start_text now
+    pub stands_all : old.text ≡ [] → (now : List ℕ) → now ≡ written ++ new.text → StandsAfter Now (led_of new.cluster (ra.state after)) new.lacking (snapshot_of seen_of old (ra.state before)) (snapshot_of seen_of new (ra.state after)) line done start_text now
     stands_all cleared now is = record {
       parts = parts;
+      executes = executes tells;
       stands = subst (ReplayStands Now (led_of new.cluster (ra.state after)) new.lacking (snapshot_of seen_of new (ra.state after)) (one ∷ done) start_text) (sym is) (stands_now new.text (text_is cleared));
     }
       where
@@ -239,5 +240,5 @@ module _ {C R : Type 0} (seen_of : C → Seen) (led_of : C → Disks → Tree �
         text_is none = is_done.goes.text ∙ ap (λ (w : List ℕ). w ++ trace_text (lines_by is_done.goes.steps)) none
 
     pub stands_part : old.text ≡ [] → (now : List ℕ) (n : ℕ) → now ≡ written ++ take n new.text
-        → (text : List ℕ) × (m : ℕ) × (now ≡ written ++ take m text) × StandsAfter Now (led_of new.cluster (ra.state after)) new.lacking (snapshot_of seen_of new (ra.state after)) line done start_text (written ++ text)
+        → (text : List ℕ) × (m : ℕ) × (now ≡ written ++ take m text) × StandsAfter Now (led_of new.cluster (ra.state after)) new.lacking (snapshot_of seen_of old (ra.state before)) (snapshot_of seen_of new (ra.state after)) line done start_text (written ++ text)
     stands_part cleared now n is = (new.text, n, is, stands_all cleared (written ++ new.text) refl)

@@ -106,7 +106,7 @@ module _ (MayStop : Type 0) (Led : Tree → List Part → Type 0) (lacking : set
 
   module _ (Now : Type 0) (Led_now : Tree → List Part → Type 0) (lacking_now : set.FinSet nat_cmp) (later : Snapshot) (line : Line) (next after : List ℕ) (begins : BeginsWith rest (spelling line) next)
       (reached : Reached Now later.seen later.clock (line ∷ lines_of going.done)) where
-    pub going_on : StandsAfter Now Led_now lacking_now later line going.done start after → Going Now Led_now lacking_now later text next (number + 1) start after
+    pub going_on : StandsAfter Now Led_now lacking_now now later line going.done start after → Going Now Led_now lacking_now later text next (number + 1) start after
     going_on stands = record {
       done = record { line = line; parts = stands.parts } ∷ going.done;
       reached = reached;
@@ -116,7 +116,7 @@ module _ (MayStop : Type 0) (Led : Tree → List Part → Type 0) (lacking : set
     }
 
     -- the line was done, and only a part of its trace was written
-    pub stops_torn : Heads Now Led_now → (text_new : List ℕ) (n : ℕ) → after ≡ written ++ take n text_new → StandsAfter Now Led_now lacking_now later line going.done start (written ++ text_new) → WroteOn start after (IsBroken Now text)
+    pub stops_torn : Heads Now Led_now → (text_new : List ℕ) (n : ℕ) → after ≡ written ++ take n text_new → StandsAfter Now Led_now lacking_now now later line going.done start (written ++ text_new) → WroteOn start after (IsBroken Now text)
     stops_torn heads text_new n part stands =
         let done : List Done = record { line = line; parts = stands.parts } ∷ going.done in
         let head = heads done stands.stands.led (record { of_lines = stands.stands.of_lines; now = Some later; execution = stands.stands.execution; in_range = stands.stands.in_range }) in

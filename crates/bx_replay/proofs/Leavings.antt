@@ -60,7 +60,7 @@ module _ (MayStop Tells : Type 0) (ReplayStands : AtEnd) (Led : Tree → List Pa
   pub step_stops : (stop : Stop) (text rest next left start old new : List ℕ) (number faults faults_now : ℕ) (line : Line) (Led_now : Tree → List Part → Type 0) (heads_now : Tells → Heads MayStop Led_now) (lacking_now : set.FinSet nat_cmp) (later : Snapshot)
       → (so_far : IsRead MayStop now.seen now.clock text rest number) → (going : Tells → Going MayStop Led lacking now text rest number start old) → number < 4294967295 → BeginsWith rest (spelling line) next
       → HasPlace false line → HasStepCause stop (number + 1) faults faults_now → IsRefusedFor MayStop stop (number + 1) (after_lines so_far.done) line → ((tells : Tells) → IsRefusedFor MayStop stop (number + 1) (after_lines (lines_of (going tells).done)) line) → IsRefusedThere now line stop
-      → ((tells : Tells) → DoesLine (Err stop) (λ written. Reached MayStop later.seen later.clock (line ∷ lines_of (going tells).done) × StandsAfter MayStop Led_now lacking_now later line (going tells).done start written) old new)
+      → ((tells : Tells) → DoesLine (Err stop) (λ written. Reached MayStop later.seen later.clock (line ∷ lines_of (going tells).done) × StandsAfter MayStop Led_now lacking_now now later line (going tells).done start written) old new)
       → Leaves MayStop Tells ReplayStands (Err stop) text left start new
   step_stops (stops.Refused n reason) text rest next left start old new number faults faults_now line Led_now heads_now lacking_now later so_far going few begins place cause refused refused_then there does =
       rw cause (

@@ -16,7 +16,7 @@ use Rattle.bx_opens.specs.bx_rack_audit.specs.Alone.{StandAlone}
 use Rattle.bx_opens.specs.bx_world_events.specs.Causes.{IsThere as IsInCluster}
 use Rattle.bx_opens.specs.bx_world_events.specs.Refusals.{Seen}
 use Rattle.bx_opens.specs.bx_world_events.specs.declared.event.EventError.{EventError}
-use Rattle.bx_schedule.specs.Execution.{RefusesAt, Snapshot}
+use Rattle.bx_schedule.specs.Execution.{Executes, RefusesAt, Snapshot}
 use Rattle.bx_schedule.specs.Lacking.{AreLacking}
 use Rattle.bx_schedule.specs.Placing.{AreOfLines, Done, IsExecution, lines_of, parts_of, schedule_of}
 use Rattle.bx_script.specs.ScheduleLine.{spelling}
@@ -167,9 +167,10 @@ HasBeginCause stops.OutOfMemory source_before source_now bench_before bench_now 
 
 -- ---- doing a line
 
--- These lines and one more were done, with some parts.
-pub record StandsAfter (MayStop : Type 0) (Led : Tree → List Part → Type 0) (lacking : set.FinSet nat_cmp) (now : Snapshot) (line : Line) (done : List Done) (start written : List ℕ) : Type 0 where
+-- These lines and one more were done, with some parts; and that one led from where the schedule stood to where it stands now.
+pub record StandsAfter (MayStop : Type 0) (Led : Tree → List Part → Type 0) (lacking : set.FinSet nat_cmp) (was now : Snapshot) (line : Line) (done : List Done) (start written : List ℕ) : Type 0 where
   pub parts : List Part
+  pub executes : Executes MayStop line parts was now
   pub stands : ReplayStands MayStop Led lacking now (record { line = line; parts = parts } ∷ done) start written
 
 -- What doing a line leaves on the output, by what it leaves where it is done: all of its lines; or nothing, where it is refused; or a part of them.

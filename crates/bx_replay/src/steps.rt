@@ -54,7 +54,7 @@ pub(crate) fn step<C: Cluster, K: Sink, B: CrashRack>(
         → Reached (Rose start (B.faults bench.old)) (C.seen schedule.old.cluster) (place_of schedule.old).clock (lines_of done)
         → ReplayStands (Rose start (B.faults bench.old)) (C.led schedule.old.cluster (B.state bench.old)) (place_of schedule.old).lacking (snapshot_of C.seen (place_of schedule.old) (B.state bench.old)) done begun (K.written out.old)
         → DoesLine result (λ written. Reached (Rose start (B.faults bench.new)) (C.seen schedule.new.cluster) (place_of schedule.new).clock (at.entry.line.now ∷ lines_of done)
-        × StandsAfter (Rose start (B.faults bench.new)) (C.led schedule.new.cluster (B.state bench.new)) (place_of schedule.new).lacking (snapshot_of C.seen (place_of schedule.new) (B.state bench.new)) at.entry.line.now done begun written) (K.written out.old) (K.written out.new) }
+        × StandsAfter (Rose start (B.faults bench.new)) (C.led schedule.new.cluster (B.state bench.new)) (place_of schedule.new).lacking (snapshot_of C.seen (place_of schedule.old) (B.state bench.old)) (snapshot_of C.seen (place_of schedule.new) (B.state bench.new)) at.entry.line.now done begun written) (K.written out.old) (K.written out.new) }
     ensures leads { (tree : Tree) (parts : List Part) → B.tells bench.old → C.led schedule.old.cluster (B.state bench.old) tree parts → OnOk result ((now : List Part) × C.led schedule.new.cluster (B.state bench.new) tree now) }
     ensures cause { IfErr result (λ stop. HasStepCause stop at.entry.number (K.faults out.old) (K.faults out.new)) }
     ensures first { UnlessWrite result (K.faults out.new ≡ K.faults out.old) }

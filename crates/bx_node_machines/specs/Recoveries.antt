@@ -3,7 +3,7 @@ use Rattle.std.specs.Prelude.{◌≡◌, ℕ, List, Contains, Some}
 use Rattle.bx_facts.specs.Chains.{Chain, HasRow, last}
 use Rattle.bx_global.specs.declared.change.Change.{Change}
 use Rattle.bx_node_machines.specs.Machines.{Fetch, MachineView, Scene, Stage, Nothing, Block, Dropped, OfLog, Idle, Records, Homes, Closes, Recovers}
-use Rattle.bx_node_machines.specs.Recovering.{Around, IsRecovering, recovery_of}
+use Rattle.bx_node_machines.specs.Recovering.{Around, HasEnded, IsRecovering, recovery_of}
 use Rattle.bx_recover.specs.Recovering.{RecoveryView}
 use Rattle.bx_recover.specs.declared.stage.Stage.TheVariants.{Closed}
 use Rattle.bx_rows.specs.Words.{row_in}
@@ -45,9 +45,10 @@ pub record IsActive (s : Scene) (node session : ℕ) (machine : MachineView) (ro
   pub lives : row.dead ≡ 0
 
 module _ (devices areas : ℕ) (Sure : ℕ → ℕ → List ℕ → Type 0) (Reads : ℕ → ℕ → List ℕ → Type 0) (chain : Chain) (knew : ℕ → ℕ) (proposed : List Change) (s : Scene) where
-  -- The recovery that a node's stage has is under way, as its session has claimed the one that is gone; it isn't one that the node has finished.
+  -- The recovery that a node's stage has is under way, as its session has claimed the one that is gone; it isn't over, nor one that the node has finished.
   pub record IsUnderWay (node session : ℕ) (machine : MachineView) (gone : ℕ) (recovery : RecoveryView) : Type 0 where
     pub is : recovery ≡ recovery_of recovery.slot devices areas recovery.stage recovery.records
+    pub unended : HasEnded recovery.stage → ⊥
     pub unfinished : Contains machine.finished gone → ⊥
     pub goes : IsRecovering devices areas Sure (Reads node) chain (knew node) proposed (around_in s node) session gone recovery.slot recovery.stage recovery.records
 

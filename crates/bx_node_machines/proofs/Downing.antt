@@ -71,7 +71,7 @@ module _ {G O S T : Type 0} (g : register.Ghosts G) (o : owners.Ghosts O) (st : 
           is_row = active.is_row;
           lives = active.lives;
         })))
-        (λ gone has. has) (λ other its one before row was gone slot stage records active had ended goes. goes);
+        (omega arith) (λ gone low has. has) (λ other its one before row was gone slot stage records active had of ended goes. goes);
     single = stands.single;
     told = stands.told;
     given = λ other session one has marked. by other session one has marked (eqb other node) refl;

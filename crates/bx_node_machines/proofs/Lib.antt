@@ -1,4 +1,5 @@
 pub mod Downing
+pub mod Going
 pub mod Growing
 pub mod Hearing
 pub mod Leaving

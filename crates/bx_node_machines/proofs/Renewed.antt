@@ -164,7 +164,7 @@ module _ {G O S T : Type 0} (g : register.Ghosts G) (o : owners.Ghosts O) (st : 
     recovering = recover_on (st.made store_is).devices (st.made store_is).areas (SureOf g o st Stands Step register_is owners_are store_is x (known_of g o st Stands Step register_is owners_are store_is x letters clocks machines) c) (SureOf g o st Stands Step register_is owners_are store_is x (known_of g o st Stands Step register_is owners_are store_is x letters clocks machines) c) (st.will_read store_is x c.store) (st.will_read store_is x c.store) c.register.chain c.register.chain (λ n. c.store.told.knew (Node n)) (λ n. c.store.told.knew (Node n))
         c.register.proposed c.register.proposed (scene_of g o st Stands Step register_is owners_are store_is x clocks.down machines c) (scene_of g o st Stands Step register_is owners_are store_is x clocks.down later c) stands.recovering
         (λ other session its row active. was_active other session its row active (eqb other node) refl)
-        (λ gone has. has) (λ other session its one row was gone slot stage records active had ended goes. goes);
+        (omega arith) (λ gone low has. has) (λ other session its one row was gone slot stage records active had of ended goes. goes);
     single = stands.single;
     told = stands.told;
     given = λ other session its has marked. given_then other session its (eqb other node) refl has marked;

@@ -3,3 +3,4 @@ pub mod Nodes
 pub mod Recoveries
 pub mod Recovering
 pub mod Stopping
+pub use Rattle.bx_recover

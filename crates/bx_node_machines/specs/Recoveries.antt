@@ -1,5 +1,5 @@
 -- What nodes recover: the logs of sessions that are gone, which their own have claimed.
-use Rattle.std.specs.Prelude.{◌≡◌, ℕ, List, Contains, Some}
+use Rattle.std.specs.Prelude.{◌≡◌, ℕ, ◌<◌, List, Contains, Some}
 use Rattle.bx_facts.specs.Chains.{Chain, HasRow, last}
 use Rattle.bx_global.specs.declared.change.Change.{Change}
 use Rattle.bx_node_machines.specs.Machines.{Fetch, MachineView, Scene, Stage, Nothing, Block, Dropped, OfLog, Idle, Records, Homes, Closes, Recovers}
@@ -62,4 +62,5 @@ module _ (devices areas : ℕ) (Sure : ℕ → ℕ → List ℕ → Type 0) (Rea
   pub record AreRecovering : Type 0 where
     pub under : (node session : ℕ) (machine : MachineView) (row : SessionRow) → IsActive s node session machine row → (gone : ℕ) (recovery : RecoveryView) → machine.stage ≡ Recovers gone recovery → IsUnderWay node session machine gone recovery
     pub finished : (node session : ℕ) (machine : MachineView) (row : SessionRow) → IsActive s node session machine row → (gone : ℕ) → Contains machine.finished gone → HasRow (last chain) gone → IsFinished node session gone
+    pub given : (node session : ℕ) (machine : MachineView) (row : SessionRow) → IsActive s node session machine row → (gone : ℕ) → Contains machine.finished gone → gone < (last chain).next_session
     pub suits : (node session : ℕ) (machine : MachineView) (row : SessionRow) → IsActive s node session machine row → SuitsStage machine.stage machine.fetch

@@ -203,6 +203,7 @@ module _ {G O S T : Type 0} (g : register.Ghosts G) (o : owners.Ghosts O) (st : 
         asked = ⊎_elim (λ none. inl none) (λ some. inr (some.0, λ i few. reads_then node block was.is was.unlogged i few (some.1 i few))) was.asked;
       }
       by words.Dropped is was = was
+      by words.OfLog is was = was
 
   -- ---- the nodes
 

@@ -140,6 +140,7 @@ module _ {G O S T : Type 0} (g : register.Ghosts G) (o : owners.Ghosts O) (st : 
         unwritten = (subst (λ (f : Fetch). words.IsFetching (st.made old).devices (st.made old).areas (st.will_read old x c.store node) (scene_of g o st Stands Step register_is owners_are old x clocks.down machines c) node session f) is_fetch its.fetch).unwritten
             row.slot low began
     unseen words.Dropped is_fetch hidden = tt
+    unseen words.OfLog is_fetch hidden = tt
 
     own : IsOwn (st.made old).devices (st.made old).areas c row.slot session before.fetch gate_to
     own = record {
@@ -280,6 +281,7 @@ module _ {G O S T : Type 0} (g : register.Ghosts G) (o : owners.Ghosts O) (st : 
     still_unseen words.Nothing hidden = tt
     still_unseen (words.Block block mode) hidden = λ way. same block way ∙ hidden way
     still_unseen words.Dropped hidden = tt
+    still_unseen words.OfLog hidden = tt
 
     home_same : (block i : ℕ) → IsBlock (st.made old).areas block → newest_in (c.logs row.slot) block ≡ None → i < 9
         → with_runs c.before at_home.3.0 (block_place block (st.made old).devices).0 ((block_place block (st.made old).devices).1 + i) ≡ c.before (block_place block (st.made old).devices).0 ((block_place block (st.made old).devices).1 + i)

@@ -47,10 +47,10 @@ near_touches devices areas s holding logs slots gone slot session d sector low c
 pub apart_slots : (s : GlobalState) (gone slot session live : ℕ) (row : SessionRow) → IsAllowed s → IsEntitled s gone slot session → gone ≢ session → row_in s.sessions live ≡ Some row → row.dead ≡ 0 → slot ≢ row.slot
 apart_slots s gone slot session live row allowed claimed other is lives same =
     let one : gone ≡ live = one_slot s.sessions gone live claimed.row row allowed.own_slots claimed.is is (claimed.at ∙ same) in
-    ⊎_elim other (λ dead. same_row claimed.row row (row_in s.sessions live) (ap (λ (n : ℕ). row_in s.sessions n) (sym one) ∙ claimed.is) is dead.0) claimed.whose
+    ⊎_elim other (λ dead. same_row claimed.row row (row_in s.sessions live) (ap (λ (n : ℕ). row_in s.sessions n) (sym one) ∙ claimed.is) is dead.0 lives) claimed.whose
   where
-    same_row : (a b : SessionRow) (found : Option SessionRow) → found ≡ Some a → found ≡ Some b → a.dead ≡ 1 → ⊥
-    same_row a b found first second dead = let e : a ≡ b = cc in let f = ap (λ (r : SessionRow). r.dead) e in omega (arith, dead, f, lives)
+    same_row : (a b : SessionRow) (found : Option SessionRow) → found ≡ Some a → found ≡ Some b → a.dead ≡ 1 → b.dead ≡ 0 → ⊥
+    same_row a b found first second dead alive = let e : a ≡ b = cc in let f = ap (λ (r : SessionRow). r.dead) e in omega (arith, dead, f, alive)
 
 module _ {G O S T : Type 0} (g : register.Ghosts G) (o : owners.Ghosts O) (st : store.Ghosts S) (Stands : Truth → Hints → T → Type 0) (Step_is : T → Deed → T → Type 0)
     (register_is : G) (owners_are : O) (store_is : S) (x : Disks) (known : Known) (c : Course) (tree : T)

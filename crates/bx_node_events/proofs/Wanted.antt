@@ -126,6 +126,7 @@ module _ {G O S T : Type 0} (g : register.Ghosts G) (o : owners.Ghosts O) (st : 
       ne : at ≢ block
       ne e = other mode (ap (λ (n : ℕ). words.Block n mode) e)
   still_fetching words.Dropped other is unseen = (is, unseen)
+  still_fetching words.OfLog other is unseen = (is, unseen)
 
   fetching : (then_fetch : Fetch) → LeavesFetch block before.fetch then_fetch
       → IsFetching (st.made store_is).devices (st.made store_is).areas (st.will_read store_is x (with_holds c then_letters holding floor).store node) Then node session then_fetch × IsUnseen held then_fetch

@@ -188,13 +188,13 @@ module _ {G O S T : Type 0} (g : register.Ghosts G) (o : owners.Ghosts O) (st : 
       → HasRow (last (grown c.register.chain change)) gone
   keeps_row gone slot session stage claimed unproposed ended = ⊎_elim
       (λ over. ended over)
-      (λ under_way. row_stays g o st Stands Step register_is owners_are store_is x (known_of g o st Stands Step register_is owners_are store_is x letters clocks machines) c tree machines at_first allowed gone slot session change claimed legal proposed
+      (λ under_way. row_stays g o st Stands Step register_is owners_are store_is x (known_of g o st Stands Step register_is owners_are store_is x letters clocks machines) c tree machines at_first allowed_last gone slot session change claimed legal proposed
       (λ same. unproposed under_way (subst (λ (one : Change). Contains c.register.proposed one) same proposed)))
       (ended_or stage)
 
   -- Each recovers what it recovered.
   pub recovering_grown : AreRecovering (st.made store_is).devices (st.made store_is).areas Sure_then (st.will_read store_is x (store_grown c.store change)) (grown c.register.chain change) (λ n. c.store.told.knew (Node n)) c.register.proposed Then
-  recovering_grown = recover_then g o st Stands Step register_is owners_are store_is x (known_of g o st Stands Step register_is owners_are store_is x letters clocks machines) c tree machines at_first allowed
+  recovering_grown = recover_then g o st Stands Step register_is owners_are store_is x (known_of g o st Stands Step register_is owners_are store_is x letters clocks machines) c tree machines at_first allowed_last
       Sure_then (st.will_read store_is x (store_grown c.store change)) (grown c.register.chain change) (λ n. c.store.told.knew (Node n)) c.register.proposed Then recovering_first
       (λ node its machine row active. inl (was_active node its machine row active))
       (next_rises (last c.register.chain) change)

@@ -138,8 +138,8 @@ module _ {G O S T : Type 0} (g : register.Ghosts G) (o : owners.Ghosts O) (st : 
       asked = taken.asked;
       is_out = taken.is_out;
       stands = λ d s content index only was. (goes may).standing d s content index only (subst (λ (p : StorePast). st.stands old x p d s content index) (sym same_past) was);
-      reads = λ reader d s content only block asked device was.
-          (goes may).reading reader s content (home_of (st.made old).devices block) asked (subst (λ (n : ℕ). IsOnly (write ∷ c.store.writes) c.store.told.greatest n s content) device only)
+      reads = λ reader s content asks asked only was.
+          (goes may).reading reader s content asks asked only
           (subst (λ (p : StorePast). st.will_read old x p reader s content) (sym same_past) was);
     }
 

@@ -245,12 +245,12 @@ module _ {G O S T : Type 0} (g : register.Ghosts G) (o : owners.Ghosts O) (st : 
     }
 
     recovering_then : AreRecovering (st.made store_is).devices (st.made store_is).areas (SureBy (st.made store_is)) (st.will_read store_then y sp) c.register.chain (λ n. sp.told.knew (Node n)) r.proposed Then
-    recovering_then = recover_then g o st Stands Step register_is owners_are store_is x (known_of g o st Stands Step register_is owners_are store_is x letters clocks machines) c tree machines at_first allowed
+    recovering_then = recover_then g o st Stands Step register_is owners_are store_is x (known_of g o st Stands Step register_is owners_are store_is x letters clocks machines) c tree machines at_first allowed_last
         (SureBy (st.made store_is)) (st.will_read store_then y sp) c.register.chain (λ n. sp.told.knew (Node n)) r.proposed Then recovering_first
         (λ node its machine row active. inl (same_active Before node its machine row (was_active node its machine row active)))
         (omega arith) (λ gone low has. has)
         (λ node its machine one row row_one gone slot stage active active_was of low claimed other. inl (spares node its machine row gone slot active low claimed))
-        (claims_stay g o st Stands Step register_is owners_are store_is x (known_of g o st Stands Step register_is owners_are store_is x letters clocks machines) c tree machines at_first allowed
+        (claims_stay g o st Stands Step register_is owners_are store_is x (known_of g o st Stands Step register_is owners_are store_is x letters clocks machines) c tree machines at_first allowed_last
         (IsActive Then) (λ n. sp.told.knew (Node n)) (λ node its machine row active. (fewer node its row active.is_row active.lives (its_of node its row active.own active.is_row active.lives)).1))
         back
 

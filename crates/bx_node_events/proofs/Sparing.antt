@@ -16,20 +16,19 @@ use Rattle.bx_global.specs.Table.{IsLegal, effect}
 use Rattle.bx_node_machines.specs.Machines as words
 use Rattle.bx_node_machines.specs.Machines.{MachineView, Scene}
 use Rattle.bx_node_machines.specs.Nodes.{scene_of}
-use Rattle.bx_node_machines.specs.Recoveries.{AreRecovering, IsActive, around_in}
+use Rattle.bx_node_machines.specs.Recoveries.{AreRecovering, IsActive, RecoversNone, around_in}
 use Rattle.bx_node_machines.specs.Recovering.{HasEnded, IsRecovering}
 use Rattle.bx_node_machines.specs.bx_recover.specs.Recovering.{RecoveryView}
 use Rattle.bx_node_machines.specs.bx_recover.specs.declared.stage.Stage.{Stage}
 use Rattle.bx_node_machines.proofs.Going.{IsNear, SparesClosed, SparesSlot, ended_on, goes_on}
-use Rattle.bx_node_machines.proofs.Ongoing.{HasNone, WasActive, recover_on}
+use Rattle.bx_node_machines.proofs.Ongoing.{HasNone, WasActive, none_recovered, recover_on}
 use Rattle.bx_rows.specs.Words.{is_taken, row_in}
 use Rattle.bx_rows.specs.declared.session.SessionRow.{SessionRow}
 use Rattle.bx_views.specs.Attempts.{Deed}
 use Rattle.bx_views.specs.Truths.{Hints, Truth}
 use Rattle.bx_volume.specs.Overlay.{Logs}
 use Rattle.bx_volume.specs.Records.{LogWhere, Logged}
-use Rattle.bx_world_chains.specs.Entitled.{AreAllowed, IsEntitled}
-use Rattle.bx_world_chains.proofs.Chains.{last_place}
+use Rattle.bx_world_chains.specs.Entitled.{IsEntitled}
 use Rattle.bx_world_chains.proofs.Changed.{closed_or}
 use Rattle.bx_world_chains.proofs.Rows.{all_row, entitled_after, has_of, lives_of, lives_row, one_entitled, one_slot, taken_of}
 use Rattle.bx_world_logs.specs.Logs.{IsLogOf, Slot, SlotStands}
@@ -70,6 +69,10 @@ module _ {G O S T : Type 0} (g : register.Ghosts G) (o : owners.Ghosts O) (st : 
   pub few_records : length (c.logs slot) ≤ 8
   few_records = (subst (λ (t : Bool). LogWhere t c.before (st.made store_is).devices (st.made store_is).areas slot (c.logs slot)) taken (at.logs.is_truth.has_logs slot slot_low)).most
 
+-- A node that recovers nothing has no recovery but such as are over.
+pub only_ended : (stage : words.Stage) (gone : ℕ) (its : Stage) → RecoversNone stage → HasEnded its ⊎ ((recovery : RecoveryView) × (stage ≡ words.Recovers gone recovery)) → HasEnded its
+only_ended stage gone its none of = ⊎_elim (λ ended. ended) (λ under. absurd (none_recovered stage gone under.0 none under.1)) of
+
 -- What was claimed as what the node knew shows, and stays so, it has claimed as what it knows then shows.
 pub still_claimed : (chain : Chain) (gone slot session knew knew_then : ℕ) → knew ≤ knew_then → IsEntitled (last chain) gone slot session → ((s : GlobalState) → IsPlace chain s → knew ≤ s.index → IsEntitled s gone slot session)
     → IsEntitled (last chain) gone slot session × ((s : GlobalState) → IsPlace chain s → knew_then ≤ s.index → IsEntitled s gone slot session)
@@ -90,10 +93,7 @@ claimed_after chain change knew gone slot session allowed legal lives has claime
 
 module _ {G O S T : Type 0} (g : register.Ghosts G) (o : owners.Ghosts O) (st : store.Ghosts S) (Stands : Truth → Hints → T → Type 0) (Step_is : T → Deed → T → Type 0)
     (register_is : G) (owners_are : O) (store_is : S) (x : Disks) (known : Known) (c : Course) (tree : T) (machines : List MachineView)
-    (at : StandsAt g o st Stands Step_is register_is owners_are store_is x known c tree) (allowed : AreAllowed c.register.chain) where
-  allowed_last : IsAllowed (last c.register.chain)
-  allowed_last = allowed.each (last c.register.chain) (last_place c.register.chain)
-
+    (at : StandsAt g o st Stands Step_is register_is owners_are store_is x known c tree) (allowed_last : IsAllowed (last c.register.chain)) where
   abbrev Sure : ℕ → ℕ → List ℕ → Type 0
   Sure = SureOf g o st Stands Step_is register_is owners_are store_is x known c
 

@@ -8,7 +8,7 @@ use Rattle.bx_disk.specs.Disks.{Disks, Image}
 use Rattle.bx_facts.specs.declared.register.Register as register
 use Rattle.bx_facts.specs.declared.store.Store as store
 use Rattle.bx_facts.specs.Chains.{LivesIn, last, oldest}
-use Rattle.bx_facts.specs.Writes.{IsOver, Made, Sent, WritesIn, WritesTo}
+use Rattle.bx_facts.specs.Writes.{IsOnly, IsOver, Made, Sent, WritesIn, WritesTo}
 use Rattle.bx_facts.proofs.Lists.{front_or_behind}
 use Rattle.bx_global.specs.Allowed.{IsAllowed}
 use Rattle.bx_global.specs.declared.state.GlobalState.{GlobalState}

@@ -11,7 +11,7 @@ use Rattle.bx_global.specs.declared.change.Change.{Change}
 use Rattle.bx_global.specs.declared.change.Change.TheVariants.{Close}
 use Rattle.bx_global.specs.declared.state.GlobalState.{GlobalState}
 use Rattle.bx_global.proofs.Rising.{index_rises}
-use Rattle.bx_node_recovering.specs.Recovering.{Recovers}
+use Rattle.bx_node_machines.specs.Recovering.{Recovers}
 use Rattle.bx_recover.specs.declared.stage.Stage.TheVariants.{Begins}
 use Rattle.bx_views.specs.Attempts.{Deed}
 use Rattle.bx_views.specs.Truths.{Hints, Truth}

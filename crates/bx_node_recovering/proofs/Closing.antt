@@ -17,13 +17,13 @@ use Rattle.bx_node_events.proofs.Landed.{acknowledged}
 use Rattle.bx_node_events.proofs.Working.{IsHanded, IsSending}
 use Rattle.bx_node_landings.proofs.Landed.{with_landed}
 use Rattle.bx_node_machines.specs.Machines.{IsWriting}
-use Rattle.bx_node_recovering.specs.Recovering.{AreSettled, Recovers, around, gates_back, gates_shut}
+use Rattle.bx_node_machines.specs.Recovering.{AreSettled, Recovers, around, gates_back, gates_shut}
 use Rattle.bx_node_recovering.proofs.Sending as sends
-use Rattle.bx_node_recovering.proofs.Sending.{log_of}
+use Rattle.bx_node_events.proofs.Sparing.{log_of}
 use Rattle.bx_node_recovering.proofs.Telling as tells
 use Rattle.bx_node_recovers.proofs.Homed.{homed_at, homes_are}
 use Rattle.bx_node_recovers.proofs.Landed.{first_at, none_at, others_at}
-use Rattle.bx_node_recovers.proofs.Read.{recovery_of}
+use Rattle.bx_node_machines.specs.Recovering.{recovery_of}
 use Rattle.bx_node_sends.proofs.Sent.{with_write}
 use Rattle.bx_places.specs.Places.{gate_place, log_device, log_start}
 use Rattle.bx_post.specs.declared.packets.Letter.{Letter}

@@ -1,7 +1,6 @@
 pub mod Asking
 pub mod Begun
 pub mod Closing
-pub mod Going
 pub mod Keeping
 pub mod Reading
 pub mod Sending

@@ -2,7 +2,7 @@
 use Rattle.std.proofs.Common.{◌≡◌, ◌⊎◌, inl, inr, ◌∙◌, ℕ, ◌+◌, ◌-◌, ◌<◌, ◌≤◌, List, Option, Some, None, sym, ap, subst, arith}
 use Rattle.bx_disk.specs.Disks.{sector_of}
 use Rattle.bx_facts.specs.Writes.{Asked}
-use Rattle.bx_node_recovering.specs.Recovering.{AreAsRead, AreGatesAsked, Around, IsBodyAsRead, IsBodyAsked, IsFilled, IsStill, body_asked, gates_asked}
+use Rattle.bx_node_machines.specs.Recovering.{AreAsRead, AreGatesAsked, Around, IsBodyAsRead, IsBodyAsked, IsFilled, IsStill, body_asked, gates_asked}
 use Rattle.bx_places.specs.Places.{body_place, gate_place, log_device, log_start}
 use Rattle.bx_volume.specs.Records.{gate_of}
 

@@ -10,10 +10,11 @@ use Rattle.bx_facts.specs.Writes.{IsSettled, Made, Sent, WritesIn, WritesTo}
 use Rattle.bx_facts.proofs.Lists.{front_or_behind}
 use Rattle.bx_global.specs.Allowed.{IsAllowed, IsSession}
 use Rattle.bx_global.specs.declared.change.Change.TheVariants.{Close}
+use Rattle.bx_node_events.proofs.Sparing.{log_of, slot_low}
 use Rattle.bx_node_events.proofs.Working.{IsHanded, IsSending}
 use Rattle.bx_node_machines.specs.Machines.{IsFlying}
-use Rattle.bx_node_recovering.specs.Recovering.{AreAsRead, IsRecovering, Recovers, around, gates_back, gates_shut}
-use Rattle.bx_node_recovering.proofs.Going.{of_first, of_gates, of_others}
+use Rattle.bx_node_machines.specs.Recovering.{AreAsRead, IsRecovering, Recovers, around, gates_back, gates_shut}
+use Rattle.bx_node_machines.proofs.Going.{of_first, of_gates, of_others}
 use Rattle.bx_node_recovering.proofs.Surely.{one_sure}
 use Rattle.bx_node_recovers.proofs.Sending.{homes_touch, slot_touches}
 use Rattle.bx_node_recovers.proofs.Sent as sent
@@ -35,24 +36,6 @@ use Rattle.bx_world_logs.specs.Logs.{Found, IsLogOf, OfLog, SlotStands}
 use Rattle.bx_world_standing.specs.Rights.{IsOfSlot, IsWithin, MayTouch, Surely}
 use Rattle.bx_world_standing.specs.Sessions.{IsOfNode}
 use Rattle.bx_world_standing.specs.Standing.{Course, Known, StandsAt, SureOf}
-
-module _ {G O S T : Type 0} (g : register.Ghosts G) (o : owners.Ghosts O) (st : store.Ghosts S) (Stands : Truth → Hints → T → Type 0) (Step_is : T → Deed → T → Type 0)
-    (register_is : G) (owners_are : O) (store_is : S) (x : Disks) (known : Known) (c : Course) (tree : T)
-    (at : StandsAt g o st Stands Step_is register_is owners_are store_is x known c tree) (gone slot session : ℕ) (allowed : IsAllowed (last c.register.chain)) (entitled : IsEntitled (last c.register.chain) gone slot session) where
-  -- a slot that a session is entitled to is one of eight, and has a row
-  pub slot_low : slot < 8
-  slot_low = subst (λ (n : ℕ). n < 8) entitled.at ((all_row (IsSession (last c.register.chain).term_end) (last c.register.chain).sessions gone entitled.row allowed.each_session entitled.is).slot)
-
-  taken : is_taken (last c.register.chain).sessions slot ≡ true
-  taken = subst (λ (n : ℕ). is_taken (last c.register.chain).sessions n ≡ true) entitled.at (taken_of (last c.register.chain) gone entitled.row entitled.is)
-
-  -- its log stands
-  pub log_of : IsLogOf (SureOf g o st Stands Step_is register_is owners_are store_is x known c) (st.made store_is).devices (st.made store_is).areas c.before c.logs slot (c.slots slot)
-  log_of = subst (λ (t : Bool). SlotStands (SureOf g o st Stands Step_is register_is owners_are store_is x known c) (st.made store_is).devices (st.made store_is).areas c.before t c.logs slot (c.slots slot)) taken (at.logs.each slot slot_low)
-
-  -- and has at most eight records
-  pub few_records : length (c.logs slot) ≤ 8
-  few_records = (subst (λ (t : Bool). LogWhere t c.before (st.made store_is).devices (st.made store_is).areas slot (c.logs slot)) taken (at.logs.is_truth.has_logs slot slot_low)).most
 
 module _ {G O S T : Type 0} (g : register.Ghosts G) (o : owners.Ghosts O) (st : store.Ghosts S) (Stands : Truth → Hints → T → Type 0) (Step_is : T → Deed → T → Type 0)
     (register_is : G) (owners_are : O) (old new : S) (x : Disks) (known : Known) (c : Course) (tree : T) (letters : List Letter) (node session : ℕ) (write : Sent)

@@ -14,14 +14,14 @@ use Rattle.bx_global.specs.declared.change.Change.TheVariants.{Close}
 use Rattle.bx_logs.specs.Bodies.{point_of}
 use Rattle.bx_node_events.proofs.Working.{IsSending}
 use Rattle.bx_node_landings.proofs.Landed.{with_landed}
-use Rattle.bx_node_recovering.specs.Recovering.{AreAsRead, AreBodiesAsRead, AreSettled, IsBodyAsRead, IsFound, Recovers, around, gates_back, gates_shut}
+use Rattle.bx_node_machines.specs.Recovering.{AreAsRead, AreBodiesAsRead, AreSettled, IsBodyAsRead, IsFound, Recovers, around, gates_back, gates_shut}
 use Rattle.bx_node_recovering.proofs.Asking.{gates_or_body, none_read_then, settled_sure}
 use Rattle.bx_node_recovering.proofs.Closing as closing
 use Rattle.bx_node_recovering.proofs.Sending as sends
-use Rattle.bx_node_recovering.proofs.Sending.{slot_low}
+use Rattle.bx_node_events.proofs.Sparing.{slot_low}
 use Rattle.bx_node_recovering.proofs.Telling as tells
 use Rattle.bx_node_recovers.proofs.Landed.{none_at}
-use Rattle.bx_node_recovers.proofs.Read.{recovery_of}
+use Rattle.bx_node_machines.specs.Recovering.{recovery_of}
 use Rattle.bx_post.specs.declared.packets.Letter.{Letter}
 use Rattle.bx_recover.specs.Bodies.{HasNoRecord}
 use Rattle.bx_recover.specs.Done.{HasRun, HasSettled, RecoveryStep}

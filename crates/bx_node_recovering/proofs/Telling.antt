@@ -12,10 +12,10 @@ use Rattle.bx_global.specs.Allowed.{IsAllowed}
 use Rattle.bx_global.specs.declared.change.Change.TheVariants.{Close}
 use Rattle.bx_layout.specs.Labels.{IsOpenGate}
 use Rattle.bx_logs.specs.Bodies.{point_of}
-use Rattle.bx_node_recovering.specs.Recovering.{AreBodiesAsRead, AreSettled, IsBodyAsRead, IsFound, Recovers, around}
+use Rattle.bx_node_machines.specs.Recovering.{AreBodiesAsRead, AreSettled, IsBodyAsRead, IsFound, Recovers, around}
 use Rattle.bx_node_recovering.proofs.Asking.{bodies_then}
 use Rattle.bx_node_recovering.proofs.Surely.{one_sure}
-use Rattle.bx_node_recovers.proofs.Read.{recovery_of}
+use Rattle.bx_node_machines.specs.Recovering.{recovery_of}
 use Rattle.bx_node_recovers.proofs.Told as tells
 use Rattle.bx_places.specs.Places.{gate_place}
 use Rattle.bx_recover.specs.Bodies.{HasNoRecord, IsRecordIn}

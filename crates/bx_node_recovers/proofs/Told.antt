@@ -27,7 +27,8 @@ use Rattle.bx_recover.specs.Done.{HasRun, RecoveryStep, WasRead}
 use Rattle.bx_recover.specs.Reading.{AreGates}
 use Rattle.bx_recover.specs.Recovering.{reads_body}
 use Rattle.bx_recover.specs.declared.stage.Stage.{Stage}
-use Rattle.bx_node_recovers.proofs.Read.{read_run, recovery_of}
+use Rattle.bx_node_machines.specs.Recovering.{recovery_of}
+use Rattle.bx_node_recovers.proofs.Read.{read_run}
 
 -- what devices hold once the gates of a slot are these
 abbrev pub with_gates : ℕ → ℕ → Image → List ℕ → Image

@@ -234,9 +234,12 @@ module _ {G O S T : Type 0} (g : register.Ghosts G) (o : owners.Ghosts O) (st : 
       before = λ d s inside. refl;
       asked = ⊎_elim (λ none. inr none) (λ same. inl same) (asked node its active.own);
       out = ⊎_elim
-          (λ none. inr (none, λ runs near flying d s content w. done_sure node its row runs active.own active.is_row active.lives
-          (λ device sector bytes brings. near_touches (st.made store_is).devices (st.made store_is).areas (last c.register.chain) c.owners.holding c.logs c.slots gone slot its device sector low claimed (near device sector bytes brings))
-          flying none d s content w))
+          (λ none. inr (
+            none,
+            λ runs near flying d s content w. done_sure node its row runs active.own active.is_row active.lives
+                (λ device sector bytes brings. near_touches (st.made store_is).devices (st.made store_is).areas (last c.register.chain) c.owners.holding c.logs c.slots gone slot its device sector low claimed (near device sector bytes brings))
+                flying none d s content w,
+          ))
           (λ same. inl same)
           (out node its active.own);
       sent = λ write there whose. sent write there;

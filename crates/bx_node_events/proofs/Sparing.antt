@@ -1,6 +1,5 @@
 -- What nodes recover, they recover on where an event spares the slots of the logs.
 use Rattle.std.proofs.Common.{◌≡◌, ◌≢◌, ◌⊎◌, ⊎_elim, inl, inr, ◌∙◌, ℕ, ◌<◌, ◌≤◌, true, Bool, List, Contains, length, Option, Some, sym, ap, subst, arith}
-use Rattle.std.specs.Prelude.{slice_get}
 use Rattle.bx_base.specs.declared.names.Actor.TheVariants.{Node}
 use Rattle.bx_disk.specs.Disks.{Disks}
 use Rattle.bx_facts.specs.declared.owners.Owners as owners
@@ -30,7 +29,7 @@ use Rattle.bx_volume.specs.Overlay.{Logs}
 use Rattle.bx_volume.specs.Records.{LogWhere, Logged}
 use Rattle.bx_world_chains.specs.Entitled.{IsEntitled}
 use Rattle.bx_world_chains.proofs.Changed.{closed_or}
-use Rattle.bx_world_chains.proofs.Rows.{all_row, entitled_after, has_of, lives_of, lives_row, one_entitled, one_slot, taken_of}
+use Rattle.bx_world_chains.proofs.Rows.{all_row, entitled_after, has_of, one_entitled, one_slot, taken_of}
 use Rattle.bx_world_logs.specs.Logs.{IsLogOf, Slot, SlotStands}
 use Rattle.bx_world_standing.specs.Rights.{MayTouch}
 use Rattle.bx_world_standing.specs.Rights.MayTouch.{OfLogged, OfSlot}

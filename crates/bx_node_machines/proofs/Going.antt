@@ -1,5 +1,5 @@
 -- A recovery goes on where nothing happens to the slot that it recovers, nor to the homes of the blocks of its log.
-use Rattle.std.proofs.Common.{◌≡◌, ◌≢◌, ◌⊎◌, ⊎_elim, inl, inr, ◌∙◌, ℕ, ◌+◌, ◌*◌, ◌-◌, ◌/◌, ◌<◌, ◌≤◌, Bool, true, false, List, [], ◌∷◌, Contains, length, reverse, Option, Some, None, IsSome, refl, sym, ap, subst, arith}
+use Rattle.std.proofs.Common.{◌≡◌, ◌⊎◌, ⊎_elim, inl, inr, ◌∙◌, ℕ, ◌+◌, ◌-◌, ◌/◌, ◌<◌, ◌≤◌, true, false, List, ◌∷◌, Contains, length, reverse, Option, Some, None, IsSome, refl, sym, ap, subst, arith}
 use Rattle.bx_facts.specs.Chains.{Chain, IsPlace, last}
 use Rattle.bx_facts.specs.Writes.{Asked, Sent, Writes, WritesIn, WritesTo}
 use Rattle.bx_global.specs.declared.change.Change.{Change}
@@ -23,7 +23,6 @@ use Rattle.bx_node_views.specs.bx_volume.specs.Records.{Logged, gate_of, logged_
 use Rattle.bx_node_views.specs.bx_volume.proofs.Sizes.{filled_below, filled_there, length-block_text}
 use Rattle.bx_node_views.specs.bx_world_chains.specs.Entitled.{IsEntitled}
 use Rattle.bx_node_views.specs.bx_world_logs.specs.Logs.{Activity, Finds, Found, IsLogOf, OfLog, Slot, opens, view_of, writes_in}
-use Rattle.bx_node_views.specs.bx_world_standing.specs.Closings.{IsClosed}
 use Rattle.bx_node_views.specs.bx_world_standing.specs.Rights.{IsOfHome, IsOfSlot}
 
 -- ---- what its writes touch

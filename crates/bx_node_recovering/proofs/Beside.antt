@@ -330,7 +330,7 @@ module _ {G O S T : Type 0} (g : register.Ghosts G) (o : owners.Ghosts O) (st : 
       (low_of other_gone other_slot its_session was.claimed)
       (log_of g o st Stands Step_is register_is owners_are old x known c tree stands.at other_gone other_slot its_session live.allowed was.claimed)
       (few_records g o st Stands Step_is register_is owners_are old x known c tree stands.at other_gone other_slot its_session live.allowed was.claimed)
-      c.register.chain c.register.chain (knew other) (knew other) c.register.proposed c.register.proposed other_gone stage records was was.claimed was.known (λ there. there)
+      c.register.chain c.register.chain (knew other) (knew other) c.register.proposed c.register.proposed other_gone stage records was was.claimed was.known (λ under_way there. there)
 
   -- what the node has finished before stays finished
   finished_goes : (other_gone : ℕ) → other_gone ≢ gone → IsFinished devices areas Sure (st.will_read old x c.store) c.register.chain knew c.register.proposed Before node session other_gone

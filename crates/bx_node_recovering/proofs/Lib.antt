@@ -3,9 +3,11 @@ pub mod Begun
 pub mod Beside
 pub mod Closing
 pub mod Keeping
+pub mod Proposed
 pub mod Reading
 pub mod Sending
 pub mod Settling
+pub mod Standing
 pub mod Surely
 pub mod Telling
 pub mod Unsaid

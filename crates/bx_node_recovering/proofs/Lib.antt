@@ -8,6 +8,8 @@ pub mod Reading
 pub mod Sending
 pub mod Settling
 pub mod Standing
+pub mod Still
 pub mod Surely
 pub mod Telling
 pub mod Unsaid
+pub mod Written

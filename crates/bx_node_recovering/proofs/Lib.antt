@@ -7,6 +7,7 @@ pub mod Proposed
 pub mod Reading
 pub mod Sending
 pub mod Settling
+pub mod Slots
 pub mod Standing
 pub mod Still
 pub mod Surely

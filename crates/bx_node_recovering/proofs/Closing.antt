@@ -79,6 +79,10 @@ module _ {G O S T : Type 0} (g : register.Ghosts G) (o : owners.Ghosts O) (st : 
 
   -- ---- home
 
+  -- what goes home are the homes of the log's blocks
+  pub homes_of_told : (blocks : List Changed) → AreNewestOf records blocks → AllByRecursion (IsLogged areas) records → Before Told → AreItsHomes devices areas c.logs slot (home_runs devices blocks)
+  homes_of_told blocks newest logged was = homes_are devices areas slot c.logs records blocks newest logged was.at.2.1
+
   -- The points are told: the newest blocks of the records are written home.
   pub brings : (blocks : List Changed) → AreNewestOf records blocks → AllByRecursion (IsLogged areas) records → write.runs ≡ home_runs devices blocks
       → step.said ≡ brings_home (recovery_of slot devices areas Told records) blocks → Before Told → Sends c tree Homes
@@ -110,7 +114,7 @@ module _ {G O S T : Type 0} (g : register.Ghosts G) (o : owners.Ghosts O) (st : 
       told = recovery_of slot devices areas Told records
 
       homes : AreItsHomes devices areas c.logs slot (home_runs devices blocks)
-      homes = homes_are devices areas slot c.logs records blocks newest logged was.at.2.1
+      homes = homes_of_told blocks newest logged was
 
       some : 0 < length (c.logs slot)
       some = let long = sym (ap (λ (l : List Logged). length l) was.at.2.1) in let turned = length-reverse (c.logs slot) in let low = was.done.2 in omega (arith, long, turned, low)

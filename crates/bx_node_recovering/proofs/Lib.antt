@@ -9,8 +9,10 @@ pub mod Sending
 pub mod Settling
 pub mod Slots
 pub mod Standing
+pub mod Stepping
 pub mod Still
 pub mod Surely
 pub mod Telling
 pub mod Unsaid
+pub mod Writing
 pub mod Written

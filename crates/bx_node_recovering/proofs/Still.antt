@@ -8,7 +8,7 @@ use Rattle.bx_facts.specs.declared.register.Register as register
 use Rattle.bx_facts.specs.declared.store.Store as store
 use Rattle.bx_facts.specs.Chains.{HasRow, LivesIn, last, oldest}
 use Rattle.bx_facts.specs.Holds.{Hold}
-use Rattle.bx_facts.specs.Writes.{Asked, GoesOn, Made, Sent}
+use Rattle.bx_facts.specs.Writes.{Asked, GoesOn, Made, Sent, StorePast}
 use Rattle.bx_node_events.proofs.Acting.{IsChanged, IsLive}
 use Rattle.bx_node_events.proofs.Asked.{with_letters}
 use Rattle.bx_node_machines.specs.Machines as words
@@ -164,3 +164,57 @@ module _ {G O S T : Type 0} (g : register.Ghosts G) (o : owners.Ghosts O) (st : 
         goes = subst (λ (m : Made). IsRecovering m.devices m.areas (SureBy m) (st.will_read new x then_is.store node) c.register.chain (c.store.told.knew (Node node)) c.register.proposed
             (around g o st Stands Step_is register_is owners_are new x (record known { letters = then_letters }) then_is node) session gone slot Closed records) made its;
       }) at
+
+-- Where nothing is sent, and its store is as it was.
+module _ {G O S T : Type 0} (g : register.Ghosts G) (o : owners.Ghosts O) (st : store.Ghosts S) (Stands : Truth → Hints → T → Type 0) (Step_is : T → Deed → T → Type 0)
+    (register_is : G) (owners_are : O) (store_is : S) (x : Disks) (letters : List Letter) (clocks : Clocks) (machines later : List MachineView) (c : Course) (tree next : T)
+    (node session gone slot : ℕ) (row : SessionRow) (before : MachineView) (records : List Logged)
+    (stands : NodesStand g o st Stands Step_is register_is owners_are store_is x letters clocks machines c tree)
+    (live : IsLive (o.own owners_are) clocks (last c.register.chain) machines node session row before)
+    (claimed : IsEntitled (last c.register.chain) gone slot session) (is_other : gone ≢ session)
+    (alone : (one other block : ℕ) (hold : Hold) → LivesIn (last c.register.chain) one → HasRow (last c.register.chain) other → c.owners.holding one block ≡ Some hold → oldest c.register.chain ≤ other)
+    (before_then : Image) (logs_then : Logs) (slots_then : ℕ → Slot) (truth_then : Truth) (doubts_then : ℕ → Option Unacknowledged)
+    (in_slot : IsInSlot (st.made store_is).devices (st.made store_is).areas c slot gone before_then logs_then slots_then doubts_then) where
+  abbrev shown_then : Known
+  shown_then = known_of g o st Stands Step_is register_is owners_are store_is x letters clocks machines
+
+  -- what was done then
+  abbrev pub quiet_then : Course
+  quiet_then = record c { before = before_then; logs = logs_then; slots = slots_then; truth = truth_then; doubts = doubts_then }
+
+  same_letters : with_letters quiet_then letters ≡ quiet_then
+  same_letters = λ i. record quiet_then {
+    register = record c.register { letters = sym stands.at.pasts.letters i };
+    owners = record c.owners { told = record c.owners.told { letters = sym stands.at.pasts.owners_letters i } };
+    store = record c.store { told = record c.store.told { letters = sym stands.at.pasts.store_letters i } };
+  }
+
+  goes_so : GoesOn c.store.writes c.store.told.greatest (st.asked store_is) (st.settled store_is x c.store) (st.settled store_is x (with_letters c letters).store) (st.will_read store_is x c.store) (st.will_read store_is x (with_letters c letters).store)
+      (st.stands store_is x c.store) (st.stands store_is x (with_letters c letters).store)
+  goes_so = subst (λ (past : StorePast). GoesOn c.store.writes c.store.told.greatest (st.asked store_is) (st.settled store_is x c.store) (st.settled store_is x past) (st.will_read store_is x c.store) (st.will_read store_is x past)
+      (st.stands store_is x c.store) (st.stands store_is x past)) (λ i. record c.store { told = record c.store.told { letters = stands.at.pasts.store_letters i } })
+      (record { settles = λ d s content only is. is; standing = λ d s content index only is. is; reading = λ reader s content asks is only was. was })
+
+  pub quiet_at_stage : (stage : Stage) (fetch : Fetch) → IsChanged machines later node (record before { stage = words.Recovers gone (recovery_of slot (st.made store_is).devices (st.made store_is).areas stage records); fetch = fetch })
+      → ReadsLog fetch → (fetch ≡ words.Nothing → st.asked store_is node ≡ None) → Rests before.stage → (Contains before.finished gone → ⊥) → (HasEnded stage → ⊥)
+      → StandsAt g o st Stands Step_is register_is owners_are store_is x shown_then quiet_then next
+      → Recovers g o st Stands Step_is register_is owners_are store_is x shown_then quiet_then node session gone slot stage records
+      → NodesStand g o st Stands Step_is register_is owners_are store_is x letters clocks later quiet_then next
+  quiet_at_stage stage fetch changed of none_asked rests unfinished unended at its =
+      subst (λ (course : Course). NodesStand g o st Stands Step_is register_is owners_are store_is x letters clocks later course next) same_letters
+      (stands_at_stage g o st Stands Step_is register_is owners_are store_is store_is x letters letters clocks machines later c tree next node session gone slot row before records stands live claimed is_other alone
+      before_then logs_then slots_then truth_then doubts_then in_slot refl (λ other. refl) (λ reader ne. refl) goes_so stage fetch changed of none_asked rests unfinished unended
+      (subst (λ (course : Course). StandsAt g o st Stands Step_is register_is owners_are store_is x shown_then course next) (sym same_letters) at)
+      (subst (λ (course : Course). Recovers g o st Stands Step_is register_is owners_are store_is x shown_then course node session gone slot stage records) (sym same_letters) its))
+
+  pub quiet_ended : (finished : List ℕ) → IsChanged machines later node (record before { stage = words.Idle; fetch = words.Nothing; finished = finished })
+      → ((one : ℕ) → Contains finished one → Contains before.finished one ⊎ (one ≡ gone)) → st.out_of store_is node ≡ None → st.asked store_is node ≡ None → Rests before.stage → (Contains before.finished gone → ⊥)
+      → StandsAt g o st Stands Step_is register_is owners_are store_is x shown_then quiet_then next
+      → Recovers g o st Stands Step_is register_is owners_are store_is x shown_then quiet_then node session gone slot Closed records
+      → NodesStand g o st Stands Step_is register_is owners_are store_is x letters clocks later quiet_then next
+  quiet_ended finished changed only none_out none_asked rests unfinished at its =
+      subst (λ (course : Course). NodesStand g o st Stands Step_is register_is owners_are store_is x letters clocks later course next) same_letters
+      (stands_ended g o st Stands Step_is register_is owners_are store_is store_is x letters letters clocks machines later c tree next node session gone slot row before records stands live claimed is_other alone
+      before_then logs_then slots_then truth_then doubts_then in_slot refl (λ other. refl) (λ reader ne. refl) goes_so finished changed only none_out none_asked rests unfinished
+      (subst (λ (course : Course). StandsAt g o st Stands Step_is register_is owners_are store_is x shown_then course next) (sym same_letters) at)
+      (subst (λ (course : Course). Recovers g o st Stands Step_is register_is owners_are store_is x shown_then course node session gone slot Closed records) (sym same_letters) its))

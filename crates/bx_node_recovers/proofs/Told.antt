@@ -110,6 +110,12 @@ module _ {G O S T : Type 0} (g : register.Ghosts G) (o : owners.Ghosts O) (st : 
   abbrev pub run : List Logged
   run = (settled g o st Stands Step_is register_is owners_are store_is x known c tree at gone session slot less now allowed entitled other none_out unproposed same gates_sure).run
 
+  -- what it shows is a run of the slot
+  pub told_run : IsRun c.logs c.slots slot run
+  told_run =
+      let it = settled g o st Stands Step_is register_is owners_are store_is x known c tree at gone session slot less now allowed entitled other none_out unproposed same gates_sure in
+      run_of c.logs c.slots slot run c.truth it.next it.shows
+
   pub its_log : IsLog now (st.made store_is).devices (st.made store_is).areas slot run
   its_log =
       let it = settled g o st Stands Step_is register_is owners_are store_is x known c tree at gone session slot less now allowed entitled other none_out unproposed same gates_sure in

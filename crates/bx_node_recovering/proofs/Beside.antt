@@ -3,7 +3,6 @@ use Rattle.std.proofs.Common.{◌≡◌, ◌≢◌, ◌⊎◌, ⊎_elim, inl, in
 use Rattle.std.specs.Prelude.{◌==◌, ◌&&◌, slice_get}
 use Rattle.std.proofs.lemmas.Bool.Decides.{nat_tests}
 use Rattle.bx_base.specs.declared.names.Actor.TheVariants.{Node}
-use Rattle.bx_base.specs.declared.names.Mode.{Mode}
 use Rattle.bx_disk.specs.Disks.{Disks, Image}
 use Rattle.bx_facts.specs.declared.owners.Owners as owners
 use Rattle.bx_facts.specs.declared.register.Register as register
@@ -22,7 +21,7 @@ use Rattle.bx_node_machines.proofs.Going.{IsNear, SparesClosed, SparesSlot, ende
 use Rattle.bx_node_machines.proofs.Leaving.{Leaves, LeavesSlot, acts}
 use Rattle.bx_node_machines.proofs.Owning as owning
 use Rattle.bx_node_views.proofs.Touching.{touch_clash}
-use Rattle.bx_places.specs.Places.{IsBlock, block_place, log_device}
+use Rattle.bx_places.specs.Places.{IsBlock, block_place}
 use Rattle.bx_post.specs.declared.packets.Letter.{Letter}
 use Rattle.bx_records.specs.Drafts.{block_in}
 use Rattle.bx_records.specs.declared.runs.Run.{Run}
@@ -37,13 +36,13 @@ use Rattle.bx_views.specs.Truths.{Hints, Truth}
 use Rattle.bx_volume.specs.Overlay.{IsUnlogged, Logs}
 use Rattle.bx_volume.specs.Records.{Logged, newest_in}
 use Rattle.bx_world_chains.specs.Entitled.{IsEntitled}
-use Rattle.bx_world_chains.proofs.Rows.{below_next, lives_of, one_entitled, one_slot}
+use Rattle.bx_world_chains.proofs.Rows.{below_next, lives_of, one_entitled}
 use Rattle.bx_world_logs.specs.Logs.{Slot, begins, idle}
 use Rattle.bx_world_standing.specs.Parts.{Clocks}
 use Rattle.bx_world_standing.specs.Rights.{IsOfSlot, MayTouch}
 use Rattle.bx_world_standing.specs.Standing.{Course, Known, SureOf, own_up}
 use Rattle.bx_world_standing.proofs.Owns.{own_is}
-use Rattle.bx_world_views.specs.Views.{Allows, Unacknowledged}
+use Rattle.bx_world_views.specs.Views.{Unacknowledged}
 
 -- A node's own log rests: nothing is under way in its slot, it has no records, and none of its blocks is less home.
 abbrev pub Rests : Stage → Type 0

@@ -1,8 +1,6 @@
 -- The nodes stand where a recovery tells its points, and where it is over.
-use Rattle.std.proofs.Common.{◌≡◌, ◌≢◌, ◌⊎◌, ⊎_elim, inl, inr, ◌∙◌, ℕ, ◌<◌, ◌≤◌, Bool, true, false, List, [], ◌∷◌, Contains, length, map, Option, Some, None, refl, sym, ap, subst}
-use Rattle.std.specs.Prelude.{◌-◌, if◌then◌else◌, slice_get}
-use Rattle.bx_base.specs.declared.names.Actor.TheVariants.{Node}
-use Rattle.bx_disk.specs.Disks.{Disks, Image, sector_of}
+use Rattle.std.proofs.Common.{◌≡◌, ◌≢◌, ◌⊎◌, ◌∙◌, ℕ, ◌<◌, ◌≤◌, true, List, ◌∷◌, Contains, length, map, Some, None, refl, sym, ap, subst}
+use Rattle.bx_disk.specs.Disks.{Disks}
 use Rattle.bx_facts.specs.declared.owners.Owners as owners
 use Rattle.bx_facts.specs.declared.register.Register as register
 use Rattle.bx_facts.specs.declared.store.Store as store
@@ -20,7 +18,7 @@ use Rattle.bx_node_machines.specs.Recoveries.{IsActive}
 use Rattle.bx_node_machines.specs.Recovering.{IsBodyAsRead, Recovers, around, recovery_of}
 use Rattle.bx_node_recovering.proofs.Beside.{Rests}
 use Rattle.bx_node_recovering.proofs.Closing as closing
-use Rattle.bx_node_recovering.proofs.Slots.{in_slot_landed}
+use Rattle.bx_node_recovering.proofs.Slots.{in_slot_landed, stored_same}
 use Rattle.bx_node_recovering.proofs.Still as still
 use Rattle.bx_node_recovering.proofs.Telling as telling
 use Rattle.bx_node_recovering.proofs.Written.{at_stage}
@@ -29,8 +27,6 @@ use Rattle.bx_recover.specs.Done.{HasRun, RecoveryStep}
 use Rattle.bx_recover.specs.declared.moves.Move.TheVariants.{Acked, Closed as Ended}
 use Rattle.bx_recover.specs.declared.stage.Stage.{Stage}
 use Rattle.bx_recover.specs.declared.stage.Stage.TheVariants.{Bodies, Shuts, Told}
-use Rattle.bx_redo.specs.Stands.{begins_at, bytes_of, is_written, stored}
-use Rattle.bx_redo.specs.View.{LogView}
 use Rattle.bx_redo.specs.declared.work.Work.TheVariants as works
 use Rattle.bx_rows.specs.declared.session.SessionRow.{SessionRow}
 use Rattle.bx_views.specs.Attempts.{Deed}
@@ -40,10 +36,6 @@ use Rattle.bx_world_logs.specs.Logs.{Activity, idle, view_of, writes_in}
 use Rattle.bx_world_standing.specs.Parts.{Clocks}
 use Rattle.bx_world_standing.specs.Standing.{Course, Known, SureOf}
 use Rattle.bx_world_standing.proofs.Owns.{own_is}
-
--- where nothing is written all is as it was
-stored_same : (before : Image) (log : LogView) (d s : ℕ) → is_written log d s ≡ false → stored before log d s ≡ before d s
-stored_same before log d s apart = ap (λ (b : Bool). if b then sector_of (bytes_of log.work) (s - begins_at log log.work) else before d s) apart
 
 module _ {G O S T : Type 0} (g : register.Ghosts G) (o : owners.Ghosts O) (st : store.Ghosts S) (Stands : Truth → Hints → T → Type 0) (Step_is : T → Deed → T → Type 0)
     (register_is : G) (owners_are : O) (store_is : S) (x : Disks) (letters : List Letter) (clocks : Clocks) (machines later : List MachineView) (c : Course) (tree : T)

@@ -1,5 +1,5 @@
 -- A node proposes that a dead session is claimed, or that one is closed whose recovery it has finished: the nodes stand.
-use Rattle.std.proofs.Common.{◌≡◌, ◌≢◌, ⊎_elim, inl, inr, ◌∙◌, ℕ, ◌<◌, ◌≤◌, List, ◌∷◌, Contains, Option, Some, refl, sym, ap, subst, arith}
+use Rattle.std.proofs.Common.{◌≡◌, ◌≢◌, ⊎_elim, inl, ◌∙◌, ℕ, ◌≤◌, List, ◌∷◌, Contains, Option, Some, refl, sym, ap, subst, arith}
 use Rattle.std.specs.Prelude.{slice_get}
 use Rattle.bx_base.specs.declared.names.Actor.{Actor}
 use Rattle.bx_base.specs.declared.names.Actor.TheVariants.{Node}
@@ -7,18 +7,18 @@ use Rattle.bx_disk.specs.Disks.{Disks}
 use Rattle.bx_facts.specs.declared.owners.Owners as owners
 use Rattle.bx_facts.specs.declared.register.Register as register
 use Rattle.bx_facts.specs.declared.store.Store as store
-use Rattle.bx_facts.specs.Chains.{HasRow, IsOwnersOwn, IsStoresOwn, LivesIn, last}
+use Rattle.bx_facts.specs.Chains.{HasRow, IsOwnersOwn, IsStoresOwn, last}
 use Rattle.bx_facts.proofs.Lists.{front_or_behind}
 use Rattle.bx_global.specs.Allowed.{IsAllowed}
 use Rattle.bx_global.specs.declared.change.Change.{Change}
-use Rattle.bx_global.specs.declared.change.Change.TheVariants.{Claim, Close}
+use Rattle.bx_global.specs.declared.change.Change.TheVariants.{Close}
 use Rattle.bx_global.specs.declared.state.GlobalState.{GlobalState}
 use Rattle.bx_node_events.proofs.Sparing.{claims_stay, recover_then}
 use Rattle.bx_node_events.proofs.Taken.{loose}
 use Rattle.bx_node_machines.specs.Machines as words
 use Rattle.bx_node_machines.specs.Machines.{MachineView, Scene}
 use Rattle.bx_node_machines.specs.Nodes.{NodesStand, known_of, scene_of}
-use Rattle.bx_node_machines.specs.Recoveries.{AreRecovering, IsActive, IsFinished, around_in}
+use Rattle.bx_node_machines.specs.Recoveries.{AreRecovering, IsActive, IsFinished}
 use Rattle.bx_node_machines.proofs.Ongoing.{same_active}
 use Rattle.bx_post.specs.declared.packets.Letter.{Letter}
 use Rattle.bx_recover.specs.Recovering.{RecoveryView}

@@ -1,21 +1,21 @@
 -- What a recovery's step makes of the course is in its slot, and in homes of the blocks of its log.
-use Rattle.std.proofs.Common.{◌≡◌, ◌≢◌, ⊎_elim, inl, inr, ◌∙◌, ℕ, ◌+◌, ◌<◌, Bool, true, false, List, [], ◌∷◌, length, Option, Some, None, refl, sym, ap, subst, arith}
-use Rattle.bx_disk.specs.Disks.{Image}
-use Rattle.bx_facts.specs.Chains.{last}
-use Rattle.bx_facts.specs.Writes.{WritesIn}
+use Rattle.std.proofs.Common.{◌≡◌, ◌≢◌, ⊎_elim, inl, inr, ◌∙◌, ℕ, ◌+◌, ◌<◌, Bool, true, false, List, length, Option, Some, None, refl, sym, ap, arith}
+use Rattle.std.specs.Prelude.{◌-◌, if◌then◌else◌}
+use Rattle.bx_disk.specs.Disks.{Image, sector_of}
 use Rattle.bx_node_machines.specs.Machines.{IsUnwritten}
 use Rattle.bx_node_machines.proofs.Going.{of_homes}
 use Rattle.bx_node_recovering.proofs.Beside.{IsInSlot}
 use Rattle.bx_node_recovering.proofs.Standing.{near_apart, near_unlogged}
-use Rattle.bx_places.specs.Places.{IsBlock, IsVolume, block_place}
+use Rattle.bx_places.specs.Places.{IsVolume, block_place}
 use Rattle.bx_records.specs.Drafts.{Block, block_in}
 use Rattle.bx_records.specs.declared.runs.Run.{Run}
 use Rattle.bx_redo.specs.Homes.{AreItsHomes, with_runs}
+use Rattle.bx_redo.specs.Stands.{begins_at, bytes_of, is_written, stored}
+use Rattle.bx_redo.specs.View.{LogView}
 use Rattle.bx_redo.specs.declared.work.Work.TheVariants as works
 use Rattle.bx_redo.proofs.HomeRuns.{written_or}
 use Rattle.bx_rows.specs.Words.{is_taken}
 use Rattle.bx_rows.specs.declared.session.SessionRow.{SessionRow}
-use Rattle.bx_views.specs.Truths.{Truth}
 use Rattle.bx_volume.specs.Overlay.{IsUnlogged, Logs}
 use Rattle.bx_volume.specs.Records.{Logged, newest_in, or_older}
 use Rattle.bx_world_standing.specs.bx_world_logs.specs.Logs.{Activity, Found, LogsStand, OfLog, Slot, begins, opens, writes_in}
@@ -25,6 +25,10 @@ use Rattle.bx_world_logs.proofs.Regions.{home_in_none, writes_within}
 use Rattle.bx_world_standing.specs.Rights.{IsOfSlot}
 use Rattle.bx_world_standing.specs.Standing.{Course}
 use Rattle.bx_world_views.specs.Views.{Unacknowledged}
+
+-- where nothing is written all is as it was
+pub stored_same : (before : Image) (log : LogView) (d s : ℕ) → is_written log d s ≡ false → stored before log d s ≡ before d s
+stored_same before log d s apart = ap (λ (b : Bool). if b then sector_of (bytes_of log.work) (s - begins_at log log.work) else before d s) apart
 
 none_or : (one older : Option Block) → one ≡ None → older ≡ None → or_older one older ≡ None
 none_or None older is none = none

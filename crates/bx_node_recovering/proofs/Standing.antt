@@ -1,5 +1,5 @@
 -- The nodes stand where one's recovery begins, goes on or ends.
-use Rattle.std.proofs.Common.{◌≡◌, ◌≢◌, ◌⊎◌, ⊎_elim, inl, inr, ◌∙◌, ℕ, ◌<◌, ◌≤◌, Bool, true, false, eqb, List, ◌∷◌, Contains, Option, Some, None, IsSome, refl, sym, ap, subst, arith}
+use Rattle.std.proofs.Common.{◌≡◌, ◌≢◌, ◌⊎◌, ⊎_elim, ◌∙◌, ℕ, ◌<◌, ◌≤◌, Bool, true, false, eqb, List, Contains, Option, Some, None, IsSome, refl, sym, ap, subst, arith}
 use Rattle.std.specs.Prelude.{if◌then◌else◌, slice_get}
 use Rattle.std.proofs.lemmas.Bool.Decides.{nat_tests}
 use Rattle.bx_base.specs.declared.names.Actor.TheVariants.{Node}
@@ -9,11 +9,8 @@ use Rattle.bx_facts.specs.declared.register.Register as register
 use Rattle.bx_facts.specs.declared.store.Store as store
 use Rattle.bx_facts.specs.Chains.{HasRow, LivesIn, last, oldest}
 use Rattle.bx_facts.specs.Holds.{Hold}
-use Rattle.bx_facts.specs.Writes.{Asked, Made, Sent, WritesTo}
-use Rattle.bx_facts.proofs.Lists.{front_or_behind}
+use Rattle.bx_facts.specs.Writes.{Asked, Made, Sent}
 use Rattle.bx_node_events.proofs.Acting.{IsChanged, IsLive}
-use Rattle.bx_node_events.proofs.Sparing.{near_touches}
-use Rattle.bx_node_events.proofs.Working.{IsHanded, SureBehind}
 use Rattle.bx_node_machines.specs.Machines as words
 use Rattle.bx_node_machines.specs.Machines.{AreAbout, IsFetching, IsUnseen, MachineView, Scene, is_one}
 use Rattle.bx_node_machines.specs.Nodes.{IsOfNode, NodesStand, hinted, known_of, nothing_held, scene_of, shown}
@@ -22,17 +19,16 @@ use Rattle.bx_node_machines.proofs.Going.{IsNear}
 use Rattle.bx_node_machines.proofs.Leaving.{given_on}
 use Rattle.bx_node_recovering.proofs.Beside as beside
 use Rattle.bx_node_recovering.proofs.Beside.{IsInSlot, IsSentBeside, Rests}
-use Rattle.bx_node_sends.proofs.Sent.{surely_on, with_write}
 use Rattle.bx_node_views.proofs.Touching.{one_home, one_slot, slot_and_home}
-use Rattle.bx_places.specs.Places.{IsBlock, IsVolume, block_place}
+use Rattle.bx_places.specs.Places.{IsBlock, IsVolume}
 use Rattle.bx_post.specs.declared.packets.Letter.{Letter}
 use Rattle.bx_records.specs.Drafts.{Block}
 use Rattle.bx_recover.specs.Recovering.{RecoveryView}
 use Rattle.bx_rows.specs.declared.session.SessionRow.{SessionRow}
 use Rattle.bx_views.specs.Attempts.{Deed}
-use Rattle.bx_views.specs.Truths.{Held, Hints, Truth}
+use Rattle.bx_views.specs.Truths.{Hints, Truth}
 use Rattle.bx_volume.specs.Overlay.{IsUnlogged, Logs}
-use Rattle.bx_volume.specs.Records.{Logged, newest_in}
+use Rattle.bx_volume.specs.Records.{newest_in}
 use Rattle.bx_world_chains.specs.Entitled.{IsEntitled}
 use Rattle.bx_world_logs.specs.Logs.{Slot}
 use Rattle.bx_world_standing.specs.Parts.{Clocks}

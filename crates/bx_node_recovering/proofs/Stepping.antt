@@ -1,52 +1,34 @@
 -- The nodes stand with what a recovery's step makes of the course, and the write that it sends.
-use Rattle.std.proofs.Common.{◌≡◌, ◌≢◌, ◌⊎◌, ⊎_elim, inl, inr, ◌∙◌, ℕ, ◌<◌, ◌≤◌, true, List, [], ◌∷◌, Contains, length, Option, Some, None, refl, sym, ap, subst, arith}
-use Rattle.std.specs.Prelude.{slice_get}
-use Rattle.std.specs.List.{AllByRecursion}
-use Rattle.bx_base.specs.declared.names.Actor.TheVariants.{Node}
+use Rattle.std.proofs.Common.{◌≡◌, ◌≢◌, ◌∙◌, ℕ, ◌<◌, List, Contains, Option, Some, None, sym, subst}
 use Rattle.bx_disk.specs.Disks.{Disks, Image}
 use Rattle.bx_facts.specs.declared.owners.Owners as owners
 use Rattle.bx_facts.specs.declared.register.Register as register
 use Rattle.bx_facts.specs.declared.store.Store as store
 use Rattle.bx_facts.specs.Chains.{last}
-use Rattle.bx_facts.specs.Writes.{IsSettled, Sent, WritesIn, WritesTo}
-use Rattle.bx_global.specs.declared.change.Change.TheVariants.{Close}
+use Rattle.bx_facts.specs.Writes.{Sent, WritesTo}
 use Rattle.bx_node_events.proofs.Acting.{IsChanged, IsLive}
 use Rattle.bx_node_events.proofs.Sparing.{near_touches, slot_low}
 use Rattle.bx_node_events.proofs.Working.{IsHanded, IsSending}
 use Rattle.bx_node_machines.specs.Machines as words
 use Rattle.bx_node_machines.specs.Machines.{MachineView}
 use Rattle.bx_node_machines.specs.Nodes.{NodesStand, known_of, scene_of}
-use Rattle.bx_node_machines.specs.Recoveries.{IsActive, IsUnderWay}
-use Rattle.bx_node_machines.specs.Recovering.{AreAsRead, HasEnded, Recovers, around, gates_back, gates_shut, recovery_of}
-use Rattle.bx_node_machines.proofs.Going.{IsNear, of_first, of_gates, of_homes, of_others}
+use Rattle.bx_node_machines.specs.Recoveries.{IsActive}
+use Rattle.bx_node_machines.specs.Recovering.{HasEnded, Recovers, recovery_of}
+use Rattle.bx_node_machines.proofs.Going.{IsNear}
 use Rattle.bx_node_recovering.proofs.Beside.{IsInSlot, Rests}
-use Rattle.bx_node_recovering.proofs.Closing as closing
 use Rattle.bx_node_recovering.proofs.Sending as sends
-use Rattle.bx_node_recovering.proofs.Settling as settling
-use Rattle.bx_node_recovering.proofs.Slots.{in_slot_homed, in_slot_landed}
-use Rattle.bx_node_recovering.proofs.Still.{same_course}
 use Rattle.bx_node_recovering.proofs.Written as written
 use Rattle.bx_node_recovering.proofs.Written.{at_stage}
 use Rattle.bx_node_sends.proofs.Sent.{with_write}
 use Rattle.bx_post.specs.declared.packets.Letter.{Letter}
-use Rattle.bx_records.specs.Drafts.{Changed}
 use Rattle.bx_recover.specs.Done.{RecoveryStep}
-use Rattle.bx_recover.specs.Gates.{IsOpenRun}
-use Rattle.bx_recover.specs.HomesOf.{AreNewestOf, home_runs}
-use Rattle.bx_recover.specs.Recovering.{RecoveryView, brings_home, closes, settles}
 use Rattle.bx_recover.specs.declared.stage.Stage.{Stage}
-use Rattle.bx_recover.specs.declared.stage.Stage.TheVariants.{Closes, Gates, Homes, Settles, Shuts, Told}
-use Rattle.bx_redo.specs.Homes.{AreItsHomes}
-use Rattle.bx_redo.specs.declared.work.Work.TheVariants as works
 use Rattle.bx_rows.specs.declared.session.SessionRow.{SessionRow}
-use Rattle.bx_facts.specs.Chains.{HasRow, LivesIn, oldest}
-use Rattle.bx_facts.specs.Holds.{Hold}
 use Rattle.bx_views.specs.Attempts.{Deed}
 use Rattle.bx_views.specs.Truths.{Hints, Truth}
 use Rattle.bx_volume.specs.Overlay.{Logs}
-use Rattle.bx_volume.specs.Records.{IsLogged, Logged}
-use Rattle.bx_volume.proofs.Overlay.{log_here, log_there}
-use Rattle.bx_world_logs.specs.Logs.{OfLog, Slot, begins}
+use Rattle.bx_volume.specs.Records.{Logged}
+use Rattle.bx_world_logs.specs.Logs.{Slot}
 use Rattle.bx_world_standing.specs.Parts.{Clocks}
 use Rattle.bx_world_standing.specs.Standing.{Course, Known, StandsAt}
 use Rattle.bx_world_standing.proofs.Owns.{own_is}

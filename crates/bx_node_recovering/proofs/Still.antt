@@ -1,6 +1,5 @@
 -- The nodes stand where one's recovery goes on, begins or ends, and at most a read of it is sent.
-use Rattle.std.proofs.Common.{◌≡◌, ◌≢◌, ◌⊎◌, inl, ℕ, ◌<◌, ◌≤◌, List, Contains, Option, Some, None, refl, sym, ap, subst, arith}
-use Rattle.std.specs.Prelude.{slice_get}
+use Rattle.std.proofs.Common.{◌≡◌, ◌≢◌, ◌⊎◌, inl, ℕ, ◌<◌, ◌≤◌, List, Contains, Option, Some, None, refl, sym, subst}
 use Rattle.bx_base.specs.declared.names.Actor.TheVariants.{Node}
 use Rattle.bx_disk.specs.Disks.{Disks, Image}
 use Rattle.bx_facts.specs.declared.owners.Owners as owners
@@ -8,13 +7,13 @@ use Rattle.bx_facts.specs.declared.register.Register as register
 use Rattle.bx_facts.specs.declared.store.Store as store
 use Rattle.bx_facts.specs.Chains.{HasRow, LivesIn, last, oldest}
 use Rattle.bx_facts.specs.Holds.{Hold}
-use Rattle.bx_facts.specs.Writes.{Asked, GoesOn, Made, Sent, StorePast}
+use Rattle.bx_facts.specs.Writes.{GoesOn, Made, StorePast}
 use Rattle.bx_node_events.proofs.Acting.{IsChanged, IsLive}
 use Rattle.bx_node_events.proofs.Asked.{with_letters}
 use Rattle.bx_node_machines.specs.Machines as words
 use Rattle.bx_node_machines.specs.Machines.{Fetch, IsFetching, IsUnseen, MachineView, Scene}
 use Rattle.bx_node_machines.specs.Nodes.{IsOfNode, NodesStand, known_of, scene_of}
-use Rattle.bx_node_machines.specs.Recoveries.{IsFinished, IsUnderWay, SuitsStage}
+use Rattle.bx_node_machines.specs.Recoveries.{IsUnderWay, SuitsStage}
 use Rattle.bx_node_machines.specs.Recovering.{HasEnded, IsRecovering, Recovers, around, recovery_of}
 use Rattle.bx_node_recovering.proofs.Beside.{IsInSlot, IsSentBeside, Rests}
 use Rattle.bx_node_recovering.proofs.Standing as standing

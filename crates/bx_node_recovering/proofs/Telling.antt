@@ -75,16 +75,16 @@ module _ {G O S T : Type 0} (g : register.Ghosts G) (o : owners.Ghosts O) (st : 
     pub told_in_slot : IsInSlot devices areas c slot gone told_course.before told_course.logs told_course.slots told_course.doubts
     told_in_slot = in_slot_landed devices areas c slot gone less (found_slot (c.slots slot)) (λ e. cc) Sure (last c.register.chain).sessions at.logs told_course.before told_course.logs told_course.doubts
         (λ d s apart. tells.same g o st Stands Step_is register_is owners_are store_is x known c tree at gone session slot less allowed claimed other none_sent unproposed stage read steps has as_read sure
-          (λ body i bytes came few one fills. bodies body bytes came i few (one, fills)) d s apart)
+        (λ body i bytes came few one fills. bodies body bytes came i few (one, fills)) d s apart)
         (λ one ne. log_there c.logs slot one its_run_is ne)
         (λ block unlogged unwritten. ap (λ (l : List Logged). newest_in l block) (log_here c.logs slot its_run_is)
         ∙ run_unlogged c.logs c.slots slot less its_run_is (tells.told_run g o st Stands Step_is register_is owners_are store_is x known c tree at gone session slot less allowed claimed other none_sent unproposed stage read steps has as_read sure
-          (λ body i bytes came few one fills. bodies body bytes came i few (one, fills))) block unlogged unwritten)
+        (λ body i bytes came few one fills. bodies body bytes came i few (one, fills))) block unlogged unwritten)
         (λ one ne. (without_only c.doubts gone).others one ne)
       where
         its_run_is : List Logged
         its_run_is = tells.run g o st Stands Step_is register_is owners_are store_is x known c tree at gone session slot less allowed claimed other none_sent unproposed stage read steps has as_read sure
-          (λ body i bytes came few one fills. bodies body bytes came i few (one, fills))
+            (λ body i bytes came few one fills. bodies body bytes came i few (one, fills))
 
     -- It stands then.
     pub told_stands : (next : T) × GoesTo next × StandsAt g o st Stands Step_is register_is owners_are store_is x known told_course next

@@ -1,32 +1,25 @@
 -- Each step of a recovery that sends a write keeps the nodes.
-use Rattle.std.proofs.Common.{◌≡◌, ◌≢◌, ◌⊎◌, ⊎_elim, inl, inr, ◌∙◌, ℕ, ◌<◌, ◌≤◌, Bool, true, false, List, [], ◌∷◌, Contains, length, Option, Some, None, refl, sym, ap, subst, arith}
-use Rattle.std.specs.Prelude.{◌-◌, if◌then◌else◌, slice_get}
+use Rattle.std.proofs.Common.{◌≡◌, ◌≢◌, inl, ◌∙◌, ℕ, ◌<◌, true, List, [], Contains, length, Some, None, refl, sym, ap, subst}
 use Rattle.std.specs.List.{AllByRecursion}
-use Rattle.bx_base.specs.declared.names.Actor.TheVariants.{Node}
-use Rattle.bx_disk.specs.Disks.{Disks, Image, sector_of}
+use Rattle.bx_disk.specs.Disks.{Disks}
 use Rattle.bx_facts.specs.declared.owners.Owners as owners
 use Rattle.bx_facts.specs.declared.register.Register as register
 use Rattle.bx_facts.specs.declared.store.Store as store
 use Rattle.bx_facts.specs.Chains.{last}
-use Rattle.bx_facts.specs.Writes.{IsSettled, Sent, WritesIn, WritesTo}
-use Rattle.bx_global.specs.declared.change.Change.TheVariants.{Close}
+use Rattle.bx_facts.specs.Writes.{IsSettled, Sent, WritesIn}
 use Rattle.bx_node_events.proofs.Acting.{IsChanged, IsLive}
-use Rattle.bx_node_events.proofs.Sparing.{near_touches, slot_low}
-use Rattle.bx_node_events.proofs.Working.{IsHanded, IsSending}
+use Rattle.bx_node_events.proofs.Sparing.{slot_low}
+use Rattle.bx_node_events.proofs.Working.{IsSending}
 use Rattle.bx_node_machines.specs.Machines as words
 use Rattle.bx_node_machines.specs.Machines.{MachineView}
-use Rattle.bx_node_machines.specs.Nodes.{NodesStand, known_of, scene_of}
-use Rattle.bx_node_machines.specs.Recoveries.{IsActive, IsUnderWay}
-use Rattle.bx_node_machines.specs.Recovering.{AreAsRead, HasEnded, Recovers, around, gates_back, gates_shut, recovery_of}
-use Rattle.bx_node_machines.proofs.Going.{IsNear, of_first, of_gates, of_homes, of_others}
-use Rattle.bx_node_recovering.proofs.Beside.{IsInSlot, Rests}
+use Rattle.bx_node_machines.specs.Nodes.{NodesStand, known_of}
+use Rattle.bx_node_machines.specs.Recovering.{AreAsRead, Recovers, around, gates_back, gates_shut, recovery_of}
+use Rattle.bx_node_machines.proofs.Going.{of_first, of_gates, of_homes, of_others}
 use Rattle.bx_node_recovering.proofs.Closing as closing
-use Rattle.bx_node_recovering.proofs.Sending as sends
 use Rattle.bx_node_recovering.proofs.Settling as settling
 use Rattle.bx_node_recovering.proofs.Stepping.{goes_with, was}
-use Rattle.bx_node_recovering.proofs.Slots.{in_slot_homed, in_slot_landed}
+use Rattle.bx_node_recovering.proofs.Slots.{in_slot_homed, in_slot_landed, stored_same}
 use Rattle.bx_node_recovering.proofs.Still.{same_course}
-use Rattle.bx_node_recovering.proofs.Written as written
 use Rattle.bx_node_recovering.proofs.Written.{at_stage}
 use Rattle.bx_node_sends.proofs.Sent.{with_write}
 use Rattle.bx_post.specs.declared.packets.Letter.{Letter}
@@ -34,30 +27,18 @@ use Rattle.bx_records.specs.Drafts.{Changed}
 use Rattle.bx_recover.specs.Done.{RecoveryStep}
 use Rattle.bx_recover.specs.Gates.{IsOpenRun}
 use Rattle.bx_recover.specs.HomesOf.{AreNewestOf, home_runs}
-use Rattle.bx_recover.specs.Recovering.{RecoveryView, brings_home, closes, settles}
+use Rattle.bx_recover.specs.Recovering.{brings_home, closes, settles}
 use Rattle.bx_recover.specs.declared.stage.Stage.{Stage}
 use Rattle.bx_recover.specs.declared.stage.Stage.TheVariants.{Closes, Gates, Homes, Settles, Shuts, Told}
-use Rattle.bx_redo.specs.Homes.{AreItsHomes}
-use Rattle.bx_redo.specs.Stands.{bytes_of, begins_at, is_written, stored}
-use Rattle.bx_redo.specs.View.{LogView}
 use Rattle.bx_redo.specs.declared.work.Work.TheVariants as works
 use Rattle.bx_rows.specs.declared.session.SessionRow.{SessionRow}
-use Rattle.bx_facts.specs.Chains.{HasRow, LivesIn, oldest}
-use Rattle.bx_facts.specs.Holds.{Hold}
 use Rattle.bx_views.specs.Attempts.{Deed}
 use Rattle.bx_views.specs.Truths.{Hints, Truth}
-use Rattle.bx_volume.specs.Overlay.{Logs}
 use Rattle.bx_volume.specs.Records.{IsLogged, Logged, newest_in}
 use Rattle.bx_volume.proofs.Overlay.{log_here, log_there}
-use Rattle.bx_world_logs.specs.Logs.{Activity, OfLog, Slot, begins, view_of, writes_in}
+use Rattle.bx_world_logs.specs.Logs.{Activity, OfLog, view_of, writes_in}
 use Rattle.bx_world_standing.specs.Parts.{Clocks}
-use Rattle.bx_world_standing.specs.Standing.{Course, Known, StandsAt, SureOf}
-use Rattle.bx_world_standing.proofs.Owns.{own_is}
-use Rattle.bx_world_views.specs.Views.{Unacknowledged}
-
--- where nothing is written all is as it was
-stored_same : (before : Image) (log : LogView) (d s : ℕ) → is_written log d s ≡ false → stored before log d s ≡ before d s
-stored_same before log d s apart = ap (λ (b : Bool). if b then sector_of (bytes_of log.work) (s - begins_at log log.work) else before d s) apart
+use Rattle.bx_world_standing.specs.Standing.{Course, Known, SureOf}
 
 module _ {G O S T : Type 0} (g : register.Ghosts G) (o : owners.Ghosts O) (st : store.Ghosts S) (Stands : Truth → Hints → T → Type 0) (Step_is : T → Deed → T → Type 0)
     (register_is : G) (owners_are : O) (old new : S) (x : Disks) (letters then_letters : List Letter) (clocks : Clocks) (machines later : List MachineView) (c : Course) (tree : T)

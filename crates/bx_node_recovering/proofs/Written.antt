@@ -1,6 +1,5 @@
 -- The nodes stand where one's recovery goes on and sends a write.
-use Rattle.std.proofs.Common.{◌≡◌, ◌≢◌, ⊎_elim, inl, inr, ◌∙◌, ℕ, ◌+◌, ◌<◌, ◌≤◌, List, ◌∷◌, Contains, Option, Some, None, refl, sym, ap, subst, arith}
-use Rattle.std.specs.Prelude.{slice_get}
+use Rattle.std.proofs.Common.{◌≡◌, ◌≢◌, ⊎_elim, inl, inr, ◌∙◌, ℕ, ◌+◌, ◌<◌, ◌≤◌, List, ◌∷◌, Contains, Option, Some, None, refl, sym, ap, subst}
 use Rattle.bx_base.specs.declared.names.Actor.TheVariants.{Node}
 use Rattle.bx_disk.specs.Disks.{Disks, Image}
 use Rattle.bx_facts.specs.declared.owners.Owners as owners
@@ -8,7 +7,7 @@ use Rattle.bx_facts.specs.declared.register.Register as register
 use Rattle.bx_facts.specs.declared.store.Store as store
 use Rattle.bx_facts.specs.Chains.{HasRow, LivesIn, last, oldest}
 use Rattle.bx_facts.specs.Holds.{Hold}
-use Rattle.bx_facts.specs.Writes.{Asked, IsOnly, Made, Sent, WritesTo}
+use Rattle.bx_facts.specs.Writes.{IsOnly, Made, Sent, WritesTo}
 use Rattle.bx_facts.proofs.Lists.{front_or_behind}
 use Rattle.bx_node_events.proofs.Acting.{IsChanged, IsLive}
 use Rattle.bx_node_events.proofs.Sparing.{near_touches, slot_low}

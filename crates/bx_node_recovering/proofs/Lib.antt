@@ -6,6 +6,7 @@ pub mod Ending
 pub mod Keeping
 pub mod Proposed
 pub mod Reading
+pub mod Requests
 pub mod Sending
 pub mod Settling
 pub mod Slots

@@ -1,6 +1,5 @@
 -- The nodes stand where a recovery asks for gates, or for a body.
-use Rattle.std.proofs.Common.{◌≡◌, ◌≢◌, inl, inr, ◌∙◌, ℕ, ◌+◌, ◌<◌, ◌≤◌, List, Contains, Option, Some, None, length, refl, sym, ap, subst, arith}
-use Rattle.std.specs.Prelude.{slice_get}
+use Rattle.std.proofs.Common.{◌≡◌, ◌≢◌, inl, inr, ◌∙◌, ℕ, ◌+◌, ◌<◌, ◌≤◌, List, Contains, Some, None, length, refl, sym, ap, subst, arith}
 use Rattle.bx_base.specs.declared.names.Actor.TheVariants.{Node}
 use Rattle.bx_disk.specs.Disks.{Disks}
 use Rattle.bx_facts.specs.declared.owners.Owners as owners
@@ -22,7 +21,6 @@ use Rattle.bx_node_recovering.proofs.Beside.{Rests}
 use Rattle.bx_node_recovering.proofs.Keeping.{body_promised, gates_promised}
 use Rattle.bx_node_recovering.proofs.Still as still
 use Rattle.bx_node_recovering.proofs.Still.{same_course}
-use Rattle.bx_places.specs.Places.{body_place, gate_place}
 use Rattle.bx_post.specs.declared.packets.Letter.{Letter}
 use Rattle.bx_recover.specs.declared.stage.Stage.{Stage}
 use Rattle.bx_recover.specs.declared.stage.Stage.TheVariants.{Bodies, Gates}

@@ -38,7 +38,7 @@ use Rattle.bx_volume.specs.Records.{IsLogged, Logged, newest_in}
 use Rattle.bx_volume.proofs.Overlay.{log_here, log_there}
 use Rattle.bx_world_logs.specs.Logs.{Activity, OfLog, view_of, writes_in}
 use Rattle.bx_world_standing.specs.Parts.{Clocks}
-use Rattle.bx_world_standing.specs.Standing.{Course, Known, SureOf}
+use Rattle.bx_world_standing.specs.Standing.{Course, Known, StandsAt, SureOf}
 
 module _ {G O S T : Type 0} (g : register.Ghosts G) (o : owners.Ghosts O) (st : store.Ghosts S) (Stands : Truth → Hints → T → Type 0) (Step_is : T → Deed → T → Type 0)
     (register_is : G) (owners_are : O) (old new : S) (x : Disks) (letters then_letters : List Letter) (clocks : Clocks) (machines later : List MachineView) (c : Course) (tree : T)
@@ -125,3 +125,36 @@ module _ {G O S T : Type 0} (g : register.Ghosts G) (o : owners.Ghosts O) (st : 
       (λ other ne. refl))
       (λ d s content w. inl (of_others (st.made old).devices slot d s content (subst (λ l. WritesIn l d s content) runs_are w)))
       both.0 both.1
+
+  -- Gate 0 isn't open: there are no records, and the other gates are closed.
+  pub finds_closed : (opened : ℕ) → (is : At (Settles opened)) → Becomes Shuts → opened ≡ 0 → st.out_of old node ≡ None → step.done ≡ true → write.runs ≡ gates_shut (st.made old).devices slot works.Shuts
+      → step.said ≡ closes (recovery_of slot (st.made old).devices (st.made old).areas (Settles opened) records) works.Shuts
+      → (settled_is : (device sector : ℕ) (content : List ℕ) (index : ℕ) → st.stands old x c.store device sector content index → IsSettled x (last c.store.told.chain) device sector content)
+      → (then_is : Course) × (then_is.register ≡ c.register)
+      × ((next : T) × settling.GoesTo g o st Stands Step_is register_is owners_are old x known c tree node session gone slot stands.at live.allowed none_sent settled_is records step next × Stood then_is next)
+  finds_closed opened is changed closed none is_done runs_are said settled_is =
+      let settles_it = its (Settles opened) is in
+      let f = settling.finds_closed g o st Stands Step_is register_is owners_are old x known c tree node session gone slot stands.at live.allowed none_sent settled_is records step new then_letters write live.up own_st sending opened closed none is_done runs_are said settles_it in
+      let same : record c { before = f.0.before; logs = f.0.logs; slots = f.0.slots; truth = f.0.truth; doubts = f.0.doubts } ≡ f.0 = λ i. record {
+        register = sym f.1 i;
+        owners = sym f.2 i;
+        store = sym f.3 i;
+        before = f.0.before;
+        logs = f.0.logs;
+        slots = f.0.slots;
+        truth = f.0.truth;
+        doubts = f.0.doubts;
+      } in (
+        f.0,
+        f.1,
+        (
+          f.6.0,
+          f.6.1,
+          subst (λ (course : Course). Stood course f.6.0) same
+              (goes_with g o st Stands Step_is register_is owners_are old new x letters then_letters clocks machines later c tree node session gone slot row before (Settles opened) records write step stands live is none_sent sending
+              (λ over. over) settles_it.at.0 f.6.0 Shuts (λ over. over) changed f.0.before f.0.logs f.0.slots f.0.truth f.0.doubts f.5
+              (λ d s content w. inl (of_others (st.made old).devices slot d s content (subst (λ l. WritesIn l d s content) runs_are w)))
+              (subst (λ (course : Course). StandsAt g o st Stands Step_is register_is owners_are new x (record known { letters = then_letters }) (with_write course then_letters write) f.6.0) (sym same) f.6.2.0)
+              (subst (λ (course : Course). Recovers g o st Stands Step_is register_is owners_are new x (record known { letters = then_letters }) (with_write course then_letters write) node session gone slot Shuts records) (sym same) f.6.2.1)),
+        ),
+      )

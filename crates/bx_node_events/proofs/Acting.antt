@@ -8,7 +8,7 @@ use Rattle.bx_disk.specs.Disks.{Disks, Image}
 use Rattle.bx_facts.specs.declared.register.Register as register
 use Rattle.bx_facts.specs.declared.store.Store as store
 use Rattle.bx_facts.specs.Chains.{LivesIn, last, oldest}
-use Rattle.bx_facts.specs.Writes.{IsOver, Made, Sent, WritesIn, WritesTo}
+use Rattle.bx_facts.specs.Writes.{IsOnly, IsOver, Made, Sent, WritesIn, WritesTo}
 use Rattle.bx_facts.proofs.Lists.{front_or_behind}
 use Rattle.bx_global.specs.Allowed.{IsAllowed}
 use Rattle.bx_global.specs.declared.state.GlobalState.{GlobalState}
@@ -28,6 +28,14 @@ use Rattle.bx_post.specs.declared.packets.Letter.{Letter}
 use Rattle.bx_records.specs.Drafts.{Block, block_in}
 use Rattle.bx_records.specs.declared.runs.Run.{Run}
 use Rattle.bx_redo.specs.View.{LogView}
+use Rattle.bx_node_events.proofs.Sparing.{apart_slots, claims_stay, near_touches, only_ended, recover_then}
+use Rattle.bx_node_machines.specs.Recoveries.{AreRecovering, IsActive, RecoversNone, around_in}
+use Rattle.bx_node_machines.specs.Recovering.{HasEnded}
+use Rattle.bx_node_machines.specs.bx_recover.specs.Recovering.{RecoveryView}
+use Rattle.bx_node_machines.specs.bx_recover.specs.declared.stage.Stage as recover
+use Rattle.bx_node_machines.proofs.Going.{IsNear, SparesClosed, SparesSlot}
+use Rattle.bx_node_machines.proofs.Ongoing.{HasNone, WasActive, none_recovered, one_changes, suits_on}
+use Rattle.bx_world_chains.specs.Entitled.{IsEntitled}
 use Rattle.bx_rows.specs.Words.{row_in}
 use Rattle.bx_rows.specs.declared.session.SessionRow.{SessionRow}
 use Rattle.bx_views.specs.Attempts.{Deed}
@@ -38,7 +46,7 @@ use Rattle.bx_world_chains.proofs.Rows.{lives_of, one_slot}
 use Rattle.bx_world_logs.specs.Logs.{Slot, begins}
 use Rattle.bx_world_logs.proofs.Moving.{slot_here, slot_there, with_slot}
 use Rattle.bx_world_standing.specs.Parts.{Clocks}
-use Rattle.bx_world_standing.specs.Rights.{MayTouch}
+use Rattle.bx_world_standing.specs.Rights.{IsOfSlot, MayTouch}
 use Rattle.bx_world_standing.specs.Standing.{Course, Known, StandsAt, SureOf}
 use Rattle.bx_world_standing.proofs.Owns.{own_is}
 use Rattle.bx_world_views.specs.Views.{Allows, Unacknowledged}
@@ -77,7 +85,7 @@ pub record IsChanged (old new : List MachineView) (node : ℕ) (machine : Machin
   pub here : slice_get new node ≡ Some machine
   pub others : (other : ℕ) → other ≢ node → slice_get new other ≡ slice_get old other
 
--- The event is in its own slot: no other slot's records and no other session's doubt change; homes of blocks that no log has hold what they held; a block that
+-- The event is in its own slot: no other slot's records and no other session's doubt change; homes of blocks that no log has, and other slots, hold what they held; a block that
 -- no log and no record under way had is in no log; and no record under way has a block that is read.
 pub record IsOwn (devices areas : ℕ) (c : Course) (slot session : ℕ) (fetch : Fetch) (to : Outcome) : Type 0 where
   pub is_slot : to.log.slot ≡ slot
@@ -92,6 +100,7 @@ pub record IsOwn (devices areas : ℕ) (c : Course) (slot session : ℕ) (fetch 
   pub unread_by : (other block : ℕ) (mode : Mode) → other ≢ session → LivesIn (last c.register.chain) other → Allows (c.owners.holding other block) mode → IsUnwritten c.slots block
       → begins to.slot.activity ≡ true → block_in to.slot.more.changed block ≡ None
   pub unseen : IsUnseen to.held fetch
+  pub elsewhere : (other d s : ℕ) → other ≢ slot → other < 8 → IsOfSlot devices other d s → to.before d s ≡ c.before d s
 
 module _ {G O S T : Type 0} (g : register.Ghosts G) (o : owners.Ghosts O) (st : store.Ghosts S) (Stands : Truth → Hints → T → Type 0) (Step : T → Deed → T → Type 0)
     (register_is : G) (owners_are : O) (old : S) (x : Disks) (letters : List Letter) (clocks : Clocks) (machines later : List MachineView) (c : Course) (tree next : T)
@@ -203,6 +212,7 @@ module _ {G O S T : Type 0} (g : register.Ghosts G) (o : owners.Ghosts O) (st : 
         asked = ⊎_elim (λ none. inl none) (λ some. inr (some.0, λ i few. reads_then node block was.is was.unlogged i few (some.1 i few))) was.asked;
       }
       by words.Dropped is was = was
+      by words.OfLog is was = was
 
   -- ---- the nodes
 
@@ -263,7 +273,18 @@ module _ {G O S T : Type 0} (g : register.Ghosts G) (o : owners.Ghosts O) (st : 
         ap hinted same_one,
       )
 
-  module _ (at : StandsAt g o st Stands Step register_is owners_are old x then_known (course_then c row.slot to) next) where
+  module _ (at : StandsAt g o st Stands Step register_is owners_are old x then_known (course_then c row.slot to) next) (resting : RecoversNone before.stage) (rests_then : RecoversNone to.stage) where
+    -- the slots that others recover aren't this one
+    spared : (its_session gone slot : ℕ) → IsEntitled (last c.register.chain) gone slot its_session → gone ≢ its_session → slot ≢ row.slot
+    spared its_session gone slot claimed ne = apart_slots (last c.register.chain) gone slot its_session session row live.allowed claimed ne live.is_row live.lives
+
+    -- no machine recovers what it didn't recover
+    were_active : (Then : Scene) → Then.machines ≡ slice_get later → ((other : ℕ) → Then.own other ≡ Before.own other) → Then.rows ≡ Before.rows
+        → (other its_session : ℕ) (one : MachineView) (its_row : SessionRow) → IsActive Then other its_session one its_row → WasActive Before other its_session one ⊎ HasNone one
+    were_active Then are owns rows = one_changes Before Then node before after live.there (ap (λ (f : ℕ → Option MachineView). f node) are ∙ changed.here)
+        (λ other ne. ap (λ (f : ℕ → Option MachineView). f other) are ∙ changed.others other ne) owns rows refl refl
+        (λ gone recovery is. absurd (none_recovered to.stage gone recovery rests_then is)) (λ suits. suits_on before.stage to.stage before.fetch resting rests_then suits)
+
     -- Nothing is sent: the nodes stand.
     pub rests_on : IsAtWork (st.made old).devices (st.made old).areas Sure Middle node session row.slot after to.stage
         → NodesStand g o st Stands Step register_is owners_are old x letters clocks later (course_then c row.slot to) next
@@ -272,6 +293,20 @@ module _ {G O S T : Type 0} (g : register.Ghosts G) (o : owners.Ghosts O) (st : 
       about = all_about Sure (st.will_read old x c.store) Middle refl (λ other. refl) refl leaves_slot
           (λ other its_session its_row ne apart has other_lives. lands other its_session its_row apart has other_lives)
           (record { is_slot = own.is_slot; device = own.device; count = own.count; work = work; fetch = fetch_then; unseen = own.unseen });
+      recovering = recover_then g o st Stands Step register_is owners_are old x known c tree machines stands.at live.allowed Sure (st.will_read old x c.store) c.register.chain (λ n. c.store.told.knew (Node n)) c.register.proposed Middle
+          stands.recovering (were_active Middle refl (λ other. refl) refl) (omega arith) (λ gone few has. has)
+          (λ other its_session one was its_row row_was gone slot stage active active_was of few claimed ne. inl (record {
+            logs = own.logs slot (spared its_session gone slot claimed ne);
+            slots = slot_there c.slots row.slot slot to.slot (spared its_session gone slot claimed ne);
+            before = λ d s inside. own.elsewhere slot d s (spared its_session gone slot claimed ne) few inside;
+            asked = inl refl;
+            out = inl refl;
+            sent = λ write has whose. has;
+            sure = λ d s content near is. is;
+            reads = λ asks s content was_asked is near is_sure read. read;
+          }))
+          (claims_stay g o st Stands Step register_is owners_are old x known c tree machines stands.at live.allowed (IsActive Middle) (λ n. c.store.told.knew (Node n)) (λ other its_session one its_row active. omega arith))
+          (λ other its_session one its_row gone stage active of under_way has. has);
       single = stands.single;
       told = stands.told;
       given = given_on machines later (last c.register.chain).next_session node before (machine_then before to) stands.given live.there changed.here refl changed.others;
@@ -321,8 +356,8 @@ module _ {G O S T : Type 0} (g : register.Ghosts G) (o : owners.Ghosts O) (st : 
           → st.will_read new x (with_write c then_letters write).store reader ((block_place block (st.made old).devices).1 + i) (to.before (block_place block (st.made old).devices).0 ((block_place block (st.made old).devices).1 + i))
       reads_on reader block is unlogged i few asked was =
           let sure = at.logs.homes block is unlogged i few in
-          handed.reads reader (block_place block (st.made old).devices).0 ((block_place block (st.made old).devices).1 + i) (to.before (block_place block (st.made old).devices).0 ((block_place block (st.made old).devices).1 + i))
-          (record { each = λ one other has w. by_one sure.only.each one other w (front_or_behind write c.store.writes one has) }) block asked refl was
+          handed.reads reader ((block_place block (st.made old).devices).1 + i) (to.before (block_place block (st.made old).devices).0 ((block_place block (st.made old).devices).1 + i)) (home_of (st.made old).devices block) asked
+          (record { each = λ one other has w. by_one sure.only.each one other w (front_or_behind write c.store.writes one has) }) was
         where
           by_one : ((one : Sent) (other : List ℕ) → Contains c.store.writes one → WritesTo one (block_place block (st.made old).devices).0 ((block_place block (st.made old).devices).1 + i) other
               → (other ≡ to.before (block_place block (st.made old).devices).0 ((block_place block (st.made old).devices).1 + i)) ⊎ IsOver c.store.told.greatest one)
@@ -349,7 +384,82 @@ module _ {G O S T : Type 0} (g : register.Ghosts G) (o : owners.Ghosts O) (st : 
       sent : StandsAt g o st Stands Step register_is owners_are new x (known_of g o st Stands Step register_is owners_are new x then_letters clocks later) (with_write (course_then c row.slot to) then_letters write) next
       sent = sent_at g o st Stands Step register_is owners_are old new x then_known (course_then c row.slot to) next then_letters node session write at
           live.up own_st lives_it sending.whose sending.register_keeps sending.owners_keep handed.keeps handed.made handed.own sending.end sending.opened
-          may.may may.unclosed may.logs
+          may.may
+          (λ gone d s its_row content there is_its w inside. may.elsewhere gone d s its_row content (λ is_it. (at.closings gone session there).dead (subst (λ (n : ℕ). LivesIn (last c.register.chain) n) (sym is_it) lives_it)) is_its w inside)
+          may.logs
+
+      -- ---- what others recover
+
+      -- the write brings nothing near to what another session may write
+      only_on : (asks_device s its_session : ℕ) (content : List ℕ) → ((brings : List ℕ) → WritesTo write asks_device s brings → ⊥) → IsOnly c.store.writes c.store.told.greatest asks_device s content → IsOnly (write ∷ c.store.writes) c.store.told.greatest asks_device s content
+      only_on asks_device s its_session content none only = record {
+        each = λ one brings has to_it. ⊎_elim
+            (λ front. absurd (none brings (subst (λ (w : Sent). WritesTo w asks_device s brings) (sym front) to_it)))
+            (λ was. only.each one brings was to_it)
+            (front_or_behind write c.store.writes one has);
+      }
+
+      none_near : (other its_session : ℕ) (one : MachineView) (its_row : SessionRow) (gone slot d s : ℕ) → its_session ≢ session → IsActive Before other its_session one its_row → slot < 8 → IsEntitled (last c.register.chain) gone slot its_session
+          → IsNear (st.made old).devices (st.made old).areas slot (c.logs slot) d s → (brings : List ℕ) → WritesTo write d s brings → ⊥
+      none_near other its_session one its_row gone slot d s ne active few claimed near brings w = apart_from its_session d s brings ne (lives_of (last c.register.chain) its_session its_row active.is_row active.lives)
+          (near_touches (st.made old).devices (st.made old).areas (last c.register.chain) c.owners.holding c.logs c.slots gone slot its_session d s few claimed near) w
+
+      spares_other : (other its_session : ℕ) (one : MachineView) (its_row : SessionRow) (gone slot : ℕ) → other ≢ node → its_session ≢ session → IsActive Before other its_session one its_row → slot < 8 → IsEntitled (last c.register.chain) gone slot its_session → gone ≢ its_session
+          → SparesSlot (st.made old).devices (st.made old).areas Sure (SureBy (st.made old)) (st.will_read old x c.store other) (st.will_read new x (with_write c then_letters write).store other) (around_in Before other) (around_in Then other) its_session slot
+      spares_other other its_session one its_row gone slot other_is apart active few claimed ne = record {
+        logs = own.logs slot (spared its_session gone slot claimed ne);
+        slots = slot_there c.slots row.slot slot to.slot (spared its_session gone slot claimed ne);
+        before = λ d s inside. own.elsewhere slot d s (spared its_session gone slot claimed ne) few inside;
+        asked = inl (handed.asked other);
+        out = inl (handed.others other other_is);
+        sent = λ w has its_own. ⊎_elim (λ front. absurd (apart (sym its_own ∙ ap (λ (s : Sent). s.session) (sym front) ∙ sending.whose))) (λ was. was) (front_or_behind write c.store.writes w has);
+        sure = λ d s content near is. surely_on g o st Stands Step register_is owners_are old new x then_known (course_then c row.slot to) next then_letters node session write at handed.stands d s content
+            (none_near other its_session one its_row gone slot d s apart active few claimed near) is;
+        reads = λ asks s content was_asked is near is_sure read. handed.reads other s content asks was_asked
+            (only_on asks.device s its_session content (none_near other its_session one its_row gone slot asks.device s apart active few claimed near) is_sure.only) read;
+      }
+
+      -- the node itself recovers nothing, and writes nothing where it recovered
+      spares_own : (one : MachineView) (gone slot : ℕ) (stage : recover.Stage) → after ≡ one → HasEnded stage ⊎ ((recovery : RecoveryView) × (one.stage ≡ words.Recovers gone recovery)) → slot < 8 → IsEntitled (last c.register.chain) gone slot session → gone ≢ session
+          → HasEnded stage × SparesClosed (st.made old).devices (around_in Before node) (around_in Then node) session slot
+      spares_own one gone slot stage same of few claimed ne = (
+        only_ended one.stage gone stage (subst (λ (m : MachineView). RecoversNone m.stage) same rests_then) of,
+        record {
+          logs = own.logs slot (spared session gone slot claimed ne);
+          slots = ap (λ (l : Slot). l.activity) (slot_there c.slots row.slot slot to.slot (spared session gone slot claimed ne));
+          sent = λ w has its_own. ⊎_elim
+              (λ front. inr (λ d s content brings inside. may.elsewhere gone d s claimed.row content ne claimed.is (subst (λ (one_is : Sent). WritesTo one_is d s content) (sym front) brings) (subst (λ (n : ℕ). IsOfSlot (st.made old).devices n d s) (sym claimed.at) inside)))
+              (λ was. inl was)
+              (front_or_behind write c.store.writes w has);
+        },
+      )
+
+      spares : (other its_session : ℕ) (one before_it : MachineView) (its_row row_was : SessionRow) (gone slot : ℕ) (stage : recover.Stage) → (b : Bool) → eqb other node ≡ b → IsActive Then other its_session one its_row → IsActive Before other its_session before_it row_was
+          → HasEnded stage ⊎ ((recovery : RecoveryView) × (one.stage ≡ words.Recovers gone recovery)) → slot < 8 → IsEntitled (last c.register.chain) gone slot its_session → gone ≢ its_session
+          → SparesSlot (st.made old).devices (st.made old).areas Sure (SureBy (st.made old)) (st.will_read old x c.store other) (st.will_read new x (with_write c then_letters write).store other) (around_in Before other) (around_in Then other) its_session slot
+          ⊎ (HasEnded stage × SparesClosed (st.made old).devices (around_in Before other) (around_in Then other) its_session slot)
+      spares other its_session one before_it its_row row_was gone slot stage true is active active_was of few claimed ne =
+          let e : node ≡ other = grind (arith, nat_tests, is) in
+          let f : its_session ≡ session = one_number its_session session (sym active_was.own ∙ ap (λ (n : ℕ). Before.own n) (sym e) ∙ own_is clocks.down (o.own owners_are) node session live.up live.own) in
+          let g_is : after ≡ one = one_machine after one (sym changed.here ∙ ap (λ (n : ℕ). slice_get later n) e ∙ active.there) in
+          inr (subst (λ (n : ℕ). HasEnded stage × SparesClosed (st.made old).devices (around_in Before n) (around_in Then n) its_session slot) e
+          (subst (λ (n : ℕ). HasEnded stage × SparesClosed (st.made old).devices (around_in Before node) (around_in Then node) n slot) (sym f)
+          (spares_own one gone slot stage g_is of few (subst (λ (n : ℕ). IsEntitled (last c.register.chain) gone slot n) f claimed) (λ same. ne (same ∙ sym f)))))
+        where
+          one_number : (a b : ℕ) → Some a ≡ Some b → a ≡ b
+          one_number a b e = cc
+      spares other its_session one before_it its_row row_was gone slot stage false differ active active_was of few claimed ne =
+          let other_is : other ≢ node = λ e. grind (arith, nat_tests, differ, e) in
+          inl (spares_other other its_session before_it row_was gone slot other_is
+          (λ same. other_is (stands.single node other session (own_is clocks.down (o.own owners_are) node session live.up live.own) (active_was.own ∙ ap (λ (n : ℕ). Some n) same)))
+          active_was few claimed ne)
+
+      recovering_then : AreRecovering (st.made old).devices (st.made old).areas (SureBy (st.made old)) (st.will_read new x (with_write c then_letters write).store) c.register.chain (λ n. c.store.told.knew (Node n)) c.register.proposed Then
+      recovering_then = recover_then g o st Stands Step register_is owners_are old x known c tree machines stands.at live.allowed (SureBy (st.made old)) (st.will_read new x (with_write c then_letters write).store) c.register.chain (λ n. c.store.told.knew (Node n))
+          c.register.proposed Then stands.recovering (were_active Then refl (λ other. refl) refl) (omega arith) (λ gone few has. has)
+          (λ other its_session one was its_row row_was gone slot stage active active_was of few claimed ne. spares other its_session one was its_row row_was gone slot stage (eqb other node) refl active active_was of few claimed ne)
+          (claims_stay g o st Stands Step register_is owners_are old x known c tree machines stands.at live.allowed (IsActive Then) (λ n. c.store.told.knew (Node n)) (λ other its_session one its_row active. omega arith))
+          (λ other its_session one its_row gone stage active of under_way has. has)
 
       -- The nodes stand with what came of it, and the write that is out.
       pub sends_on : (((runs : List Run) → write.runs ≡ runs → IsFlying session runs (st.out_of new node) (write ∷ c.store.writes)) → IsAtWork (st.made old).devices (st.made old).areas (SureBy (st.made old)) Then node session row.slot after to.stage)
@@ -357,6 +467,7 @@ module _ {G O S T : Type 0} (g : register.Ghosts G) (o : owners.Ghosts O) (st : 
       sends_on work = record {
         at = sent;
         about = subst (λ (m : Made). AreAbout m.devices m.areas (SureBy m) (st.will_read new x (with_write c then_letters write).store) (IsOfNode o.by_boot clocks) Then) (sym handed.made) about_then;
+        recovering = subst (λ (m : Made). AreRecovering m.devices m.areas (SureBy m) (st.will_read new x (with_write c then_letters write).store) c.register.chain (λ n. c.store.told.knew (Node n)) c.register.proposed Then) (sym handed.made) recovering_then;
         single = stands.single;
         told = stands.told;
         given = given_on machines later (last c.register.chain).next_session node before (machine_then before to) stands.given live.there changed.here refl changed.others;

@@ -1,5 +1,6 @@
 -- A node whose log rests asks for the home of a block that it holds, and doesn't show: the nodes stand.
-use Rattle.std.proofs.Common.{◌≡◌, ◌≢◌, inl, inr, ◌∙◌, ℕ, ◌+◌, ◌<◌, ◌≤◌, max, false, List, Option, Some, None, refl, sym, ap, subst, arith}
+use Rattle.std.proofs.Common.{◌≡◌, ◌≢◌, ◌⊎◌, inl, inr, ◌∙◌, ℕ, ◌+◌, ◌<◌, ◌≤◌, max, Bool, true, false, eqb, List, Option, Some, None, refl, sym, ap, subst, arith}
+use Rattle.std.proofs.lemmas.Bool.Decides.{nat_tests}
 use Rattle.std.specs.Prelude.{slice_get}
 use Rattle.bx_base.specs.declared.names.Actor.TheVariants.{Node}
 use Rattle.bx_base.specs.declared.names.Mode.{Mode}
@@ -19,6 +20,13 @@ use Rattle.bx_node_events.proofs.Keeping.{keeping, shows_own}
 use Rattle.bx_node_events.proofs.Opened.{opened_most}
 use Rattle.bx_node_events.proofs.Unlogged as unlogging
 use Rattle.bx_facts.specs.declared.owners.Owners as owners
+use Rattle.bx_node_events.proofs.Sparing.{claims_stay, only_ended, recover_then}
+use Rattle.bx_node_machines.specs.Recoveries.{AreRecovering, IsActive, RecoversNone, around_in}
+use Rattle.bx_node_machines.specs.Recovering.{HasEnded}
+use Rattle.bx_node_machines.specs.bx_recover.specs.Recovering.{RecoveryView}
+use Rattle.bx_node_machines.specs.bx_recover.specs.declared.stage.Stage as recover
+use Rattle.bx_node_machines.proofs.Going.{SparesClosed, SparesSlot}
+use Rattle.bx_node_machines.proofs.Ongoing.{one_changes}
 use Rattle.bx_places.specs.Places.{IsBlock, block_place}
 use Rattle.bx_post.specs.declared.packets.Letter.{Letter}
 use Rattle.bx_rows.specs.Words.{row_in}
@@ -187,6 +195,32 @@ module _ {G O S T : Type 0} (g : register.Ghosts G) (o : owners.Ghosts O) (st : 
     one_session : (a b : ℕ) → Some a ≡ Some b → a ≡ b
     one_session a b e = cc
 
+    one_is : (a b : MachineView) → Some a ≡ Some b → a ≡ b
+    one_is a b e = cc
+
+    -- what others recover is spared; the node itself recovers nothing
+    spares : (other its_session : ℕ) (one : MachineView) (its_row : SessionRow) (gone slot : ℕ) (its_stage : recover.Stage) → (b : Bool) → eqb other node ≡ b → IsActive Then other its_session one its_row
+        → HasEnded its_stage ⊎ ((recovery : RecoveryView) × (one.stage ≡ words.Recovers gone recovery))
+        → SparesSlot (st.made old).devices (st.made old).areas Sure_before (SureBy (st.made old)) (st.will_read old x c.store other) (st.will_read new x (with_letters c then_letters).store other) (around_in Before other) (around_in Then other) its_session slot
+        ⊎ (HasEnded its_stage × SparesClosed (st.made old).devices (around_in Before other) (around_in Then other) its_session slot)
+    spares other its_session one its_row gone slot its_stage true is_node active of =
+        let e : other ≡ node = grind (arith, nat_tests, is_node) in
+        let f : machine ≡ one = one_is machine one (sym then_there ∙ ap (λ (n : ℕ). slice_get later n) (sym e) ∙ active.there) in
+        inr (
+          only_ended one.stage gone its_stage (subst (λ (m : MachineView). RecoversNone m.stage) f (subst (λ (stage : Stage). RecoversNone stage) (sym rests) tt)) of,
+          record { logs = refl; slots = refl; sent = λ write has whose. inl has },
+        )
+    spares other its_session one its_row gone slot its_stage false differ active of = inl (record {
+      logs = refl;
+      slots = refl;
+      before = λ d s inside. refl;
+      asked = inl (elsewhere other (λ e. grind (arith, nat_tests, differ, e)));
+      out = inl (same other).1;
+      sent = λ write has whose. has;
+      sure = λ d s content near is_sure. sure_on d s content is_sure;
+      reads = λ asks_it s content was is_it near sure read. goes.reading other s content asks_it was sure.only read;
+    })
+
     pub asked : NodesStand g o st Stands Step register_is owners_are new x then_letters clocks later (with_letters c then_letters) tree
     asked = record {
       at = shown_at g o st Stands Step register_is owners_are new x (record known { letters = then_letters }) (with_letters c then_letters) tree node (λ n. shown (slice_get later n) (o.own owners_are n)) (λ n. hinted (slice_get later n)) stood
@@ -199,6 +233,13 @@ module _ {G O S T : Type 0} (g : register.Ghosts G) (o : owners.Ghosts O) (st : 
           (slice_get later) (own_up clocks.down (o.own owners_are)) (st.out_of new) (st.asked new) c.owners.holding node session before before.held before.away before.hints (words.Block at hold.0)
           stands.about (λ other. refl) mine (λ other its_own. stands.single node other session mine its_own) there mark then_there others
           (λ other. (same other).1) elsewhere sure_on (λ other block mode ne allows. allows) reads_on (λ place. refl) fetched unseen);
+      recovering = subst (λ (m : Made). AreRecovering m.devices m.areas (SureBy m) (st.will_read new x (with_letters c then_letters).store) c.register.chain (λ n. c.store.told.knew (Node n)) c.register.proposed Then) (sym made)
+          (recover_then g o st Stands Step register_is owners_are old x known c tree machines stands.at (allowed.each (last c.register.chain) (last_place c.register.chain)) (SureBy (st.made old)) (st.will_read new x (with_letters c then_letters).store)
+          c.register.chain (λ n. c.store.told.knew (Node n)) c.register.proposed Then stands.recovering
+          (one_changes Before Then node before machine there then_there others (λ other. refl) refl refl refl (λ gone recovery is_it. is_it) (λ was. subst (λ (stage : Stage). RecoversNone stage) (sym rests) tt)) (omega arith) (λ gone low has. has)
+          (λ other its_session one was row_then row_was gone slot its_stage active active_was of low claimed apart. spares other its_session one row_then gone slot its_stage (eqb other node) refl active of)
+          (claims_stay g o st Stands Step register_is owners_are old x known c tree machines stands.at (allowed.each (last c.register.chain) (last_place c.register.chain)) (IsActive Then) (λ n. c.store.told.knew (Node n)) (λ other its_session one row_then active. omega arith))
+          (λ other its_session one row_then gone its_stage active of under_way has. has));
       single = stands.single;
       told = stands.told;
       given = given_on machines later (last c.register.chain).next_session node before machine stands.given there then_there refl others;

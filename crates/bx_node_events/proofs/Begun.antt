@@ -37,6 +37,7 @@ use Rattle.bx_world_standing.specs.Parts.{Clocks}
 use Rattle.bx_world_standing.specs.Standing.{Course, Known, SureOf}
 use Rattle.bx_world_standing.proofs.Owns.{own_is}
 use Rattle.bx_world_views.specs.Views as views
+use Rattle.bx_node_machines.specs.Recoveries.{RecoversNone}
 use Rattle.bx_world_views.specs.Views.{Allows, Unacknowledged}
 
 -- what the header of a record tells of what it does, where it has its call's number
@@ -161,6 +162,7 @@ module _ {G O S T : Type 0} (g : register.Ghosts G) (o : owners.Ghosts O) (st : 
     unread = λ block mode fetched unwritten begun. none_in_draft (block_in more.changed block) (unread block mode fetched);
     unread_by = λ other block mode ne other_lives allows unwritten begun. none_in_draft (block_in more.changed block) (held_by other block mode ne other_lives allows);
     unseen = its.unseen;
+    elsewhere = λ other d s ne few inside. refl;
   }
 
   doubt_here : with_doubt c.doubts session its_doubt session ≡ Some its_doubt
@@ -177,7 +179,7 @@ module _ {G O S T : Type 0} (g : register.Ghosts G) (o : owners.Ghosts O) (st : 
       at_rest.1 (let empty = ap (λ l. length l) at_rest.2 in omega (arith, empty)) is blocks alone fair_shown
       (λ other t truth agrees. gives other t (subst (λ (h : Held). IsTruth h other) shows truth) (subst (λ (m : Option MachineView). Stands other (hinted m) t) live.there agrees))
       (record { draft = refl; call = numbered; act = act_is call more numbered })))
-      refl runs
+      (subst (λ stage. RecoversNone stage) (sym rests) tt) tt refl runs
       (λ flying. (
         tt,
         refl,

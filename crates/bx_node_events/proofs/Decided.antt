@@ -2,6 +2,7 @@
 use Rattle.std.proofs.Common.{◌≡◌, inr, ℕ, ◌+◌, ◌<◌, ◌≤◌, List, Contains, Some, refl, sym, subst, arith}
 use Rattle.std.specs.Prelude.{slice_get}
 use Rattle.bx_base.specs.declared.names.Actor.{Actor}
+use Rattle.bx_base.specs.declared.names.Actor.TheVariants.{Node}
 use Rattle.bx_disk.specs.Disks.{Disks}
 use Rattle.bx_facts.specs.declared.register.Register as register
 use Rattle.bx_facts.specs.declared.store.Store as store
@@ -14,6 +15,7 @@ use Rattle.bx_node_events.proofs.Grown as growing
 use Rattle.bx_node_events.proofs.Passing as passing
 use Rattle.bx_node_events.proofs.Taken.{loose, loosen}
 use Rattle.bx_node_machines.specs.Machines.{AreAbout, MachineView}
+use Rattle.bx_node_machines.specs.Recoveries.{AreRecovering}
 use Rattle.bx_node_machines.specs.Nodes.{IsOfNode, NodesStand, known_of, scene_of}
 use Rattle.bx_facts.specs.declared.owners.Owners as owners
 use Rattle.bx_post.specs.declared.packets.Letter.{Letter}
@@ -57,7 +59,19 @@ module _ {G O S T : Type 0} (g : register.Ghosts G) (o : owners.Ghosts O) (st : 
   still_about = passing.about_passes (loose g) o st Stands Step register_heard register_heard owners_are owners_are store_is store_is x y letters heard_letters clocks clocks machines c tree
       (lettered c heard_letters).register (lettered c heard_letters).owners (lettered c heard_letters).store
       (loosen g o st Stands Step register_is register_heard owners_are store_is x (known_of g o st Stands Step register_is owners_are store_is x letters clocks machines) c tree rises stands.at)
-      stands.about stands.given allowed legal still_at refl
+      stands.about stands.recovering stands.given allowed legal still_at refl (λ gone by there. there)
+      (record { each = λ session block hold is. is }) (λ block. omega arith) (λ write has. has) (omega arith) (λ node its row is alive of. (of, omega arith)) goes.standing
+      (λ node its s content asks own is still only was. goes.reading node s content asks is only was)
+      (λ node its row is alive of own. own) (λ node its own apart. absurd (apart own)) (λ node its own. inr refl) (λ node its own. inr refl)
+      (λ node write own out none live. absurd (let wrong = out in let no = none in cc))
+      lives alone
+
+  pub still_recovering : AreRecovering (st.made store_is).devices (st.made store_is).areas (SureOf (loose g) o st Stands Step register_heard owners_are store_is y (known_of (loose g) o st Stands Step register_heard owners_are store_is y heard_letters clocks machines) (lettered c heard_letters))
+      (st.will_read store_is y (lettered c heard_letters).store) c.register.chain (λ n. c.store.told.knew (Node n)) c.register.proposed (scene_of (loose g) o st Stands Step register_heard owners_are store_is y clocks.down machines (lettered c heard_letters))
+  still_recovering = passing.recovering_passes (loose g) o st Stands Step register_heard register_heard owners_are owners_are store_is store_is x y letters heard_letters clocks clocks machines c tree
+      (lettered c heard_letters).register (lettered c heard_letters).owners (lettered c heard_letters).store
+      (loosen g o st Stands Step register_is register_heard owners_are store_is x (known_of g o st Stands Step register_is owners_are store_is x letters clocks machines) c tree rises stands.at)
+      stands.about stands.recovering stands.given allowed legal still_at refl (λ gone by there. there)
       (record { each = λ session block hold is. is }) (λ block. omega arith) (λ write has. has) (omega arith) (λ node its row is alive of. (of, omega arith)) goes.standing
       (λ node its s content asks own is still only was. goes.reading node s content asks is only was)
       (λ node its row is alive of own. own) (λ node its own apart. absurd (apart own)) (λ node its own. inr refl) (λ node its own. inr refl)
@@ -84,7 +98,11 @@ module _ {G O S T : Type 0} (g : register.Ghosts G) (o : owners.Ghosts O) (st : 
 
     pub grown_about : AreAbout (st.made store_is).devices (st.made store_is).areas (SureOf (loose g) o st Stands Step register_heard owners_are store_is y (known_of (loose g) o st Stands Step register_heard owners_are store_is y heard_letters clocks machines) grown_is)
         (st.will_read store_is y grown_is.store) (IsOfNode o.by_boot clocks) (scene_of (loose g) o st Stands Step register_heard owners_are store_is y clocks.down machines grown_is)
-    grown_about = growing.about_grown (loose g) o st Stands Step register_heard register_heard owners_are store_is y heard_letters clocks machines (lettered c heard_letters) tree change still_at still_about stands.given allowed law store_goes
+    grown_about = growing.about_grown (loose g) o st Stands Step register_heard register_heard owners_are store_is y heard_letters clocks machines (lettered c heard_letters) tree change still_at still_about still_recovering stands.given allowed proposed law store_goes
+
+    pub grown_recovering : AreRecovering (st.made store_is).devices (st.made store_is).areas (SureOf (loose g) o st Stands Step register_heard owners_are store_is y (known_of (loose g) o st Stands Step register_heard owners_are store_is y heard_letters clocks machines) grown_is)
+        (st.will_read store_is y grown_is.store) grown_is.register.chain (λ n. grown_is.store.told.knew (Node n)) grown_is.register.proposed (scene_of (loose g) o st Stands Step register_heard owners_are store_is y clocks.down machines grown_is)
+    grown_recovering = growing.recovering_grown (loose g) o st Stands Step register_heard register_heard owners_are store_is y heard_letters clocks machines (lettered c heard_letters) tree change still_at still_about still_recovering stands.given allowed proposed law store_goes
 
     pub grown_given : (node its : ℕ) (machine : MachineView) → slice_get machines node ≡ Some machine → machine.session ≡ Some its → its < (last grown_is.register.chain).next_session
-    grown_given = growing.given_grown (loose g) o st Stands Step register_heard register_heard owners_are store_is y heard_letters clocks machines (lettered c heard_letters) tree change still_at still_about stands.given allowed law store_goes
+    grown_given = growing.given_grown (loose g) o st Stands Step register_heard register_heard owners_are store_is y heard_letters clocks machines (lettered c heard_letters) tree change still_at still_about still_recovering stands.given allowed proposed law store_goes

@@ -66,6 +66,7 @@ module _ {G O S T : Type 0} (g : register.Ghosts G) (o : owners.Ghosts O) (st : 
       (record {
         at = decided.still_at g o st Stands Step register_is register_is owners_are store_is x x letters fewer clocks machines c tree stands allowed legal (λ who. omega arith) owners_lose store_loses.0 store_loses.1 stands.at.labels lives alone;
         about = decided.still_about g o st Stands Step register_is register_is owners_are store_is x x letters fewer clocks machines c tree stands allowed legal (λ who. omega arith) owners_lose store_loses.0 store_loses.1 stands.at.labels lives alone;
+        recovering = decided.still_recovering g o st Stands Step register_is register_is owners_are store_is x x letters fewer clocks machines c tree stands allowed legal (λ who. omega arith) owners_lose store_loses.0 store_loses.1 stands.at.labels lives alone;
         single = stands.single;
         told = stands.told;
         given = stands.given;
@@ -119,10 +120,24 @@ module _ {G O S T : Type 0} (g : register.Ghosts G) (o : owners.Ghosts O) (st : 
   read_later = record {
     at = read_at;
     about = passing.about_passes g o st Stands Step register_is register_is owners_are owners_are store_is store_is x x letters letters clocks (heard_clocks clocks input) machines c tree c.register c.owners c.store
-        stands.at stands.about stands.given
+        stands.at stands.about stands.recovering stands.given
         (record { each = λ s there. laws.allowed register_is x c.register s stands.at.parts.register_keeps there })
         (laws.legal register_is x c.register stands.at.parts.register_keeps)
-        read_at refl
+        read_at refl (λ gone by there. there)
+        (record { each = λ session block hold is. is }) (λ block. omega arith) (λ write has. has) (omega arith)
+        (λ node its row is alive of. (record { up = of.up; of = of.of; boot = of.boot }, omega arith))
+        (λ d s content index only is. is) (λ node its s content asks own asked still only was. was)
+        (λ node its row is alive of own. own) (λ node its own apart. absurd (apart own)) (λ node its own. inr refl) (λ node its own. inr refl)
+        (λ node write own out none alive. absurd (let wrong : None ≡ Some write = sym none ∙ out in cc))
+        (λ session end has late. subst (λ (chain : Chain). LivesIn (last chain) session) stands.at.pasts.owners_chain (laws.lives owners_are c.owners session end stands.at.parts.owners_keep has late))
+        (λ one other block hold alive has holds. subst (λ (chain : Chain). oldest chain ≤ other) stands.at.pasts.owners_chain
+        (laws.alone owners_are c.owners one other block hold stands.at.parts.owners_keep
+        (subst (λ (chain : Chain). LivesIn (last chain) one) (sym stands.at.pasts.owners_chain) alive) (subst (λ (chain : Chain). HasRow (last chain) other) (sym stands.at.pasts.owners_chain) has) holds));
+    recovering = passing.recovering_passes g o st Stands Step register_is register_is owners_are owners_are store_is store_is x x letters letters clocks (heard_clocks clocks input) machines c tree c.register c.owners c.store
+        stands.at stands.about stands.recovering stands.given
+        (record { each = λ s there. laws.allowed register_is x c.register s stands.at.parts.register_keeps there })
+        (laws.legal register_is x c.register stands.at.parts.register_keeps)
+        read_at refl (λ gone by there. there)
         (record { each = λ session block hold is. is }) (λ block. omega arith) (λ write has. has) (omega arith)
         (λ node its row is alive of. (record { up = of.up; of = of.of; boot = of.boot }, omega arith))
         (λ d s content index only is. is) (λ node its s content asks own asked still only was. was)

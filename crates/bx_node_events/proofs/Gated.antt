@@ -21,6 +21,7 @@ use Rattle.bx_node_landings.proofs.Acked.{acked_at, rest_slot}
 use Rattle.bx_node_landings.proofs.Landed.{homes_at}
 use Rattle.bx_node_machines.specs.Machines as words
 use Rattle.bx_node_machines.specs.Machines.{Fetch, IsAbout, IsAtWork, IsDoubtIn, IsDoubtOf, IsUnseen, MachineView, Replying, Scene, Stage, act_of, is_one, number_of}
+use Rattle.bx_node_machines.specs.Recoveries.{RecoversNone}
 use Rattle.bx_node_machines.specs.Nodes.{NodesStand, hinted, known_of, nothing_held, scene_of, shown}
 use Rattle.bx_node_machines.proofs.Owning as owning
 use Rattle.bx_node_sends.proofs.Sent.{with_write}
@@ -140,6 +141,7 @@ module _ {G O S T : Type 0} (g : register.Ghosts G) (o : owners.Ghosts O) (st : 
         unwritten = (subst (λ (f : Fetch). words.IsFetching (st.made old).devices (st.made old).areas (st.will_read old x c.store node) (scene_of g o st Stands Step register_is owners_are old x clocks.down machines c) node session f) is_fetch its.fetch).unwritten
             row.slot low began
     unseen words.Dropped is_fetch hidden = tt
+    unseen words.OfLog is_fetch hidden = tt
 
     own : IsOwn (st.made old).devices (st.made old).areas c row.slot session before.fetch gate_to
     own = record {
@@ -154,6 +156,7 @@ module _ {G O S T : Type 0} (g : register.Ghosts G) (o : owners.Ghosts O) (st : 
       unread = λ block mode fetched unwritten begun. absurd (none_begins begun);
       unread_by = λ other block mode ne other_lives allows unwritten begun. absurd (none_begins begun);
       unseen = unseen before.fetch refl its.unseen;
+      elsewhere = landed.slot_same g o st Stands Step register_is owners_are old x letters clocks machines c tree node session row before stands live none_out none_sent (works.Opens point) (λ e. cc) is work.1 work.2 work.3;
     }
 
     -- what the nodes show
@@ -229,7 +232,7 @@ module _ {G O S T : Type 0} (g : register.Ghosts G) (o : owners.Ghosts O) (st : 
       (
         with_write (course_then c row.slot gate_to) then_letters write,
         refl,
-        acting.sends_on g o st Stands Step register_is owners_are old x letters clocks machines later c tree acked.0 node session row before gate_to stands live changed own at_then new then_letters write sending
+        acting.sends_on g o st Stands Step register_is owners_are old x letters clocks machines later c tree acked.0 node session row before gate_to stands live changed own at_then (subst (λ (s : words.Stage). RecoversNone s) (sym stage) tt) tt new then_letters write sending
             (λ d s content w. owning.touches_homes (st.made old).devices (st.made old).areas Sure c.before (last c.register.chain) live.allowed c.owners.holding c.logs c.slots c.truth stands.at.logs session row live.is_row live.lives
             gate_to.logs in_log write.runs its_homes d s content w)
             (λ handed. of_homes g o st Stands Step register_is owners_are old new x then_known (course_then c row.slot gate_to) acked.0 then_letters node session row write at_then live.allowed live.is_row live.lives rests its_homes handed)
@@ -280,6 +283,7 @@ module _ {G O S T : Type 0} (g : register.Ghosts G) (o : owners.Ghosts O) (st : 
     still_unseen words.Nothing hidden = tt
     still_unseen (words.Block block mode) hidden = λ way. same block way ∙ hidden way
     still_unseen words.Dropped hidden = tt
+    still_unseen words.OfLog hidden = tt
 
     home_same : (block i : ℕ) → IsBlock (st.made old).areas block → newest_in (c.logs row.slot) block ≡ None → i < 9
         → with_runs c.before at_home.3.0 (block_place block (st.made old).devices).0 ((block_place block (st.made old).devices).1 + i) ≡ c.before (block_place block (st.made old).devices).0 ((block_place block (st.made old).devices).1 + i)
@@ -297,6 +301,8 @@ module _ {G O S T : Type 0} (g : register.Ghosts G) (o : owners.Ghosts O) (st : 
       unread = λ block mode fetched unwritten begun. absurd (none_closing begun);
       unread_by = λ other block mode ne other_lives allows unwritten begun. absurd (none_closing begun);
       unseen = still_unseen before.fetch its.unseen;
+      elsewhere = λ other d s ne few inside. homing.slots_same (st.made old).devices (st.made old).areas stands.at.logs.volume c.logs row.slot low at_home.3.0 at_home.3.1 Sure (last c.register.chain).sessions c.before c.slots c.truth stands.at.logs is_sure other d s few
+          (record { from = inside.from; to = inside.to });
     }
 
     -- Its blocks are home, and gate 0 is sent, closed.
@@ -312,5 +318,5 @@ module _ {G O S T : Type 0} (g : register.Ghosts G) (o : owners.Ghosts O) (st : 
         home_same
         (homing.truth_then (st.made old).devices (st.made old).areas stands.at.logs.volume c.logs row.slot low at_home.3.0 at_home.3.1 Sure (last c.register.chain).sessions c.before c.slots c.truth stands.at.logs is_sure)
         (homing.are_homed (st.made old).devices (st.made old).areas stands.at.logs.volume c.logs row.slot low at_home.3.0 at_home.3.1 Sure (last c.register.chain).sessions c.before c.slots c.truth stands.at.logs is_sure)))
-        refl runs
+        (subst (λ (s : words.Stage). RecoversNone s) (sym stage) tt) tt refl runs
         (λ flying. (tt, refl, ap (λ (l : Slot). l.activity) (slot_here c.slots row.slot home_to.slot), inl flying, at_home.4, none_away))

@@ -1,14 +1,15 @@
 -- A change that was proposed is decided: each node is still about what its session has under way, and a session that is opened is fresh.
-use Rattle.std.proofs.Common.{◌≡◌, ◌⊎◌, ⊎_elim, inl, inr, ℕ, ◌+◌, ◌<◌, ◌≤◌, Bool, false, List, [], Option, Some, None, refl, sym, subst, arith}
+use Rattle.std.proofs.Common.{◌≡◌, ◌⊎◌, ⊎_elim, inl, inr, ℕ, ◌+◌, ◌<◌, ◌≤◌, Bool, false, List, [], Contains, Option, Some, None, refl, sym, subst, arith}
 use Rattle.std.specs.Prelude.{IsSomeAnd, slice_get}
 use Rattle.bx_base.specs.declared.names.Actor.TheVariants.{Node}
 use Rattle.bx_disk.specs.Disks.{Disks}
 use Rattle.bx_facts.specs.declared.register.Register as register
 use Rattle.bx_facts.specs.declared.store.Store as store
-use Rattle.bx_facts.specs.Chains.{grown, last}
+use Rattle.bx_facts.specs.Chains.{HasRow, grown, last}
 use Rattle.bx_facts.specs.Writes.{GoesOn, store_grown}
 use Rattle.bx_global.specs.Allowed.{IsAllowed}
 use Rattle.bx_global.specs.declared.change.Change.{Change}
+use Rattle.bx_global.specs.declared.change.Change.TheVariants.{Close}
 use Rattle.bx_global.specs.Table.{IsLegal}
 use Rattle.bx_global.proofs.Rising.{next_rises}
 use Rattle.bx_node_machines.specs.Machines.{AreAbout, IsFresh, IsWriting, MachineView, Scene, home_of}
@@ -17,6 +18,12 @@ use Rattle.bx_node_machines.proofs.Growing.{IsOld, grows_on}
 use Rattle.bx_node_machines.proofs.Leaving.{Leaves}
 use Rattle.bx_node_machines.proofs.Owning as owning
 use Rattle.bx_facts.specs.declared.owners.Owners as owners
+use Rattle.bx_node_events.proofs.Sparing.{claimed_after, recover_then, row_stays}
+use Rattle.bx_node_machines.specs.Recoveries.{AreRecovering, IsActive, around_in}
+use Rattle.bx_node_machines.specs.Recovering.{HasEnded}
+use Rattle.bx_node_machines.specs.bx_recover.specs.declared.stage.Stage.{Stage}
+use Rattle.bx_node_machines.proofs.Going.{SparesSlot}
+use Rattle.bx_node_machines.proofs.Ongoing.{WasActive, ended_or}
 use Rattle.bx_places.specs.Places.{block_place}
 use Rattle.bx_post.specs.declared.packets.Letter.{Letter}
 use Rattle.bx_records.specs.declared.runs.Run.{Run}
@@ -25,10 +32,10 @@ use Rattle.bx_rows.specs.declared.session.SessionRow.{SessionRow}
 use Rattle.bx_views.specs.Attempts.{Deed}
 use Rattle.bx_views.specs.Truths.{Hints, Truth}
 use Rattle.bx_volume.specs.Records.{LogWhere}
-use Rattle.bx_world_chains.specs.Entitled.{AreAllowed}
+use Rattle.bx_world_chains.specs.Entitled.{AreAllowed, IsEntitled}
 use Rattle.bx_world_chains.proofs.Chains.{has_less, last_place}
 use Rattle.bx_world_chains.proofs.Changed.{was_or_new}
-use Rattle.bx_world_chains.proofs.Rows.{below_next, has_of, lives_before, lives_of, row_before}
+use Rattle.bx_world_chains.proofs.Rows.{below_next, has_before, has_of, lives_before, lives_of, row_before}
 use Rattle.bx_world_chains.proofs.Sessions.{own_row}
 use Rattle.bx_world_logs.specs.Logs.{SlotStands, idle}
 use Rattle.bx_world_standing.specs.Parts.{Clocks}
@@ -47,8 +54,10 @@ module _ {G O S T : Type 0} (g : register.Ghosts G) (o : owners.Ghosts O) (st : 
     (at_first : StandsAt g o st Stands Step register_is owners_are store_is x (known_of g o st Stands Step register_is owners_are store_is x letters clocks machines) c tree)
     (about_first : AreAbout (st.made store_is).devices (st.made store_is).areas (SureOf g o st Stands Step register_is owners_are store_is x (known_of g o st Stands Step register_is owners_are store_is x letters clocks machines) c)
     (st.will_read store_is x c.store) (IsOfNode o.by_boot clocks) (scene_of g o st Stands Step register_is owners_are store_is x clocks.down machines c))
+    (recovering_first : AreRecovering (st.made store_is).devices (st.made store_is).areas (SureOf g o st Stands Step register_is owners_are store_is x (known_of g o st Stands Step register_is owners_are store_is x letters clocks machines) c)
+    (st.will_read store_is x c.store) c.register.chain (λ n. c.store.told.knew (Node n)) c.register.proposed (scene_of g o st Stands Step register_is owners_are store_is x clocks.down machines c))
     (given_first : (node session : ℕ) (machine : MachineView) → slice_get machines node ≡ Some machine → machine.session ≡ Some session → session < (last c.register.chain).next_session)
-    (allowed : AreAllowed c.register.chain) (legal : IsLegal (last c.register.chain) change)
+    (allowed : AreAllowed c.register.chain) (proposed : Contains c.register.proposed change) (legal : IsLegal (last c.register.chain) change)
     (goes : GoesOn c.store.writes c.store.told.greatest (st.asked store_is) (st.settled store_is x c.store) (st.settled store_is x (store_grown c.store change))
     (st.will_read store_is x c.store) (st.will_read store_is x (store_grown c.store change)) (st.stands store_is x c.store) (st.stands store_is x (store_grown c.store change))) where
   allowed_last : IsAllowed (last c.register.chain)
@@ -147,6 +156,54 @@ module _ {G O S T : Type 0} (g : register.Ghosts G) (o : owners.Ghosts O) (st : 
       (λ node its row is alive. leaves node its row)
       (λ node its machine row is alive about. owning.may_work (st.made store_is).devices (st.made store_is).areas Sure_before c.before (last c.register.chain) allowed_last c.owners.holding c.logs c.slots c.truth at_first.logs its row is alive
       (st.will_read store_is x c.store node) Before node machine refl refl about)
+
+  -- whoever is active then was
+  was_active : (node its : ℕ) (machine : MachineView) (row : SessionRow) → IsActive Then node its machine row → WasActive Before node its machine
+  was_active node its machine row active = ⊎_elim
+      (λ old. record {
+        before = machine;
+        row = old.before;
+        active = record { there = active.there; marked = active.marked; own = active.own; is_row = old.is; lives = old.lives };
+        stage = λ gone recovery is. is;
+        finished = λ gone has. has;
+        suits = λ is. is;
+      })
+      (λ more. absurd (let less = given_first node its machine active.there active.marked in omega (arith, less, more)))
+      (rows its row active.is_row active.lives)
+
+  spares : (node its slot : ℕ) → SparesSlot (st.made store_is).devices (st.made store_is).areas Sure_before Sure_then (st.will_read store_is x c.store node) (st.will_read store_is x (store_grown c.store change) node) (around_in Before node) (around_in Then node) its slot
+  spares node its slot = record {
+    logs = refl;
+    slots = refl;
+    before = λ d s inside. refl;
+    asked = inl refl;
+    out = inl refl;
+    sent = λ write there whose. there;
+    sure = λ d s content near is. sure_on d s content is;
+    reads = λ asks s content was is near sure read. goes.reading node s content asks was sure.only read;
+  }
+
+  -- the session that is gone keeps its row while its recovery is under way
+  keeps_row : (gone slot session : ℕ) (stage : Stage) → IsEntitled (last c.register.chain) gone slot session → ((HasEnded stage → ⊥) → Contains c.register.proposed (Close gone session) → ⊥) → (HasEnded stage → HasRow (last (grown c.register.chain change)) gone)
+      → HasRow (last (grown c.register.chain change)) gone
+  keeps_row gone slot session stage claimed unproposed ended = ⊎_elim
+      (λ over. ended over)
+      (λ under_way. row_stays g o st Stands Step register_is owners_are store_is x (known_of g o st Stands Step register_is owners_are store_is x letters clocks machines) c tree machines at_first allowed_last gone slot session change claimed legal proposed
+      (λ same. unproposed under_way (subst (λ (one : Change). Contains c.register.proposed one) same proposed)))
+      (ended_or stage)
+
+  -- Each recovers what it recovered.
+  pub recovering_grown : AreRecovering (st.made store_is).devices (st.made store_is).areas Sure_then (st.will_read store_is x (store_grown c.store change)) (grown c.register.chain change) (λ n. c.store.told.knew (Node n)) c.register.proposed Then
+  recovering_grown = recover_then g o st Stands Step register_is owners_are store_is x (known_of g o st Stands Step register_is owners_are store_is x letters clocks machines) c tree machines at_first allowed_last
+      Sure_then (st.will_read store_is x (store_grown c.store change)) (grown c.register.chain change) (λ n. c.store.told.knew (Node n)) c.register.proposed Then recovering_first
+      (λ node its machine row active. inl (was_active node its machine row active))
+      (next_rises (last c.register.chain) change)
+      (λ gone low has. has_before (last c.register.chain) change gone has low)
+      (λ node its machine one row row_one gone slot stage active active_was of low claimed other. inl (spares node its slot))
+      (λ node its machine one row row_one gone slot stage active active_was ended unproposed claimed known.
+      claimed_after c.register.chain change (c.store.told.knew (Node node)) gone slot its allowed_last legal (lives_of (last (grown c.register.chain change)) its row active.is_row active.lives)
+      (keeps_row gone slot its stage claimed unproposed ended) claimed known)
+      (λ node its machine row gone stage active of under_way there. there)
 
   pub given_grown : (node its : ℕ) (machine : MachineView) → slice_get machines node ≡ Some machine → machine.session ≡ Some its → its < (last (grown c.register.chain change)).next_session
   given_grown node its machine there marked = let less = given_first node its machine there marked in let more = next_rises (last c.register.chain) change in omega (arith, less, more)

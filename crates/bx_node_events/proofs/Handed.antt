@@ -28,6 +28,7 @@ use Rattle.bx_node_events.proofs.Registered.{HandedLaws, IsLast, RegisterTook, a
 use Rattle.bx_node_events.proofs.Taken as taken
 use Rattle.bx_node_events.proofs.Taken.{TakesOwners, TakesStore, loose, loosen}
 use Rattle.bx_node_machines.specs.Machines.{AreAbout, MachineView}
+use Rattle.bx_node_machines.specs.Recoveries.{AreRecovering}
 use Rattle.bx_node_machines.specs.Nodes.{IsOfNode, NodesStand, known_of, scene_of}
 use Rattle.bx_facts.specs.declared.owners.Owners as owners
 use Rattle.bx_post.specs.declared.packets.Letter.{Letter}
@@ -112,6 +113,8 @@ module _ {G O S T : Type 0} (g : register.Ghosts G) (o : owners.Ghosts O) (st : 
       (at : StandsAt (loose g) o st Stands Step register_heard owners_are store_is y (known_of (loose g) o st Stands Step register_heard owners_are store_is y (letters ++ heard_box) clocks machines) (lettered c (letters ++ heard_box)) tree)
       (about : AreAbout (st.made store_is).devices (st.made store_is).areas (SureOf (loose g) o st Stands Step register_heard owners_are store_is y (known_of (loose g) o st Stands Step register_heard owners_are store_is y (letters ++ heard_box) clocks machines) (lettered c (letters ++ heard_box)))
       (st.will_read store_is y (lettered c (letters ++ heard_box)).store) (IsOfNode o.by_boot clocks) (scene_of (loose g) o st Stands Step register_heard owners_are store_is y clocks.down machines (lettered c (letters ++ heard_box))))
+      (recovering : AreRecovering (st.made store_is).devices (st.made store_is).areas (SureOf (loose g) o st Stands Step register_heard owners_are store_is y (known_of (loose g) o st Stands Step register_heard owners_are store_is y (letters ++ heard_box) clocks machines) (lettered c (letters ++ heard_box)))
+      (st.will_read store_is y (lettered c (letters ++ heard_box)).store) c.register.chain (λ n. c.store.told.knew (Node n)) c.register.proposed (scene_of (loose g) o st Stands Step register_heard owners_are store_is y clocks.down machines (lettered c (letters ++ heard_box))))
       (given : (node session : ℕ) (machine : MachineView) → slice_get machines node ≡ Some machine → machine.session ≡ Some session → session < (last c.register.chain).next_session)
       (register_keeps : g.keeps register_heard y (record c.register { letters = letters ++ heard_box }))
       (told : (other one : ℕ) → own_up clocks.down (o.own owners_are) other ≡ Some one → who ≢ Node other → (g.knows register_heard (Node other)).index ≤ c.store.told.knew (Node other)) where
@@ -155,7 +158,7 @@ module _ {G O S T : Type 0} (g : register.Ghosts G) (o : owners.Ghosts O) (st : 
 
     pub finished : (later : Course) × (later.register.chain ≡ c.register.chain) × NodesStand g o st Stands Step register_then owners_then store_then z (letters ++ last_box) (heard_clocks clocks input) machines later tree × (later.logs ≡ c.logs) × KeepsWorks (lettered c (letters ++ heard_box)) later
     finished = taken.takes g o st Stands Step register_heard register_then owners_are owners_then store_is store_then y z (letters ++ heard_box) (letters ++ last_box) clocks machines (lettered c (letters ++ heard_box)) tree
-        who input change shift proposal at about given
+        who input change shift proposal at about recovering given
         (record { each = λ s there. laws.allowed register_heard y (record c.register { letters = letters ++ heard_box }) s register_keeps there })
         (laws.legal register_heard y (record c.register { letters = letters ++ heard_box }) register_keeps)
         up place steady comes takes_owners takes_store register_last offered.knows
@@ -196,7 +199,7 @@ module _ {G O S T : Type 0} (g : register.Ghosts G) (o : owners.Ghosts O) (st : 
       let all = finished g o st Stands Step laws register_heard register_then owners_are owners_then store_is store_then y z letters heard_box tended_box served_box last_box clocks machines who input change shift proposal up steady heard_comes
       owners_took store_took offered heard.0 tree
       (loosen g o st Stands Step register_heard register_heard owners_are store_is y (known_of g o st Stands Step register_heard owners_are store_is y (letters ++ heard_box) clocks machines) (lettered heard.0 (letters ++ heard_box)) tree (λ other. omega arith) but.at)
-      but.about but.given but.at.parts.register_keeps (λ other one own differ. but.told other one differ own) in (
+      but.about but.recovering but.given but.at.parts.register_keeps (λ other one own differ. but.told other one differ own) in (
         all.0,
         subst (λ (chain : Chain). GrowsBy c.register.proposed c.register.chain chain) (sym all.1) heard.1,
         all.2,

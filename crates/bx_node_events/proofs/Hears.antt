@@ -15,11 +15,14 @@ use Rattle.bx_facts.specs.Holds.{Hold, Holds, KeepsHolds, OwnersPast}
 use Rattle.bx_facts.specs.Inputs.{greatest_with}
 use Rattle.bx_facts.specs.Machines.{is_same, put_at}
 use Rattle.bx_facts.specs.Writes.{Asked, IsOnly, Sent, WritesTo}
+use Rattle.bx_facts.proofs.Lists.{front_or_behind}
 use Rattle.bx_facts.proofs.Machines.{is_itself, is_one}
 use Rattle.bx_global.specs.declared.change.Change.{Change}
+use Rattle.bx_global.specs.declared.change.Change.TheVariants.{Close}
 use Rattle.bx_global.specs.declared.state.GlobalState.{GlobalState}
 use Rattle.bx_node_events.proofs.Passing as passing
 use Rattle.bx_node_machines.specs.Machines.{AreAbout, MachineView, is_one as marks}
+use Rattle.bx_node_machines.specs.Recoveries.{AreRecovering}
 use Rattle.bx_node_machines.specs.Nodes.{IsOfNode, NodesStand, hinted, known_of, nothing_held, scene_of, shown}
 use Rattle.bx_node_machines.proofs.Hearing.{own_or_not}
 use Rattle.bx_facts.specs.declared.owners.Owners as owners
@@ -70,6 +73,8 @@ module _ {G O S T : Type 0} (g : register.Ghosts G) (o : owners.Ghosts O) (st : 
     (at_first : StandsAt g o st Stands Step register_is owners_are store_is x (known_of g o st Stands Step register_is owners_are store_is x letters clocks machines) c tree)
     (about_first : AreAbout (st.made store_is).devices (st.made store_is).areas (SureOf g o st Stands Step register_is owners_are store_is x (known_of g o st Stands Step register_is owners_are store_is x letters clocks machines) c)
     (st.will_read store_is x c.store) (IsOfNode o.by_boot clocks) (scene_of g o st Stands Step register_is owners_are store_is x clocks.down machines c))
+    (recovering_first : AreRecovering (st.made store_is).devices (st.made store_is).areas (SureOf g o st Stands Step register_is owners_are store_is x (known_of g o st Stands Step register_is owners_are store_is x letters clocks machines) c)
+    (st.will_read store_is x c.store) c.register.chain (λ n. c.store.told.knew (Node n)) c.register.proposed (scene_of g o st Stands Step register_is owners_are store_is x clocks.down machines c))
     (given_first : (node session : ℕ) (machine : MachineView) → slice_get machines node ≡ Some machine → machine.session ≡ Some session → session < (last c.register.chain).next_session)
     (allowed : AreAllowed c.register.chain) (legal : AreLegal c.register.chain.first c.register.chain.changes)
     (up : clocks.down who ≡ false) (place : IsPlace c.register.chain s) (order : c.store.told.knew who ≤ s.index) where
@@ -222,11 +227,19 @@ module _ {G O S T : Type 0} (g : register.Ghosts G) (o : owners.Ghosts O) (st : 
             let low : c.store.told.knew (Node node) ≤ s.index = subst (λ (a : Actor). c.store.told.knew a ≤ s.index) e order in omega (arith, f, low)
         by false apart_is = let f : put_at who s.index c.store.told.knew (Node node) ≡ c.store.told.knew (Node node) = ap (λ (t : Bool). if t then s.index else c.store.told.knew (Node node)) apart_is in omega (arith, f)
 
+    -- no closing is proposed that wasn't
+    back : (gone by : ℕ) → Contains (with_change proposal c.register.proposed) (Close gone by) → Contains c.register.proposed (Close gone by)
+    back gone by there = by_proposal proposal refl there
+      where
+        by_proposal : (one : Option Change) → proposal ≡ one → Contains (with_change one c.register.proposed) (Close gone by) → Contains c.register.proposed (Close gone by)
+        by_proposal None is has = has
+        by_proposal (Some change) is has = ⊎_elim (λ same. absurd ((proposes change is).no_close gone by same)) (λ before. before) (front_or_behind change c.register.proposed (Close gone by) has)
+
     -- The nodes stand then, with the machine's reading, where each node's register knows what that was handed.
     pub heard : ((other one : ℕ) → own_up clocks.down (o.own owners_are) other ≡ Some one → who ≢ Node other → (g.knows register_then (Node other)).index ≤ c.store.told.knew (Node other)) → (g.knows register_then who).index ≤ s.index
         → NodesStand g o st Stands Step register_then owners_then store_then y then_letters (heard_clocks clocks input) machines then_is tree
     heard others here = passing.passes g o st Stands Step register_is register_then owners_are owners_then store_is store_then x y letters then_letters clocks (heard_clocks clocks input) machines c tree then_is.register then_is.owners then_is.store
-        at_first about_first given_first allowed legal at_then made keeps (λ block. omega arith) (λ write has. has) (rises_then c.store.told.greatest input)
+        at_first about_first recovering_first given_first allowed legal at_then made back keeps (λ block. omega arith) (λ write has. has) (rises_then c.store.told.greatest input)
         (λ node its row is_there alive of. (record { up = of.up; of = of.of; boot = of.boot }, more node)) standing
         (λ node its sector content asks is asks_it asks_then only was. reading node sector content asks asks_it asks_then only was)
         (λ node its row found alive of had. kept node its row found alive had) quiet (λ node its is. out node) (λ node its is. asked node)

@@ -157,7 +157,7 @@ module _ {G O S T : Type 0} (g : register.Ghosts G) (o : owners.Ghosts O) (st : 
   of_homes = record {
     may = λ d sector content w. owning.home_touches (st.made old).devices (st.made old).areas (SureOf g o st Stands Step register_is owners_are old x known c) c.before (last c.register.chain) allowed c.owners.holding c.logs c.slots c.truth
         at.logs session row is_row lives write.runs its d sector content w;
-    unclosed = λ gone d s its_row content there is_its w inside.
+    elsewhere = λ gone d s its_row content ne is_its w inside.
         apart_slot (st.made old).devices (st.made old).areas at.logs.volume c.logs row.slot low write.runs its its_row.slot d s content
         (all_row (IsSession (last c.register.chain).term_end) (last c.register.chain).sessions gone its_row allowed.each_session is_its).slot (record { from = inside.from; to = inside.to }) w;
     homes = λ block i content is unlogged few w. apart_home (st.made old).devices (st.made old).areas at.logs.volume c.logs row.slot low write.runs its block i content is (unlogged row.slot low) few w;

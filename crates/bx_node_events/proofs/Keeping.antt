@@ -73,6 +73,7 @@ module _ (devices areas : ℕ) (Sure Sure_then : ℕ → ℕ → List ℕ → Ty
     work_on slot (words.Records call draft) is = (is.0, is.1, is.2, writing _ is.3, is.4, λ at. same at ∙ is.5 at)
     work_on slot words.Homes is = (is.0, is.1, is.2, (is.3.0, is.3.1, writing is.3.0 is.3.2), is.4, λ at. same at ∙ is.5 at)
     work_on slot words.Closes is = (is.0, is.1, is.2, writing _ is.3, is.4, λ at. same at ∙ is.5 at)
+    work_on slot (words.Recovers gone recovery) is = (is.0, is.1, is.2, is.3, λ at. same at ∙ is.4 at)
 
     its_about : (row : SessionRow) → row_in old.rows session ≡ Some row → row.dead ≡ 0 → IsAbout devices areas Sure_then (Reads_then node) scene_then node session row.slot changed
     its_about row is_row lives =

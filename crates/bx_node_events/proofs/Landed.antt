@@ -36,6 +36,8 @@ use Rattle.bx_volume.specs.Overlay.{Logs, with_log}
 use Rattle.bx_volume.specs.Records.{Logged, newest_in}
 use Rattle.bx_volume.proofs.Overlay.{log_here, log_there}
 use Rattle.bx_world_chains.proofs.Rows.{lives_of, taken_of}
+use Rattle.bx_node_machines.specs.Recoveries.{RecoversNone}
+use Rattle.bx_world_standing.specs.Rights.{IsOfSlot}
 use Rattle.bx_world_logs.specs.Logs.{IsLogOf, OfLog, Slot, SlotStands, begins, idle, view_of, writes_in}
 use Rattle.bx_world_logs.proofs.Moving.{slot_here, with_slot}
 use Rattle.bx_world_logs.proofs.Regions.{home_in_none, writes_within}
@@ -112,6 +114,17 @@ module _ {G O S T : Type 0} (g : register.Ghosts G) (o : owners.Ghosts O) (st : 
             (ap (λ (l : Slot). writes_in (st.made old).devices row.slot (length (c.logs row.slot)) l.activity (block_place block (st.made old).devices).0 ((block_place block (st.made old).devices).1 + i)) slot_is ∙ w)))
         by false w = ack.same (block_place block (st.made old).devices).0 ((block_place block (st.made old).devices).1 + i) w
 
+    -- no other slot is written
+    pub slot_same : (other d s : ℕ) → other ≢ row.slot → other < 8 → IsOfSlot (st.made old).devices other d s → stored c.before (view_of (st.made old).devices row.slot (length (c.logs row.slot)) work) d s ≡ c.before d s
+    slot_same other d s ne few inside = by (is_written (view_of (st.made old).devices row.slot (length (c.logs row.slot)) work) d s) refl
+      where
+        by : (b : Bool) → is_written (view_of (st.made old).devices row.slot (length (c.logs row.slot)) work) d s ≡ b → stored c.before (view_of (st.made old).devices row.slot (length (c.logs row.slot)) work) d s ≡ c.before d s
+        by true w =
+            let mine = writes_within Sure (st.made old).devices (st.made old).areas c.before c.logs c.slots row.slot d s (is_taken (last c.register.chain).sessions row.slot) (stands.at.logs.each row.slot low)
+            (ap (λ (l : Slot). writes_in (st.made old).devices row.slot (length (c.logs row.slot)) l.activity d s) slot_is ∙ w) in
+            let a = mine.from in let b = mine.to in let p = inside.from in let q = inside.to in absurd (ne (omega (arith, a, b, p, q)))
+        by false w = ack.same d s w
+
   -- ---- the write of the next work is sent
 
   abbrev pub Stood : S → List Letter → List MachineView → T → Logs → Type 0
@@ -124,15 +137,15 @@ module _ {G O S T : Type 0} (g : register.Ghosts G) (o : owners.Ghosts O) (st : 
   module _ (later : List MachineView) (new : S) (then_letters : List Letter) (write : Sent) (sending : IsSending g o st register_is owners_are old new x c then_letters node session write) where
     pub next_sends : (to : Outcome) (next : T) → IsChanged machines later node (machine_then before to) → IsOwn (st.made old).devices (st.made old).areas c row.slot session before.fetch to
         → StandsAt g o st Stands Step register_is owners_are old x (known_of g o st Stands Step register_is owners_are old x letters clocks later) (course_then c row.slot to) next
-        → to.slot.activity ≡ OfLog to.log.work → write.runs ≡ (writes to.log to.log.work).1
+        → RecoversNone before.stage → RecoversNone to.stage → to.slot.activity ≡ OfLog to.log.work → write.runs ≡ (writes to.log to.log.work).1
         → (IsFlying session (writes to.log to.log.work).1 (st.out_of new node) (write ∷ c.store.writes)
         → IsAtWork (st.made old).devices (st.made old).areas (SureBehind o st owners_are (st.made old) new x clocks c then_letters write)
         (scene_of g o st Stands Step register_is owners_are new x clocks.down later (with_write (course_then c row.slot to) then_letters write)) node session row.slot (machine_then before to) to.stage)
         → Stood new then_letters later next to.logs
-    next_sends to next changed own at doing runs work = (
+    next_sends to next changed own at resting rests_then doing runs work = (
       with_write (course_then c row.slot to) then_letters write,
       refl,
-      acting.sends_on g o st Stands Step register_is owners_are old x letters clocks machines later c tree next node session row before to stands live changed own at new then_letters write sending
+      acting.sends_on g o st Stands Step register_is owners_are old x letters clocks machines later c tree next node session row before to stands live changed own at resting rests_then new then_letters write sending
           (working.touches g o st Stands Step register_is owners_are old x (known_then later) (course_then c row.slot to) next session row to.log write at live.allowed live.is_row live.lives own.is_slot own.device own.count here runs c.logs c.slots)
           (λ handed. working.of_work g o st Stands Step register_is owners_are old x (known_then later) (course_then c row.slot to) next session row to.log write at live.allowed live.is_row live.lives own.is_slot own.device own.count here runs new then_letters node handed)
           none_out none_sent (λ flying. work (flying (writes to.log to.log.work).1 runs)),
@@ -168,7 +181,7 @@ module _ {G O S T : Type 0} (g : register.Ghosts G) (o : owners.Ghosts O) (st : 
       body_lands changed runs = next_sends body_to tree changed own
           (acting.shown_still g o st Stands Step register_is owners_are old x letters clocks machines later c tree tree node session row before body_to stands live changed own (course_then c row.slot body_to) tree (λ block mode. refl)
           (body_at g o st Stands Step register_is owners_are old x known c tree session row stands.at live.allowed lives_it live.is_row none_sent (c.slots row.slot).more point text body_to.before was acked))
-          refl runs
+          (subst (λ (s : Stage). RecoversNone s) (sym stage) tt) tt refl runs
           (λ flying. (tt, refl, ap (λ (l : Slot). l.activity) (slot_here c.slots row.slot body_to.slot), inl flying, doubts, work.5))
         where
           work : IsAtWork (st.made old).devices (st.made old).areas Sure Before node session row.slot before (words.Records call draft)
@@ -198,6 +211,7 @@ module _ {G O S T : Type 0} (g : register.Ghosts G) (o : owners.Ghosts O) (st : 
             unread = λ block mode fetched unwritten begun. unwritten row.slot low began;
             unread_by = λ other block mode ne other_lives allows unwritten begun. unwritten row.slot low began;
             unseen = its.unseen;
+            elsewhere = slot_same (works.Body text point) (λ e. cc) is work.1 work.2 work.3;
           }
 
     -- ---- gate 0
@@ -223,7 +237,7 @@ module _ {G O S T : Type 0} (g : register.Ghosts G) (o : owners.Ghosts O) (st : 
           (acting.shown_still g o st Stands Step register_is owners_are old x letters clocks machines later c tree tree node session row before first_to stands live changed own (course_then c row.slot first_to) tree (λ block mode. refl)
           (first_at g o st Stands Step register_is owners_are old x known c tree session row stands.at live.allowed lives_it live.is_row none_sent (c.slots row.slot).more (c.slots row.slot).more first_to.before
           (slot_is works.Closes (λ e. cc) is work.1 work.2 work.3) (ack works.Closes (λ e. cc) is work.1 work.2 work.3)))
-          refl runs
+          (subst (λ (s : Stage). RecoversNone s) (sym stage) tt) tt refl runs
           (λ flying. (tt, refl, ap (λ (l : Slot). l.activity) (slot_here c.slots row.slot first_to.slot), inl flying, work.4, work.5))
         where
           work : IsAtWork (st.made old).devices (st.made old).areas Sure Before node session row.slot before words.Closes
@@ -247,6 +261,7 @@ module _ {G O S T : Type 0} (g : register.Ghosts G) (o : owners.Ghosts O) (st : 
             unread = λ block mode fetched unwritten begun. absurd (none_begins begun);
             unread_by = λ other block mode ne other_lives allows unwritten begun. absurd (none_begins begun);
             unseen = its.unseen;
+            elsewhere = slot_same works.Closes (λ e. cc) is work.1 work.2 work.3;
           }
 
   -- ---- the other gates
@@ -275,6 +290,7 @@ module _ {G O S T : Type 0} (g : register.Ghosts G) (o : owners.Ghosts O) (st : 
           (acting.shown_still g o st Stands Step register_is owners_are old x letters clocks machines later c tree tree node session row before others_to stands live changed own (course_then c row.slot others_to) tree (λ block mode. refl)
           (others_at g o st Stands Step register_is owners_are old x known c tree session row stands.at live.allowed lives_it live.is_row none_sent (c.slots row.slot).more (c.slots row.slot).more others_to.before was
           (ack works.Shuts (λ e. cc) is work.1 work.2 work.3)))
+          (subst (λ (s : Stage). RecoversNone s) (sym stage) tt) tt
           (refl, ap (λ (l : Slot). l.activity) (slot_here c.slots row.slot others_to.slot), none, none_out, work.4, λ block. work.5 block ∙ sym (ap (λ (l : List Logged). newest_in l block) none)),
       refl,
       acting.leaves_works g o st Stands Step register_is owners_are old x letters clocks machines later c tree tree node session row before others_to stands live changed own,
@@ -312,4 +328,5 @@ module _ {G O S T : Type 0} (g : register.Ghosts G) (o : owners.Ghosts O) (st : 
           unread = λ block mode fetched unwritten begun. absurd (none_begins begun);
           unread_by = λ other block mode ne other_lives allows unwritten begun. absurd (none_begins begun);
           unseen = its.unseen;
+          elsewhere = slot_same works.Shuts (λ e. cc) is work.1 work.2 work.3;
         }

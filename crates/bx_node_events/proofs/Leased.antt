@@ -67,6 +67,7 @@ module _ {G O S T : Type 0} (g : register.Ghosts G) (o : owners.Ghosts O) (st : 
       doubted = stands.at.doubted;
     };
     about = stands.about;
+    recovering = stands.recovering;
     single = stands.single;
     told = stands.told;
     given = stands.given;

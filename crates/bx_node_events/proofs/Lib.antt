@@ -19,6 +19,7 @@ pub mod Passing
 pub mod Quieted
 pub mod Received
 pub mod Registered
+pub mod Sparing
 pub mod Starting
 pub mod Stopping
 pub mod Taken

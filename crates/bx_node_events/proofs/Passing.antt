@@ -12,10 +12,15 @@ use Rattle.bx_facts.specs.Holds.{Hold, Holds, KeepsHolds, OwnersPast}
 use Rattle.bx_facts.specs.Pasts.{RegisterPast}
 use Rattle.bx_facts.specs.Writes.{Asked, IsOnly, IsOver, Made, MayWrite, Sent, StorePast, WritesIn, WritesTo}
 use Rattle.bx_global.specs.Allowed.{IsAllowed}
+use Rattle.bx_node_events.proofs.Sparing.{claims_stay, near_touches, recover_then}
+use Rattle.bx_global.specs.declared.change.Change.TheVariants.{Close}
 use Rattle.bx_node_machines.specs.Machines.{AreAbout, IsFlying, IsWriting, MachineView, Scene, home_of}
 use Rattle.bx_node_machines.specs.Nodes.{IsOfNode, NodesStand, known_of, scene_of}
+use Rattle.bx_node_machines.specs.Recoveries.{AreRecovering, IsActive, around_in}
+use Rattle.bx_node_machines.proofs.Going.{SparesSlot}
 use Rattle.bx_node_machines.proofs.Hearing.{hears}
 use Rattle.bx_node_machines.proofs.Leaving.{Leaves}
+use Rattle.bx_node_machines.proofs.Ongoing.{same_active}
 use Rattle.bx_node_machines.proofs.Owning as owning
 use Rattle.bx_node_views.proofs.Reaching.{reaches}
 use Rattle.bx_node_views.proofs.Touching.{may_write}
@@ -27,7 +32,7 @@ use Rattle.bx_rows.specs.Words.{row_in}
 use Rattle.bx_rows.specs.declared.session.SessionRow.{SessionRow}
 use Rattle.bx_views.specs.Attempts.{Deed}
 use Rattle.bx_views.specs.Truths.{Hints, Truth}
-use Rattle.bx_world_chains.specs.Entitled.{AreAllowed}
+use Rattle.bx_world_chains.specs.Entitled.{AreAllowed, IsEntitled}
 use Rattle.bx_world_chains.proofs.Chains.{index_most, last_place}
 use Rattle.bx_world_chains.proofs.Rows.{lives_of}
 use Rattle.bx_world_standing.specs.Parts.{Clocks}
@@ -51,6 +56,8 @@ module _ {G O S T : Type 0} (g : register.Ghosts G) (o : owners.Ghosts O) (st : 
     (at_first : StandsAt g o st Stands Step register_is owners_are store_is x (known_of g o st Stands Step register_is owners_are store_is x letters clocks machines) c tree)
     (about_first : AreAbout (st.made store_is).devices (st.made store_is).areas (SureOf g o st Stands Step register_is owners_are store_is x (known_of g o st Stands Step register_is owners_are store_is x letters clocks machines) c)
     (st.will_read store_is x c.store) (IsOfNode o.by_boot clocks) (scene_of g o st Stands Step register_is owners_are store_is x clocks.down machines c))
+    (recovering_first : AreRecovering (st.made store_is).devices (st.made store_is).areas (SureOf g o st Stands Step register_is owners_are store_is x (known_of g o st Stands Step register_is owners_are store_is x letters clocks machines) c)
+    (st.will_read store_is x c.store) c.register.chain (λ n. c.store.told.knew (Node n)) c.register.proposed (scene_of g o st Stands Step register_is owners_are store_is x clocks.down machines c))
     (given_first : (node session : ℕ) (machine : MachineView) → slice_get machines node ≡ Some machine → machine.session ≡ Some session → session < (last c.register.chain).next_session)
     (allowed : AreAllowed c.register.chain) (legal : AreLegal c.register.chain.first c.register.chain.changes) where
   -- what was done then
@@ -65,6 +72,7 @@ module _ {G O S T : Type 0} (g : register.Ghosts G) (o : owners.Ghosts O) (st : 
 
   module _ (at_then : StandsAt g o st Stands Step register_then owners_then store_then y (known_of g o st Stands Step register_then owners_then store_then y then_letters clocks_then machines) then_is tree)
       (made : st.made store_then ≡ st.made store_is)
+      (back : (gone by : ℕ) → Contains r.proposed (Close gone by) → Contains c.register.proposed (Close gone by))
       (keeps : KeepsHolds c.owners.holding op.holding)
       (rises : (block : ℕ) → c.owners.floor block ≤ op.floor block)
       (sent : (write : Sent) → Contains sp.writes write → Contains c.store.writes write)
@@ -206,11 +214,60 @@ module _ {G O S T : Type 0} (g : register.Ghosts G) (o : owners.Ghosts O) (st : 
         (st.will_read store_then y sp) (IsOfNode o.by_boot clocks_then) Then
     about_passes = subst (λ (m : Made). AreAbout m.devices m.areas (SureBy m) (st.will_read store_then y sp) (IsOfNode o.by_boot clocks_then) Then) (sym made) about_then
 
+    -- ---- what they recover
+
+    -- whoever is active then was
+    was_active : (node its : ℕ) (machine : MachineView) (row : SessionRow) → IsActive Then node its machine row → IsActive Before node its machine row
+    was_active node its machine row active = record {
+      there = active.there;
+      marked = active.marked;
+      own = about_first.marked node its machine row (fewer node its row active.is_row active.lives (its_of node its row active.own active.is_row active.lives)).0 active.there active.marked active.is_row active.lives;
+      is_row = active.is_row;
+      lives = active.lives;
+    }
+
+    spares : (node its : ℕ) (machine : MachineView) (row : SessionRow) (gone slot : ℕ) → IsActive Then node its machine row → slot < 8 → IsEntitled (last c.register.chain) gone slot its
+        → SparesSlot (st.made store_is).devices (st.made store_is).areas Sure_before (SureBy (st.made store_is)) (st.will_read store_is x c.store node) (st.will_read store_then y sp node) (around_in Before node) (around_in Then node) its slot
+    spares node its machine row gone slot active low claimed = record {
+      logs = refl;
+      slots = refl;
+      before = λ d s inside. refl;
+      asked = ⊎_elim (λ none. inr none) (λ same. inl same) (asked node its active.own);
+      out = ⊎_elim
+          (λ none. inr (
+            none,
+            λ runs near flying d s content w. done_sure node its row runs active.own active.is_row active.lives
+                (λ device sector bytes brings. near_touches (st.made store_is).devices (st.made store_is).areas (last c.register.chain) c.owners.holding c.logs c.slots gone slot its device sector low claimed (near device sector bytes brings))
+                flying none d s content w,
+          ))
+          (λ same. inl same)
+          (out node its active.own);
+      sent = λ write there whose. sent write there;
+      sure = λ d s content near is. sure_on d s content is;
+      reads = λ asks s content was is near sure read. reading node its s content asks active.own was is sure.only read;
+    }
+
+    recovering_then : AreRecovering (st.made store_is).devices (st.made store_is).areas (SureBy (st.made store_is)) (st.will_read store_then y sp) c.register.chain (λ n. sp.told.knew (Node n)) r.proposed Then
+    recovering_then = recover_then g o st Stands Step register_is owners_are store_is x (known_of g o st Stands Step register_is owners_are store_is x letters clocks machines) c tree machines at_first allowed_last
+        (SureBy (st.made store_is)) (st.will_read store_then y sp) c.register.chain (λ n. sp.told.knew (Node n)) r.proposed Then recovering_first
+        (λ node its machine row active. inl (same_active Before node its machine row (was_active node its machine row active)))
+        (omega arith) (λ gone low has. has)
+        (λ node its machine one row row_one gone slot stage active active_was of low claimed other. inl (spares node its machine row gone slot active low claimed))
+        (claims_stay g o st Stands Step register_is owners_are store_is x (known_of g o st Stands Step register_is owners_are store_is x letters clocks machines) c tree machines at_first allowed_last
+        (IsActive Then) (λ n. sp.told.knew (Node n)) (λ node its machine row active. (fewer node its row active.is_row active.lives (its_of node its row active.own active.is_row active.lives)).1))
+        (λ node its machine row gone stage active of under_way there. back gone its there)
+
+    -- All recover what they recovered.
+    pub recovering_passes : AreRecovering (st.made store_then).devices (st.made store_then).areas (SureOf g o st Stands Step register_then owners_then store_then y (known_of g o st Stands Step register_then owners_then store_then y then_letters clocks_then machines) then_is)
+        (st.will_read store_then y sp) c.register.chain (λ n. sp.told.knew (Node n)) r.proposed Then
+    recovering_passes = subst (λ (m : Made). AreRecovering m.devices m.areas (SureBy m) (st.will_read store_then y sp) c.register.chain (λ n. sp.told.knew (Node n)) r.proposed Then) (sym made) recovering_then
+
     -- The nodes stand then.
     pub passes : ((node its : ℕ) → own_then node ≡ Some its → (g.knows register_then (Node node)).index ≤ sp.told.knew (Node node)) → NodesStand g o st Stands Step register_then owners_then store_then y then_letters clocks_then machines then_is tree
     passes told = record {
       at = at_then;
       about = about_passes;
+      recovering = recovering_passes;
       single = one_owner o.by_boot c.register.chain clocks_then (o.own owners_then) (λ n. sp.told.knew (Node n)) allowed at_then.sessions;
       told = told;
       given = given_first;

@@ -58,9 +58,9 @@ module _ {G O S T : Type 0} (g : register.Ghosts G) (o : owners.Ghosts O) (st : 
 
   pub quieted : NodesStand g o st Stands Step register_is owners_are store_is x letters clocks machines quiet_course tree
   quieted = passes g o st Stands Step register_is register_is owners_are owners_are store_is store_is x x letters letters clocks clocks machines c tree c.register c.owners (without_session c.store session)
-      stands.at stands.about stands.given allowed legal
+      stands.at stands.about stands.recovering stands.given allowed legal
       (drops g o st Stands Step register_is owners_are store_is x (known_of g o st Stands Step register_is owners_are store_is x letters clocks machines) c tree (without_session c.store session).writes stands.at was_sent keeps goes.standing)
-      refl (record { each = λ one block hold is. is }) (λ block. omega arith) was_sent (omega arith) (λ node its row is alive of. (of, omega arith)) goes.standing
+      refl (λ gone by there. there) (record { each = λ one block hold is. is }) (λ block. omega arith) was_sent (omega arith) (λ node its row is alive of. (of, omega arith)) goes.standing
       (λ node its s content asks own is still only was. goes.reading node s content asks is only was)
       (λ node its row is alive of own. own) (λ node its own apart. absurd (apart own)) (λ node its own. inr refl) (λ node its own. inr refl)
       (λ node write own out none live. absurd (let wrong = out in let no = none in cc))

@@ -1,5 +1,6 @@
 -- What a node has read is handed to it, or nothing has come yet: the nodes stand.
-use Rattle.std.proofs.Common.{◌≡◌, ◌≢◌, ⊎_elim, ◌∙◌, inl, ℕ, ◌+◌, ◌-◌, ◌<◌, ◌≤◌, false, List, Option, Some, None, refl, sym, ap, subst, arith}
+use Rattle.std.proofs.Common.{◌≡◌, ◌≢◌, ◌⊎◌, ⊎_elim, ◌∙◌, inl, inr, ℕ, ◌+◌, ◌-◌, ◌<◌, ◌≤◌, Bool, true, false, eqb, List, Option, Some, None, refl, sym, ap, subst, arith}
+use Rattle.std.proofs.lemmas.Bool.Decides.{nat_tests}
 use Rattle.std.specs.Prelude.{slice_get}
 use Rattle.bx_base.specs.declared.names.Actor.TheVariants.{Node}
 use Rattle.bx_base.specs.declared.names.Mode.{Mode}
@@ -17,6 +18,10 @@ use Rattle.bx_node_machines.proofs.Sending.{fetching}
 use Rattle.bx_node_machines.proofs.Showing.{shown_at}
 use Rattle.bx_node_events.proofs.Keeping.{keeping, shows_own}
 use Rattle.bx_facts.specs.declared.owners.Owners as owners
+use Rattle.bx_global.specs.Allowed.{IsAllowed}
+use Rattle.bx_node_events.proofs.Sparing.{claims_stay, recover_then}
+use Rattle.bx_node_machines.specs.Recoveries.{AreRecovering, IsActive}
+use Rattle.bx_node_machines.proofs.Ongoing.{HasNone, WasActive, one_changes, same_active}
 use Rattle.bx_places.specs.Places.{IsBlock, block_place}
 use Rattle.bx_post.specs.declared.packets.Letter.{Letter}
 use Rattle.bx_records.specs.Drafts.{Block}
@@ -40,7 +45,7 @@ module _ {G O S T : Type 0} (g : register.Ghosts G) (o : owners.Ghosts O) (st : 
     (register_is : G) (owners_are : O) (old new : S) (x : Disks) (letters : List Letter) (clocks : Clocks) (machines : List MachineView) (c : Course) (tree : T)
     (node session : ℕ) (row : SessionRow) (before : MachineView)
     (stands : NodesStand g o st Stands Step register_is owners_are old x letters clocks machines c tree)
-    (up : clocks.down (Node node) ≡ false) (own : o.own owners_are node ≡ Some session)
+    (up : clocks.down (Node node) ≡ false) (own : o.own owners_are node ≡ Some session) (allowed : IsAllowed (last c.register.chain))
     (is_row : row_in (last c.register.chain).sessions session ≡ Some row) (lives : row.dead ≡ 0)
     (there : slice_get machines node ≡ Some before) (mark : before.session ≡ Some session)
     (keeps : st.keeps new x c.store) (made : st.made new ≡ st.made old)
@@ -127,6 +132,37 @@ module _ {G O S T : Type 0} (g : register.Ghosts G) (o : owners.Ghosts O) (st : 
   abbrev about_as : (m : Made) (later : List MachineView) → Type 0
   about_as m later = AreAbout m.devices m.areas (SureBy m) (st.will_read new x c.store) (IsOfNode o.by_boot clocks) (scene_of g o st Stands Step register_is owners_are new x clocks.down later c)
 
+  abbrev recovering_as : (m : Made) (later : List MachineView) → Type 0
+  recovering_as m later = AreRecovering m.devices m.areas (SureBy m) (st.will_read new x c.store) c.register.chain (λ n. c.store.told.knew (Node n)) c.register.proposed (scene_of g o st Stands Step register_is owners_are new x clocks.down later c)
+
+  -- what nodes recover, where each one's read is as it was, or over
+  recovers : (later : List MachineView) → ((other : ℕ) → (st.asked new other ≡ st.asked old other) ⊎ (st.asked new other ≡ None))
+      → ((other its_session : ℕ) (one : MachineView) (its_row : SessionRow) → IsActive (scene_of g o st Stands Step register_is owners_are new x clocks.down later c) other its_session one its_row → WasActive Before other its_session one ⊎ HasNone one)
+      → recovering_as (st.made new) later
+  recovers later asked was = subst (λ (m : Made). recovering_as m later) (sym made)
+      (recover_then g o st Stands Step register_is owners_are old x known c tree machines stands.at allowed (SureBy (st.made old)) (st.will_read new x c.store) c.register.chain (λ n. c.store.told.knew (Node n)) c.register.proposed
+      (scene_of g o st Stands Step register_is owners_are new x clocks.down later c) stands.recovering was (omega arith) (λ gone low has. has)
+      (λ other its_session one one_was its_row row_was gone slot stage active active_was of low claimed apart. inl (record {
+        logs = refl;
+        slots = refl;
+        before = λ d s inside. refl;
+        asked = asked other;
+        out = inl (same other).1;
+        sent = λ write has whose. has;
+        sure = λ d s content near is. sure_on d s content is;
+        reads = λ asks s content was_asked is near sure read. goes.reading other s content asks is sure.only read;
+      }))
+      (claims_stay g o st Stands Step register_is owners_are old x known c tree machines stands.at allowed (IsActive (scene_of g o st Stands Step register_is owners_are new x clocks.down later c)) (λ n. c.store.told.knew (Node n)) (λ other its_session one its_row active. omega arith))
+      (λ other its_session one its_row gone stage active of under_way has. has))
+
+  -- each other node's read is as it was
+  asked_by : (st.asked new node ≡ st.asked old node) ⊎ (st.asked new node ≡ None) → (other : ℕ) → (st.asked new other ≡ st.asked old other) ⊎ (st.asked new other ≡ None)
+  asked_by here other = by (eqb other node) refl
+    where
+      by : (b : Bool) → eqb other node ≡ b → (st.asked new other ≡ st.asked old other) ⊎ (st.asked new other ≡ None)
+      by true is = let e : other ≡ node = grind (arith, nat_tests, is) in subst (λ (n : ℕ). (st.asked new n ≡ st.asked old n) ⊎ (st.asked new n ≡ None)) (sym e) here
+      by false differ = inl (elsewhere other (λ e. grind (arith, nat_tests, differ, e)))
+
   -- Nothing has come yet.
   pub not_yet : st.asked new node ≡ st.asked old node → NodesStand g o st Stands Step register_is owners_are new x letters clocks machines c tree
   not_yet still = record {
@@ -139,6 +175,7 @@ module _ {G O S T : Type 0} (g : register.Ghosts G) (o : owners.Ghosts O) (st : 
         (fetching (st.made old).devices (st.made old).areas (st.will_read old x c.store node) (st.will_read new x c.store node) Before (scene_of g o st Stands Step register_is owners_are new x clocks.down machines c) node session still before.fetch
         (λ block mode allows. allows) (λ block unlogged. unlogged) (λ block mode is allows unwritten. unwritten) (λ block is unlogged i few asks was. reads_on node block is unlogged i few still asks was) its.fetch)
         its.unseen);
+    recovering = recovers machines (asked_by (inl still)) (λ other its_session one its_row active. inl (same_active Before other its_session one its_row (record { there = active.there; marked = active.marked; own = active.own; is_row = active.is_row; lives = active.lives })));
     single = stands.single;
     told = stands.told;
     given = stands.given;
@@ -162,6 +199,8 @@ module _ {G O S T : Type 0} (g : register.Ghosts G) (o : owners.Ghosts O) (st : 
           (slice_get later) (own_up clocks.down (o.own owners_are)) (st.out_of new) (st.asked new) c.owners.holding node session before held away before.hints words.Nothing
           stands.about (λ other. refl) mine (λ other is. stands.single node other session mine is) there mark then_there others
           (λ other. (same other).1) elsewhere sure_on (λ other block mode ne allows. allows) reads_on home none tt);
+      recovering = recovers later (asked_by (inr none))
+          (one_changes Before (scene_of g o st Stands Step register_is owners_are new x clocks.down later c) node before machine there then_there others (λ other. refl) refl refl refl (λ gone recovery is. is) (λ was. tt));
       single = stands.single;
       told = stands.told;
       given = given_on machines later (last c.register.chain).next_session node before machine stands.given there then_there refl others;

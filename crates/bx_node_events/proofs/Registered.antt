@@ -172,6 +172,7 @@ module _ {G O S T : Type 0} (g : register.Ghosts G) (o : owners.Ghosts O) (st : 
         (subst (λ (chain : Chain). g.keeps register_heard y (record c.register { letters = letters ++ heard_box; chain = chain })) same decides.holds)
         (decided.still_at g o st Stands Step register_is register_heard owners_are store_is x y (letters ++ box) (letters ++ heard_box) clocks machines c tree stands allowed legal register_took.rises owners_lose lost.0 goes labels lives alone);
     about = decided.still_about g o st Stands Step register_is register_heard owners_are store_is x y (letters ++ box) (letters ++ heard_box) clocks machines c tree stands allowed legal register_took.rises owners_lose lost.0 goes labels lives alone;
+    recovering = decided.still_recovering g o st Stands Step register_is register_heard owners_are store_is x y (letters ++ box) (letters ++ heard_box) clocks machines c tree stands allowed legal register_took.rises owners_lose lost.0 goes labels lives alone;
     single = stands.single;
     told = told;
     given = stands.given;
@@ -186,6 +187,8 @@ module _ {G O S T : Type 0} (g : register.Ghosts G) (o : owners.Ghosts O) (st : 
         (decided.grown_at g o st Stands Step register_is register_heard owners_are store_is x y (letters ++ box) (letters ++ heard_box) clocks machines c tree stands allowed legal register_took.rises owners_lose lost.0 goes labels lives alone
         decision proposed law (laws.owners_grow owners_are) (laws.apart owners_are) (laws.stores_grow store_is y));
     about = decided.grown_about g o st Stands Step register_is register_heard owners_are store_is x y (letters ++ box) (letters ++ heard_box) clocks machines c tree stands allowed legal register_took.rises owners_lose lost.0 goes labels lives alone
+        decision proposed law (laws.owners_grow owners_are) (laws.apart owners_are) (laws.stores_grow store_is y);
+    recovering = decided.grown_recovering g o st Stands Step register_is register_heard owners_are store_is x y (letters ++ box) (letters ++ heard_box) clocks machines c tree stands allowed legal register_took.rises owners_lose lost.0 goes labels lives alone
         decision proposed law (laws.owners_grow owners_are) (laws.apart owners_are) (laws.stores_grow store_is y);
     single = stands.single;
     told = told;

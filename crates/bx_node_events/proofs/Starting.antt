@@ -191,10 +191,10 @@ module _ {G O S T : Type 0} (g : register.Ghosts G) (o : owners.Ghosts O) (st : 
 
   stand_then : NodesStand g o st Stands Step register_then owners_then store_then z (letters ++ box_then) clocks_then machines course_then tree
   stand_then = passing.passes g o st Stands Step register_is register_then owners_are owners_then store_is store_then x z (letters ++ box) (letters ++ box_then) clocks clocks_then machines c tree
-      course_then.register course_then.owners course_then.store stands.at stands.about stands.given
+      course_then.register course_then.owners course_then.store stands.at stands.about stands.recovering stands.given
       (record { each = λ s there. laws.allowed register_is x c.register s stands.at.parts.register_keeps there })
       (laws.legal register_is x c.register stands.at.parts.register_keeps)
-      at_then store_starts.made
+      at_then store_starts.made (λ gone by there. there)
       (record { each = λ session block hold is. is }) (λ block. omega arith) (λ write has. has) (omega arith)
       (λ node its row is alive of.
       let differ = other_of node its row is alive of in

@@ -12,6 +12,8 @@ use Rattle.bx_facts.specs.Holds.{OwnersPast, owners_crashed}
 use Rattle.bx_facts.specs.Machines.{is_same, put_at}
 use Rattle.bx_facts.specs.Pasts.{RegisterPast, register_crashed}
 use Rattle.bx_facts.specs.Writes.{Asked, IsOnly, Sent, StorePast, store_crashed}
+use Rattle.bx_global.specs.declared.change.Change.{Change}
+use Rattle.bx_global.specs.declared.change.Change.TheVariants.{Close}
 use Rattle.bx_global.specs.declared.state.GlobalState.{GlobalState}
 use Rattle.bx_node_events.proofs.Passing as passing
 use Rattle.bx_node_events.proofs.Registered.{HandedLaws}
@@ -104,10 +106,10 @@ module _ {G O S T : Type 0} (g : register.Ghosts G) (o : owners.Ghosts O) (st : 
   -- The nodes stand, whatever the machine has.
   pub stays_down : NodesStand g o st Stands Step register_then owners_then store_then y letters clocks_then machines course_then tree
   stays_down = passing.passes g o st Stands Step register_is register_then owners_are owners_then store_is store_then x y letters letters clocks clocks_then machines c tree r op sp
-      stands.at stands.about stands.given
+      stands.at stands.about stands.recovering stands.given
       (record { each = λ s there. laws.allowed register_is x c.register s stands.at.parts.register_keeps there })
       (laws.legal register_is x c.register stands.at.parts.register_keeps)
-      at_then parts.made is.holds is.floor
+      at_then parts.made (λ gone by there. subst (λ (l : List Change). Contains l (Close gone by)) is.proposed there) is.holds is.floor
       (λ write has. subst (λ (l : List Sent). Contains l write) is.writes has) is.later
       (λ node its row has alive of.
       let was = still_up (Node node) of.up in
@@ -212,6 +214,7 @@ pub but_for : {G O S T : Type 0} (g : register.Ghosts G) (o : owners.Ghosts O) (
 but_for g o st Stands Step register_is owners_are store_is x who letters clocks machines c tree stands = record {
   at = stands.at;
   about = stands.about;
+  recovering = stands.recovering;
   single = stands.single;
   told = λ node session differ own. stands.told node session own;
   given = stands.given;
@@ -224,6 +227,7 @@ pub but_none : {G O S T : Type 0} (g : register.Ghosts G) (o : owners.Ghosts O) 
 but_none g o st Stands Step register_is owners_are store_is x who letters clocks machines c tree none but = record {
   at = but.at;
   about = but.about;
+  recovering = but.recovering;
   single = but.single;
   told = λ node session own. but.told node session (none node) own;
   given = but.given;

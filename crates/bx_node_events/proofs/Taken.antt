@@ -19,6 +19,7 @@ use Rattle.bx_global.specs.declared.state.GlobalState.{GlobalState}
 use Rattle.bx_node_events.specs.Works.{KeepsWorks}
 use Rattle.bx_node_events.proofs.Hears as hearing
 use Rattle.bx_node_machines.specs.Machines.{AreAbout, MachineView}
+use Rattle.bx_node_machines.specs.Recoveries.{AreRecovering}
 use Rattle.bx_node_machines.specs.Nodes.{IsOfNode, NodesStand, known_of, scene_of}
 use Rattle.bx_facts.specs.declared.owners.Owners as owners
 use Rattle.bx_post.specs.declared.packets.Letter.{Letter}
@@ -95,6 +96,7 @@ module _ {G O S T : Type 0} (g : register.Ghosts G) (o : owners.Ghosts O) (st : 
   tighten register_is owners_are store_is x letters clocks machines c tree keeps stands = record {
     at = tightened register_is owners_are store_is x letters clocks machines c tree keeps stands.at;
     about = stands.about;
+    recovering = stands.recovering;
     single = stands.single;
     told = stands.told;
     given = stands.given;
@@ -155,6 +157,8 @@ module _ {G O S T : Type 0} (g : register.Ghosts G) (o : owners.Ghosts O) (st : 
     (at : StandsAt (loose g) o st Stands Step register_heard owners_are store_is y (known_of (loose g) o st Stands Step register_heard owners_are store_is y heard_letters clocks machines) c tree)
     (about : AreAbout (st.made store_is).devices (st.made store_is).areas (SureOf (loose g) o st Stands Step register_heard owners_are store_is y (known_of (loose g) o st Stands Step register_heard owners_are store_is y heard_letters clocks machines) c)
     (st.will_read store_is y c.store) (IsOfNode o.by_boot clocks) (scene_of (loose g) o st Stands Step register_heard owners_are store_is y clocks.down machines c))
+    (recovering : AreRecovering (st.made store_is).devices (st.made store_is).areas (SureOf (loose g) o st Stands Step register_heard owners_are store_is y (known_of (loose g) o st Stands Step register_heard owners_are store_is y heard_letters clocks machines) c)
+    (st.will_read store_is y c.store) c.register.chain (λ n. c.store.told.knew (Node n)) c.register.proposed (scene_of (loose g) o st Stands Step register_heard owners_are store_is y clocks.down machines c))
     (given : (node session : ℕ) (machine : MachineView) → slice_get machines node ≡ Some machine → machine.session ≡ Some session → session < (last c.register.chain).next_session)
     (allowed : AreAllowed c.register.chain) (legal : AreLegal c.register.chain.first c.register.chain.changes)
     (up : clocks.down who ≡ false) (place : IsPlace c.register.chain (g.knows register_heard who)) (steady : IsSteady clocks.greatest input) (comes : IsComing heard_letters input)
@@ -181,10 +185,10 @@ module _ {G O S T : Type 0} (g : register.Ghosts G) (o : owners.Ghosts O) (st : 
   -- The nodes stand.
   pub takes : (course : Course) × (course.register.chain ≡ c.register.chain) × NodesStand g o st Stands Step register_then owners_then store_then z then_letters (heard_clocks clocks input) machines course tree × (course.logs ≡ c.logs) × KeepsWorks c course
   takes = (
-    hearing.then_is (loose g) o st Stands Step register_heard register_then owners_are owners_then store_is store_then y z heard_letters then_letters clocks machines c tree who (g.knows register_heard who) input owners_change store_change proposal holds.holding at about given allowed legal up place (at.parts.store_knew who),
+    hearing.then_is (loose g) o st Stands Step register_heard register_then owners_are owners_then store_is store_then y z heard_letters then_letters clocks machines c tree who (g.knows register_heard who) input owners_change store_change proposal holds.holding at about recovering given allowed legal up place (at.parts.store_knew who),
     refl,
     tighten g o st Stands Step register_then owners_then store_then z then_letters (heard_clocks clocks input) machines _ tree register_keeps
-        (hearing.heard (loose g) o st Stands Step register_heard register_then owners_are owners_then store_is store_then y z heard_letters then_letters clocks machines c tree who (g.knows register_heard who) input owners_change store_change proposal holds.holding at about given allowed legal up place (at.parts.store_knew who)
+        (hearing.heard (loose g) o st Stands Step register_heard register_then owners_are owners_then store_is store_then y z heard_letters then_letters clocks machines c tree who (g.knows register_heard who) input owners_change store_change proposal holds.holding at about recovering given allowed legal up place (at.parts.store_knew who)
         tt (λ other. let e = ap (λ (one : GlobalState). one.index) (same_knows other) in omega (arith, e)) (let e = ap (λ (one : GlobalState). one.index) (same_knows who) in omega (arith, e)) proposes holds.stands holds.may
         takes_owners.others (λ node same. takes_owners.session node may_o same ∙ ap (λ (n : ℕ). session_by o.by_boot (g.knows register_heard who) node n) (at.pasts.owners_boots who up))
         (takes_store.keeps may_s) (λ d sector content index only was. takes_store.standing d sector content index may_s only was) (λ node sector content asks is still only was. takes_store.reading node sector content asks may_s is still only was)

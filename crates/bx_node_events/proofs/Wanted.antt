@@ -1,5 +1,5 @@
 -- A node whose log rests lets a block go, and its session gives it up or wants it otherwise: the nodes stand.
-use Rattle.std.proofs.Common.{◌≡◌, ◌≢◌, ◌⊎◌, ⊎_elim, inl, inr, ◌∙◌, ℕ, ◌+◌, ◌<◌, false, List, Contains, Option, Some, None, refl, sym, ap, subst}
+use Rattle.std.proofs.Common.{◌≡◌, ◌≢◌, ◌⊎◌, ⊎_elim, inl, inr, ◌∙◌, ℕ, ◌+◌, ◌<◌, false, List, Contains, Option, Some, None, refl, sym, ap, subst, arith}
 use Rattle.std.specs.Prelude.{if◌then◌else◌, slice_get}
 use Rattle.bx_base.specs.declared.names.Actor.TheVariants.{Node}
 use Rattle.bx_base.specs.declared.names.Mode.{Mode}
@@ -18,6 +18,11 @@ use Rattle.bx_node_views.specs.Changes.{Hides}
 use Rattle.bx_node_events.proofs.Keeping.{keeping, shows_own}
 use Rattle.bx_node_events.proofs.Unlogged.{none_in}
 use Rattle.bx_facts.specs.declared.owners.Owners as owners
+use Rattle.bx_global.specs.Allowed.{IsAllowed}
+use Rattle.bx_node_events.proofs.Sparing.{claims_stay, recover_then}
+use Rattle.bx_node_machines.specs.Recoveries.{IsActive, RecoversNone, SuitsStage, around_in}
+use Rattle.bx_node_machines.proofs.Going.{SparesSlot}
+use Rattle.bx_node_machines.proofs.Ongoing.{one_changes}
 use Rattle.bx_places.specs.Places.{IsBlock, block_place}
 use Rattle.bx_post.specs.declared.packets.Letter.{Letter}
 use Rattle.bx_records.specs.Drafts.{Block as Content}
@@ -52,7 +57,7 @@ module _ {G O S T : Type 0} (g : register.Ghosts G) (o : owners.Ghosts O) (st : 
     (register_is : G) (owners_are owners_then : O) (store_is : S) (x : Disks) (letters then_letters : List Letter) (clocks : Clocks) (machines later : List MachineView) (c : Course) (tree : T)
     (node session block : ℕ) (row : SessionRow) (before : MachineView) (held : Held) (away : ℕ → Option Content) (hints : Hints) (fetch : Fetch) (holding : Holds) (floor : ℕ → ℕ)
     (stands : NodesStand g o st Stands Step register_is owners_are store_is x letters clocks machines c tree)
-    (up : clocks.down (Node node) ≡ false) (own : o.own owners_are node ≡ Some session)
+    (up : clocks.down (Node node) ≡ false) (own : o.own owners_are node ≡ Some session) (allowed : IsAllowed (last c.register.chain))
     (is_row : row_in (last c.register.chain).sessions session ≡ Some row) (lives : row.dead ≡ 0)
     (there : slice_get machines node ≡ Some before) (mark : before.session ≡ Some session) (rests : before.stage ≡ words.Idle)
     (then_there : slice_get later node ≡ Some (record before { held = held; away = away; hints = hints; fetch = fetch })) (others : (other : ℕ) → other ≢ node → slice_get later other ≡ slice_get machines other)
@@ -126,6 +131,7 @@ module _ {G O S T : Type 0} (g : register.Ghosts G) (o : owners.Ghosts O) (st : 
       ne : at ≢ block
       ne e = other mode (ap (λ (n : ℕ). words.Block n mode) e)
   still_fetching words.Dropped other is unseen = (is, unseen)
+  still_fetching words.OfLog other is unseen = (is, unseen)
 
   fetching : (then_fetch : Fetch) → LeavesFetch block before.fetch then_fetch
       → IsFetching (st.made store_is).devices (st.made store_is).areas (st.will_read store_is x (with_holds c then_letters holding floor).store node) Then node session then_fetch × IsUnseen held then_fetch
@@ -149,6 +155,23 @@ module _ {G O S T : Type 0} (g : register.Ghosts G) (o : owners.Ghosts O) (st : 
     shows_then : shown (slice_get later node) (o.own owners_then node) ≡ held
     shows_then = shows_own (slice_get later node) (o.own owners_then node) machine session then_there (same_own node ∙ own) mark
 
+    suits : (then_fetch : Fetch) → LeavesFetch block before.fetch then_fetch → SuitsStage before.stage before.fetch → SuitsStage before.stage then_fetch
+    suits words.Dropped Drops was = subst (λ (stage : Stage). RecoversNone stage) (sym rests) tt
+    suits then_fetch (Stays other) was = was
+
+    spares : (other its_session slot : ℕ) → SparesSlot (st.made store_is).devices (st.made store_is).areas Sure_before Sure_then (st.will_read store_is x c.store other) (st.will_read store_is x (with_holds c then_letters holding floor).store other)
+        (around_in Before other) (around_in Then other) its_session slot
+    spares other its_session slot = record {
+      logs = refl;
+      slots = refl;
+      before = λ d s inside. refl;
+      asked = inl refl;
+      out = inl refl;
+      sent = λ write there_is whose. there_is;
+      sure = λ d s content near is. sure_on d s content is;
+      reads = λ asks s content was is near sure read. goes.reading other s content asks was sure.only read;
+    }
+
     pub released : NodesStand g o st Stands Step register_is owners_then store_is x then_letters clocks later (with_holds c then_letters holding floor) tree
     released = record {
       at = let_go_at g o st Stands Step register_is owners_are owners_then store_is x known c tree node session block row then_letters holding floor (λ n. shown (slice_get later n) (o.own owners_then n)) (λ n. hinted (slice_get later n)) stands.at
@@ -169,6 +192,11 @@ module _ {G O S T : Type 0} (g : register.Ghosts G) (o : owners.Ghosts O) (st : 
           (λ other. refl) (λ other ne. refl) sure_on
           (λ other at mode ne allowed. allows_still c.owners.holding holding other at mode (λ hold was. keeps.other_sessions other at hold ne was) allowed)
           (λ reader at is unlogged i few still asked was. reads_on reader at is unlogged i few asked was) same_away (fetching fetch reads).0 (fetching fetch reads).1;
+      recovering = recover_then g o st Stands Step register_is owners_are store_is x known c tree machines stands.at allowed Sure_then (st.will_read store_is x (with_holds c then_letters holding floor).store) c.register.chain (λ n. c.store.told.knew (Node n)) c.register.proposed Then
+          stands.recovering (one_changes Before Then node before machine there then_there others same_up refl refl refl (λ gone recovery is. is) (suits fetch reads)) (omega arith) (λ gone low has. has)
+          (λ other its_session one was row_then row_was gone slot its_stage active active_was of low claimed apart_is. inl (spares other its_session slot))
+          (claims_stay g o st Stands Step register_is owners_are store_is x known c tree machines stands.at allowed (IsActive Then) (λ n. c.store.told.knew (Node n)) (λ other its_session one row_then active. omega arith))
+          (λ other its_session one row_then gone its_stage active of under_way has. has);
       single = λ n other s is is_other. stands.single n other s (sym (same_up n) ∙ is) (sym (same_up other) ∙ is_other);
       told = λ n s is. stands.told n s (sym (same_up n) ∙ is);
       given = given_on machines later (last c.register.chain).next_session node before machine stands.given there then_there refl others;

@@ -6,11 +6,9 @@ use Rattle.bx_facts.specs.declared.register.Register as register
 use Rattle.bx_facts.specs.declared.store.Store as store
 use Rattle.bx_facts.specs.Chains.{HasRow, LivesIn, last, oldest}
 use Rattle.bx_facts.specs.Holds.{Hold}
-use Rattle.bx_facts.specs.Writes.{IsOnly, Made, MayWrite, Sent, StorePast, WritesIn, WritesTo}
+use Rattle.bx_facts.specs.Writes.{Asked, IsOnly, Made, MayWrite, Sent, StorePast, WritesIn, WritesTo}
 use Rattle.bx_global.specs.Allowed.{IsAllowed}
-use Rattle.bx_global.specs.declared.change.Change.TheVariants.{Close}
 use Rattle.bx_node_landings.specs.bx_node_closings.proofs.Sends.{sends}
-use Rattle.bx_node_machines.specs.Machines.{home_of}
 use Rattle.bx_node_machines.proofs.Owning as owning
 use Rattle.bx_node_sends.proofs.Sent.{surely_on, with_write}
 use Rattle.bx_facts.specs.declared.owners.Owners as owners
@@ -46,7 +44,7 @@ pub record IsHanded {S : Type 0} (st : store.Ghosts S) (old new : S) (x : Disks)
   pub asked : (other : ℕ) → st.asked new other ≡ st.asked old other
   pub is_out : st.out_of new node ≡ Some write
   pub stands : (d s : ℕ) (content : List ℕ) (index : ℕ) → IsOnly (write ∷ past.writes) past.told.greatest d s content → st.stands old x past d s content index → st.stands new x (store_sent past letters write) d s content index
-  pub reads : (reader d s : ℕ) (content : List ℕ) → IsOnly (write ∷ past.writes) past.told.greatest d s content → (block : ℕ) → st.asked old reader ≡ Some (home_of (st.made old).devices block) → d ≡ (block_place block (st.made old).devices).0
+  pub reads : (reader s : ℕ) (content : List ℕ) (asks : Asked) → st.asked old reader ≡ Some asks → IsOnly (write ∷ past.writes) past.told.greatest asks.device s content
       → st.will_read old x past reader s content → st.will_read new x (store_sent past letters write) reader s content
 
 -- A session's write is handed to a store, and ends with its lease; once it may be sent, the store says what comes of it. The other parts fit that too; and by
@@ -68,11 +66,11 @@ SureBehind o st owners_are made new x clocks c letters write = Surely (st.stands
     (IsWithin made.devices made.areas c.register.chain c.owners.holding c.owners.floor (IsOfNode o.by_boot clocks) (λ n. c.store.told.knew (Node n)))
     (write ∷ c.store.writes) c.store.told.greatest
 
--- A session may send a write: it may write each of its sectors, none of which is of a slot whose closing it proposed, or of a home that no log has; and the
+-- A session may send a write: it may write each of its sectors, none of which is of another session's slot, or of a home that no log has; and the
 -- logs stand without them.
 pub record MaySend (devices areas : ℕ) (Sure_then : ℕ → ℕ → List ℕ → Type 0) (c : Course) (session : ℕ) (write : Sent) : Type 0 where
   pub may : (d sector : ℕ) (content : List ℕ) → WritesTo write d sector content → MayTouch devices areas (last c.register.chain) c.owners.holding c.logs c.slots session d sector
-  pub unclosed : (gone d s : ℕ) (row : SessionRow) (content : List ℕ) → Contains c.register.proposed (Close gone session) → row_in (last c.register.chain).sessions gone ≡ Some row → WritesTo write d s content → IsOfSlot devices row.slot d s → ⊥
+  pub elsewhere : (other d s : ℕ) (row : SessionRow) (content : List ℕ) → other ≢ session → row_in (last c.register.chain).sessions other ≡ Some row → WritesTo write d s content → IsOfSlot devices row.slot d s → ⊥
   pub homes : (block i : ℕ) (content : List ℕ) → IsBlock areas block → IsUnlogged c.logs block → i < 9 → WritesTo write (block_place block devices).0 ((block_place block devices).1 + i) content → ⊥
   pub logs : LogsStand Sure_then devices areas (last c.register.chain).sessions c.before c.logs c.slots c.truth
 
@@ -101,10 +99,9 @@ module _ {G O S T : Type 0} (g : register.Ghosts G) (o : owners.Ghosts O) (st : 
       → MaySend (st.made old).devices (st.made old).areas (SureBehind o st owners_are (st.made old) new x known.clocks c letters write) c session write
   of_work new letters node handed = record {
     may = λ d sector content w. touches c.logs c.slots d sector content w;
-    unclosed = λ gone d s its content there is_its w inside.
+    elsewhere = λ other d s its content ne is_its w inside.
         let e : its.slot ≡ row.slot = one_place d s its.slot inside (in_slot d s content w) in
-        let f = one_slot (last c.register.chain).sessions gone session its row allowed.own_slots is_its is_row e in
-        (at.closings gone session there).dead (subst (λ (n : ℕ). LivesIn (last c.register.chain) n) (sym f) (lives_of (last c.register.chain) session row is_row lives));
+        ne (one_slot (last c.register.chain).sessions other session its row allowed.own_slots is_its is_row e);
     homes = λ block i content is unlogged few w.
         let inside = in_slot (block_place block (st.made old).devices).0 ((block_place block (st.made old).devices).1 + i) content w in
         home_in_none block (st.made old).devices row.slot i low (record { from = inside.from; to = inside.to });

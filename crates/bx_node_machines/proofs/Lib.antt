@@ -1,7 +1,9 @@
 pub mod Downing
+pub mod Going
 pub mod Growing
 pub mod Hearing
 pub mod Leaving
+pub mod Ongoing
 pub mod Owning
 pub mod Renewed
 pub mod Sending

@@ -162,6 +162,12 @@ module _ {G O S T : Type 0} (g : register.Ghosts G) (o : owners.Ghosts O) (st : 
       };
       marked = λ node session machine row of there marked has live. absurd (is_unmarked machines nothing node session machine there marked);
     };
+    recovering = record {
+      under = λ node session machine row active gone recovery under_way. absurd (is_unmarked machines nothing node session machine active.there active.marked);
+      finished = λ node session machine row active gone has has_row. absurd (is_unmarked machines nothing node session machine active.there active.marked);
+      given = λ node session machine row active gone has. absurd (is_unmarked machines nothing node session machine active.there active.marked);
+      suits = λ node session machine row active. absurd (is_unmarked machines nothing node session machine active.there active.marked);
+    };
     single = λ node other session own also. absurd (let wrong = own in cc);
     told = λ node session own. absurd (let wrong = own in cc);
     given = λ node session machine there marked. absurd (is_unmarked machines nothing node session machine there marked);

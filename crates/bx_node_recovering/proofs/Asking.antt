@@ -1,13 +1,13 @@
 -- A recovery asks for the gates, and for bodies, and reads them.
-use Rattle.std.proofs.Common.{◌≡◌, ◌≢◌, ◌⊎◌, ⊎_elim, inl, inr, ◌∙◌, ℕ, ◌+◌, ◌*◌, ◌<◌, true, List, [], ◌∷◌, ◌++◌, length, Option, Some, None, refl, sym, ap, subst, arith}
+use Rattle.std.proofs.Common.{◌≡◌, ◌≢◌, ⊎_elim, inl, inr, ◌∙◌, ℕ, ◌+◌, ◌*◌, ◌<◌, true, List, [], ◌∷◌, ◌++◌, length, Option, Some, None, refl, sym, ap, subst, arith}
 use Rattle.std.proofs.lemmas.List.{length-append}
 use Rattle.bx_disk.specs.Disks.{sector_of}
 use Rattle.bx_facts.specs.Chains.{Chain}
 use Rattle.bx_facts.specs.Writes.{Sent, WritesIn}
 use Rattle.bx_global.specs.declared.change.Change.{Change}
 use Rattle.bx_node_machines.specs.Machines.{IsWriting}
-use Rattle.bx_node_recovering.specs.Recovering.{AreBodiesAsRead, AreSettled, Around, HasReadNone, IsBodyAsRead, IsRecovering, IsFilled, IsStill, body_asked, body_read, gates_asked, gates_back}
-use Rattle.bx_node_recovers.proofs.Read.{recovery_of}
+use Rattle.bx_node_machines.specs.Recovering.{AreBodiesAsRead, AreSettled, Around, HasReadNone, IsBodyAsRead, IsRecovering, IsFilled, IsStill, body_asked, body_read, gates_asked, gates_back}
+use Rattle.bx_node_machines.specs.Recovering.{recovery_of}
 use Rattle.bx_places.specs.Places.{body_place, gate_place, log_device, log_start}
 use Rattle.bx_records.specs.Runs.{KindAndRuns}
 use Rattle.bx_recover.specs.Bodies.{IsRecordIn}

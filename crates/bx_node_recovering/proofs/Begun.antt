@@ -1,5 +1,5 @@
 -- A recovery is new: its node knows a state by which its session has claimed one that is dead.
-use Rattle.std.proofs.Common.{◌≡◌, ◌≢◌, inl, inr, ◌∙◌, ℕ, ◌<◌, ◌≤◌, List, [], ◌∷◌, Contains, None, refl, sym, ap, subst, arith}
+use Rattle.std.proofs.Common.{◌≡◌, ◌≢◌, inl, inr, ◌∙◌, ℕ, ◌≤◌, List, [], ◌∷◌, Contains, None, refl, sym, ap, subst, arith}
 use Rattle.bx_base.specs.declared.names.Actor.TheVariants.{Node}
 use Rattle.bx_disk.specs.Disks.{Disks}
 use Rattle.bx_facts.specs.declared.owners.Owners as owners
@@ -11,7 +11,7 @@ use Rattle.bx_global.specs.declared.change.Change.{Change}
 use Rattle.bx_global.specs.declared.change.Change.TheVariants.{Close}
 use Rattle.bx_global.specs.declared.state.GlobalState.{GlobalState}
 use Rattle.bx_global.proofs.Rising.{index_rises}
-use Rattle.bx_node_recovering.specs.Recovering.{Recovers}
+use Rattle.bx_node_machines.specs.Recovering.{Recovers}
 use Rattle.bx_recover.specs.declared.stage.Stage.TheVariants.{Begins}
 use Rattle.bx_views.specs.Attempts.{Deed}
 use Rattle.bx_views.specs.Truths.{Hints, Truth}

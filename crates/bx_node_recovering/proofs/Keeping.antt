@@ -1,69 +1,40 @@
--- What a recovery keeps where something else happens: the chain grows, other machines hear something, other slots' works go on.
-use Rattle.std.proofs.Common.{◌≡◌, ◌≢◌, ◌⊎◌, ⊎_elim, inl, inr, ◌∙◌, ℕ, ◌+◌, ◌*◌, ◌<◌, ◌≤◌, Bool, true, false, List, ◌∷◌, Contains, length, Option, Some, None, refl, sym, ap, subst, arith}
+-- What a recovery asks for will be read as it stands; and its slot is spared where another slot's work goes on, or another session's write is sent.
+use Rattle.std.proofs.Common.{◌≡◌, ◌≢◌, ⊎_elim, inl, ◌∙◌, ℕ, ◌+◌, ◌<◌, ◌≤◌, List, ◌∷◌, Some, refl, sym, ap, subst, arith}
 use Rattle.bx_base.specs.declared.names.Actor.TheVariants.{Node}
 use Rattle.bx_disk.specs.Disks.{Disks, Image}
 use Rattle.bx_facts.specs.declared.owners.Owners as owners
 use Rattle.bx_facts.specs.declared.register.Register as register
 use Rattle.bx_facts.specs.declared.store.Store as store
-use Rattle.bx_facts.specs.Chains.{Chain, HasRow, IsPlace, LivesIn, grown, last, oldest}
+use Rattle.bx_facts.specs.Chains.{HasRow, IsPlace, LivesIn, last, oldest}
 use Rattle.bx_facts.specs.Holds.{Hold}
-use Rattle.bx_facts.specs.Writes.{Asked, GoesOn, IsOnly, Made, Sent, WritesTo, store_grown}
+use Rattle.bx_facts.specs.Writes.{Asked, IsOnly, Made, Sent, WritesTo}
 use Rattle.bx_facts.proofs.Lists.{front_or_behind}
 use Rattle.bx_global.specs.Allowed.{IsAllowed}
-use Rattle.bx_global.specs.declared.change.Change.{Change}
-use Rattle.bx_global.specs.declared.change.Change.TheVariants.{Close}
 use Rattle.bx_global.specs.declared.state.GlobalState.{GlobalState}
-use Rattle.bx_global.specs.Table.{IsLegal, effect}
 use Rattle.bx_node_landings.proofs.Landed.{with_landed}
-use Rattle.bx_node_recovering.specs.Recovering.{Around, IsFilled, IsRecovering, IsStill, Recovers, around, body_asked, gates_asked}
-use Rattle.bx_node_recovering.proofs.Going.{IsNear, LeavesSlot, body_low, filled_sure, goes_on}
-use Rattle.bx_node_recovering.proofs.Sending.{few_records, log_of, slot_low}
+use Rattle.bx_node_machines.specs.Recovering.{IsFilled, IsStill, Recovers, around}
+use Rattle.bx_node_machines.proofs.Going.{IsNear, SparesSlot, body_low, filled_sure}
+use Rattle.bx_node_events.proofs.Sparing.{few_records, log_of, near_touches, slot_low}
 use Rattle.bx_node_sends.proofs.Sent.{with_write}
 use Rattle.bx_node_views.proofs.Touching.{touch_clash}
-use Rattle.bx_places.specs.Places.{body_place, gate_place, log_device, log_start}
+use Rattle.bx_places.specs.Places.{body_place, gate_place}
 use Rattle.bx_post.specs.declared.packets.Letter.{Letter}
 use Rattle.bx_recover.specs.declared.stage.Stage.{Stage}
-use Rattle.bx_rows.specs.declared.session.SessionRow.{SessionRow}
-use Rattle.bx_rows.specs.Words.{row_in}
 use Rattle.bx_views.specs.Attempts.{Deed}
 use Rattle.bx_views.specs.Truths.{Hints, Truth}
 use Rattle.bx_volume.specs.Overlay.{Logs}
 use Rattle.bx_volume.specs.Records.{Logged, gate_of}
 use Rattle.bx_world_chains.specs.Entitled.{AreAllowed, IsEntitled}
-use Rattle.bx_world_chains.proofs.Chains.{index_most, last_place}
-use Rattle.bx_world_chains.proofs.Changed.{closed_or}
-use Rattle.bx_world_chains.proofs.Rows.{entitled_after, has_of, lives_row, one_entitled}
+use Rattle.bx_world_chains.proofs.Chains.{last_place}
+use Rattle.bx_world_chains.proofs.Rows.{has_of, lives_row}
 use Rattle.bx_world_logs.specs.Logs.{Slot}
 use Rattle.bx_world_logs.proofs.Moving.{slot_there}
-use Rattle.bx_world_stays.proofs.Drops.{dropped_course}
 use Rattle.bx_world_standing.specs.Rights.{IsOfSlot, IsToldOf, IsWithin, MayTouch, Surely}
-use Rattle.bx_world_standing.specs.Rights.MayTouch.{OfLogged, OfSlot}
 use Rattle.bx_world_standing.specs.Sessions.{IsOfNode}
 use Rattle.bx_world_standing.specs.Standing.{Course, Known, StandsAt, SureOf, own_up}
-use Rattle.bx_world_standing.proofs.Grown.{surely_goes}
-use Rattle.bx_world_standing.proofs.Grows.{grown_course}
-use Rattle.bx_world_standing.proofs.Owns.{of_before}
 use Rattle.bx_world_standing.proofs.Told.{own_of_node}
 
--- ---- nothing happens to logs
-
--- Where logs, what is under way and the writes that members may take are as they were, and so is what the devices hold, a slot stays.
-pub stays_so : (devices areas : ℕ) (Sure Sure_then : ℕ → ℕ → List ℕ → Type 0) (Reads Reads_then : ℕ → List ℕ → Type 0) (a b : Around) (session slot : ℕ)
-    → b.logs ≡ a.logs → b.slots ≡ a.slots → b.before ≡ a.before → b.sent ≡ a.sent → (b.asked ≡ a.asked) ⊎ (b.asked ≡ None)
-    → (b.out ≡ a.out) ⊎ ((b.out ≡ None) × ((write : Sent) (d s : ℕ) (content : List ℕ) → a.out ≡ Some write → IsNear devices areas slot (a.logs slot) d s → WritesTo write d s content → Sure_then d s content))
-    → ((d s : ℕ) (content : List ℕ) → Sure d s content → Sure_then d s content)
-    → ((asks : Asked) (s : ℕ) (content : List ℕ) → a.asked ≡ Some asks → b.asked ≡ Some asks → Sure asks.device s content → Reads s content → Reads_then s content)
-    → LeavesSlot devices areas Sure Sure_then Reads Reads_then a b session slot
-stays_so devices areas Sure Sure_then Reads Reads_then a b session slot logs slots before sent asked out sure reads = record {
-  logs = ap (λ (l : Logs). l slot) logs;
-  slots = ap (λ (l : ℕ → Slot). l slot) slots;
-  before = λ d s inside. ap (λ (image : Image). image d s) before;
-  asked = asked;
-  out = out;
-  sent = λ write there whose. subst (λ (l : List Sent). Contains l write) sent there;
-  sure = λ d s content near is. sure d s content is;
-  reads = λ asks s content was is near sure read. reads asks s content was is sure read;
-}
+-- ---- what is asked for
 
 module _ {G O S T : Type 0} (g : register.Ghosts G) (o : owners.Ghosts O) (st : store.Ghosts S) (Stands : Truth → Hints → T → Type 0) (Step_is : T → Deed → T → Type 0)
     (register_is : G) (owners_are : O) (store_is : S) (x : Disks) (known : Known) (c : Course) (tree : T) (node session gone slot : ℕ) (stage : Stage) (records : List Logged)
@@ -71,25 +42,6 @@ module _ {G O S T : Type 0} (g : register.Ghosts G) (o : owners.Ghosts O) (st : 
     (was : Recovers g o st Stands Step_is register_is owners_are store_is x known c node session gone slot stage records) where
   allowed_last : IsAllowed (last c.register.chain)
   allowed_last = allowed.each (last c.register.chain) (last_place c.register.chain)
-
-  -- By what leaves its slot, a recovery goes on where a cluster stands then.
-  pub recovers_then : {H P Q : Type 0} (g_then : register.Ghosts H) (o_then : owners.Ghosts P) (st_then : store.Ghosts Q) (register_then : H) (owners_then : P) (store_then : Q) (y : Disks) (known_then : Known) (later : Course) → (st_then.made store_then) ≡ (st.made store_is)
-      → LeavesSlot (st.made store_is).devices (st.made store_is).areas (SureOf g o st Stands Step_is register_is owners_are store_is x known c) (SureOf g_then o_then st_then Stands Step_is register_then owners_then store_then y known_then later)
-      (st.will_read store_is x c.store node) (st_then.will_read store_then y later.store node)
-      (around g o st Stands Step_is register_is owners_are store_is x known c node) (around g_then o_then st_then Stands Step_is register_then owners_then store_then y known_then later node) session slot
-      → IsEntitled (last later.register.chain) gone slot session → ((s : GlobalState) → IsPlace later.register.chain s → later.store.told.knew (Node node) ≤ s.index → IsEntitled s gone slot session)
-      → (Contains later.register.proposed (Close gone session) → Contains c.register.proposed (Close gone session))
-      → Recovers g_then o_then st_then Stands Step_is register_then owners_then store_then y known_then later node session gone slot stage records
-  recovers_then g_then o_then st_then register_then owners_then store_then y known_then later made leaves claimed knows back =
-      subst (λ (m : Made). IsRecovering m.devices m.areas (SureOf g_then o_then st_then Stands Step_is register_then owners_then store_then y known_then later) (st_then.will_read store_then y later.store node)
-      later.register.chain (later.store.told.knew (Node node)) later.register.proposed (around g_then o_then st_then Stands Step_is register_then owners_then store_then y known_then later node) session gone slot stage records) (sym made)
-      (goes_on (st.made store_is).devices (st.made store_is).areas (SureOf g o st Stands Step_is register_is owners_are store_is x known c) (SureOf g_then o_then st_then Stands Step_is register_then owners_then store_then y known_then later)
-      (st.will_read store_is x c.store node) (st_then.will_read store_then y later.store node)
-      (around g o st Stands Step_is register_is owners_are store_is x known c node) (around g_then o_then st_then Stands Step_is register_then owners_then store_then y known_then later node) session slot leaves
-      (slot_low g o st Stands Step_is register_is owners_are store_is x known c tree at gone slot session allowed_last was.claimed)
-      (log_of g o st Stands Step_is register_is owners_are store_is x known c tree at gone slot session allowed_last was.claimed)
-      (few_records g o st Stands Step_is register_is owners_are store_is x known c tree at gone slot session allowed_last was.claimed)
-      c.register.chain later.register.chain (c.store.told.knew (Node node)) (later.store.told.knew (Node node)) c.register.proposed later.register.proposed gone stage records was claimed knows back)
 
   -- What a node knows is no earlier than it knew: the slot is its session's to write by each state from then on.
   pub knows_more : (knew : ℕ) → c.store.told.knew (Node node) ≤ knew → (s : GlobalState) → IsPlace c.register.chain s → knew ≤ s.index → IsEntitled s gone slot session
@@ -138,64 +90,13 @@ module _ {G O S T : Type 0} (g : register.Ghosts G) (o : owners.Ghosts O) (st : 
           (subst (λ (n : ℕ). SureOf g o st Stands Step_is register_is owners_are store_is x known c n ((body_place slot body (st.made store_is).devices).1 + i) (c.before (body_place slot body (st.made store_is).devices).0 ((body_place slot body (st.made store_is).devices).1 + i))) (sym on)
           (filled_sure (st.made store_is).devices (st.made store_is).areas (SureOf g o st Stands Step_is register_is owners_are store_is x known c) (around g o st Stands Step_is register_is owners_are store_is x known c node) slot log most body i few filled))
 
--- ---- the chain grows
-
--- A change that doesn't close the session, and leaves its own live, leaves the slot its own to write.
-pub claimed_after : (chain : Chain) (change : Change) (knew gone slot session : ℕ) → IsAllowed (last chain) → IsLegal (last chain) change → LivesIn (last (grown chain change)) session → HasRow (last (grown chain change)) gone
-    → IsEntitled (last chain) gone slot session → ((s : GlobalState) → IsPlace chain s → knew ≤ s.index → IsEntitled s gone slot session)
-    → IsEntitled (last (grown chain change)) gone slot session × ((s : GlobalState) → IsPlace (grown chain change) s → knew ≤ s.index → IsEntitled s gone slot session)
-claimed_after chain change knew gone slot session allowed legal lives has claimed known = (after, λ s place less. by s place less)
-  where
-    after : IsEntitled (last (grown chain change)) gone slot session
-    after = entitled_after (last chain) change gone slot session allowed legal claimed lives has
-
-    by : (s : GlobalState) → IsPlace (grown chain change) s → knew ≤ s.index → IsEntitled s gone slot session
-    by s (inl same) less = subst (λ (state : GlobalState). IsEntitled state gone slot session) (sym same) after
-    by s (inr place) less = known s place less
-
-module _ {G O S T : Type 0} (g : register.Ghosts G) (o : owners.Ghosts O) (st : store.Ghosts S) (Stands : Truth → Hints → T → Type 0) (Step_is : T → Deed → T → Type 0)
-    (register_is : G) (owners_are : O) (store_is : S) (x : Disks) (known : Known) (c : Course) (tree : T) (node session gone slot : ℕ) (stage : Stage) (records : List Logged)
-    (at : StandsAt g o st Stands Step_is register_is owners_are store_is x known c tree) (allowed : AreAllowed c.register.chain)
-    (was : Recovers g o st Stands Step_is register_is owners_are store_is x known c node session gone slot stage records)
-    (change : Change) (legal : IsLegal (last c.register.chain) change) where
-  allowed_now : IsAllowed (last c.register.chain)
-  allowed_now = allowed.each (last c.register.chain) (last_place c.register.chain)
-
-  -- A change that was proposed leaves the row of the session that is gone, but for the closing that its recovery ends with.
-  pub row_stays : Contains c.register.proposed change → change ≢ Close gone session → HasRow (effect (last c.register.chain) change) gone
-  row_stays there apart = ⊎_elim
-      (λ closed.
-      let law = subst (λ (one : Change). IsLegal (last c.register.chain) one) closed.is legal in
-      let stands = at.closings gone closed.by (subst (λ (one : Change). Contains c.register.proposed one) closed.is there) in
-      let by = stands.entitled was.claimed.row law.row.1 was.claimed.is in
-      let same = one_entitled (last c.register.chain) gone gone slot session closed.by allowed_now was.claimed (subst (λ (n : ℕ). IsEntitled (last c.register.chain) gone n closed.by) was.claimed.at by) in
-      absurd (apart (closed.is ∙ ap (λ (n : ℕ). Close gone n) (sym same.1))))
-      (λ goes. has_of (effect (last c.register.chain) change) gone goes.0 goes.1)
-      (closed_or (last c.register.chain) change gone was.claimed.row was.claimed.is)
-
-  -- So a recovery goes on, while its session is live.
-  pub recovers_grown : (register_then : G) → LivesIn (last (grown c.register.chain change)) session → HasRow (last (grown c.register.chain change)) gone
-      → GoesOn c.store.writes c.store.told.greatest (st.asked store_is) (st.settled store_is x c.store) (st.settled store_is x (store_grown c.store change)) (st.will_read store_is x c.store) (st.will_read store_is x (store_grown c.store change))
-      (st.stands store_is x c.store) (st.stands store_is x (store_grown c.store change))
-      → Recovers g o st Stands Step_is register_then owners_are store_is x known (grown_course c change) node session gone slot stage records
-  recovers_grown register_then lives has goes =
-      let both = claimed_after c.register.chain change (c.store.told.knew (Node node)) gone slot session allowed_now legal lives has was.claimed was.known in
-      recovers_then g o st Stands Step_is register_is owners_are store_is x known c tree node session gone slot stage records at allowed was g o st register_then owners_are store_is x known (grown_course c change) refl
-      (stays_so (st.made store_is).devices (st.made store_is).areas (SureOf g o st Stands Step_is register_is owners_are store_is x known c) (SureOf g o st Stands Step_is register_then owners_are store_is x known (grown_course c change))
-      (st.will_read store_is x c.store node) (st.will_read store_is x (store_grown c.store change) node)
-      (around g o st Stands Step_is register_is owners_are store_is x known c node) (around g o st Stands Step_is register_then owners_are store_is x known (grown_course c change) node) session slot refl refl refl refl (inl refl) (inl refl)
-      (surely_goes c.register.chain change allowed_now legal (IsOfNode o.by_boot known.clocks) (of_before o.by_boot known.clocks) (st.made store_is).devices (st.made store_is).areas c.owners (λ n. c.store.told.knew (Node n))
-      (st.stands store_is x c.store) (st.stands store_is x (store_grown c.store change)) c.store.writes c.store.told.greatest at.pasts.owners_chain allowed goes.standing)
-      (λ asks s content asked asked_then sure read. goes.reading node s content asks asked sure.only read))
-      both.0 both.1 (λ there. there)
-
 -- ---- another slot's work goes on
 
 module _ {G O S T : Type 0} (g : register.Ghosts G) (o : owners.Ghosts O) (st : store.Ghosts S) (Stands : Truth → Hints → T → Type 0) (Step_is : T → Deed → T → Type 0)
     (register_is : G) (owners_are : O) (store_is : S) (x : Disks) (known : Known) (c : Course) (node session slot : ℕ) where
   -- What was written there is acknowledged.
   pub lands_elsewhere : (k : ℕ) (logs : Logs) (is : Slot) (now : Image) → slot ≢ k → logs slot ≡ c.logs slot → ((d s : ℕ) → IsOfSlot (st.made store_is).devices slot d s → now d s ≡ c.before d s)
-      → LeavesSlot (st.made store_is).devices (st.made store_is).areas (SureOf g o st Stands Step_is register_is owners_are store_is x known c) (SureOf g o st Stands Step_is register_is owners_are store_is x known (with_landed c k logs is now))
+      → SparesSlot (st.made store_is).devices (st.made store_is).areas (SureOf g o st Stands Step_is register_is owners_are store_is x known c) (SureOf g o st Stands Step_is register_is owners_are store_is x known (with_landed c k logs is now))
       (st.will_read store_is x c.store node) (st.will_read store_is x c.store node)
       (around g o st Stands Step_is register_is owners_are store_is x known c node) (around g o st Stands Step_is register_is owners_are store_is x known (with_landed c k logs is now) node) session slot
   lands_elsewhere k logs is now apart same_log same = record {
@@ -207,33 +108,6 @@ module _ {G O S T : Type 0} (g : register.Ghosts G) (o : owners.Ghosts O) (st : 
     sent = λ write there whose. there;
     sure = λ d s content near sure. sure;
     reads = λ asks s content was is near sure read. read;
-  }
-
--- ---- writes that none may take any more
-
-module _ {G O S T : Type 0} (g : register.Ghosts G) (o : owners.Ghosts O) (st : store.Ghosts S) (Stands : Truth → Hints → T → Type 0) (Step_is : T → Deed → T → Type 0)
-    (register_is : G) (owners_are : O) (store_is : S) (x : Disks) (known : Known) (c : Course) (node session slot : ℕ) where
-  -- They count for nothing.
-  pub drops_so : (fewer : List Sent) → ((write : Sent) → Contains fewer write → Contains c.store.writes write)
-      → ((d s : ℕ) (content : List ℕ) (index : ℕ) → IsOnly c.store.writes c.store.told.greatest d s content → st.stands store_is x c.store d s content index → st.stands store_is x (dropped_course c fewer).store d s content index)
-      → ((s : ℕ) (content : List ℕ) (asks : Asked) → st.asked store_is node ≡ Some asks → IsOnly c.store.writes c.store.told.greatest asks.device s content → st.will_read store_is x c.store node s content → st.will_read store_is x (dropped_course c fewer).store node s content)
-      → LeavesSlot (st.made store_is).devices (st.made store_is).areas (SureOf g o st Stands Step_is register_is owners_are store_is x known c) (SureOf g o st Stands Step_is register_is owners_are store_is x known (dropped_course c fewer))
-      (st.will_read store_is x c.store node) (st.will_read store_is x (dropped_course c fewer).store node)
-      (around g o st Stands Step_is register_is owners_are store_is x known c node) (around g o st Stands Step_is register_is owners_are store_is x known (dropped_course c fewer) node) session slot
-  drops_so fewer among goes reading = record {
-    logs = refl;
-    slots = refl;
-    before = λ d s inside. refl;
-    asked = inl refl;
-    out = inl refl;
-    sent = λ write there whose. among write there;
-    sure = λ d s content near sure. record {
-      index = sure.index;
-      is = goes d s content sure.index sure.only sure.is;
-      only = record { each = λ write other there w. sure.only.each write other (among write there) w };
-      within = sure.within;
-    };
-    reads = λ asks s content was is near sure read. reading s content asks was sure.only read;
   }
 
 -- ---- another session's write
@@ -255,11 +129,8 @@ module _ {G O S T : Type 0} (g : register.Ghosts G) (o : owners.Ghosts O) (st : 
   quiet : (d s : ℕ) → IsNear (st.made old).devices (st.made old).areas slot (c.logs slot) d s → (content : List ℕ) → WritesTo write d s content → ⊥
   quiet d s near content w =
       touch_clash (st.made old).devices (st.made old).areas at.logs.volume (last c.register.chain) c.owners.holding (oldest c.register.chain) c.logs c.slots at.volume.rows at.volume.apart alone at.rights at.logs.once allowed
-      its session d s lives claimed.lives apart (touches d s content w) (mine near)
-    where
-      mine : IsNear (st.made old).devices (st.made old).areas slot (c.logs slot) d s → MayTouch (st.made old).devices (st.made old).areas (last c.register.chain) c.owners.holding c.logs c.slots session d s
-      mine (inl inside) = OfSlot gone slot low claimed inside
-      mine (inr (block, is, some, home)) = OfLogged block gone slot is home low claimed (inl some)
+      its session d s lives claimed.lives apart (touches d s content w)
+      (near_touches (st.made old).devices (st.made old).areas (last c.register.chain) c.owners.holding c.logs c.slots gone slot session d s low claimed near)
 
   only_then : (d s : ℕ) (content : List ℕ) → IsNear (st.made old).devices (st.made old).areas slot (c.logs slot) d s → IsOnly c.store.writes c.store.told.greatest d s content → IsOnly (write ∷ c.store.writes) c.store.told.greatest d s content
   only_then d s content near only = record {
@@ -269,7 +140,7 @@ module _ {G O S T : Type 0} (g : register.Ghosts G) (o : owners.Ghosts O) (st : 
         (front_or_behind write c.store.writes one has);
   }
 
-  pub sends_elsewhere : LeavesSlot (st.made old).devices (st.made old).areas (SureOf g o st Stands Step_is register_is owners_are old x known c) (SureOf g o st Stands Step_is register_is owners_are new x (record known { letters = letters }) (with_write c letters write))
+  pub sends_elsewhere : SparesSlot (st.made old).devices (st.made old).areas (SureOf g o st Stands Step_is register_is owners_are old x known c) (SureOf g o st Stands Step_is register_is owners_are new x (record known { letters = letters }) (with_write c letters write))
       (st.will_read old x c.store node) (st.will_read new x (with_write c letters write).store node)
       (around g o st Stands Step_is register_is owners_are old x known c node) (around g o st Stands Step_is register_is owners_are new x (record known { letters = letters }) (with_write c letters write) node) session slot
   sends_elsewhere = record {

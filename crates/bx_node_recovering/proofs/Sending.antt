@@ -1,58 +1,38 @@
 -- A recovery sends a write: it may be sent, its store says what comes of it, and it is out.
-use Rattle.std.proofs.Common.{◌≡◌, ◌≢◌, ◌⊎◌, ⊎_elim, inl, inr, ◌∙◌, ℕ, ◌+◌, ◌<◌, ◌≤◌, Bool, true, false, List, ◌∷◌, Contains, length, Some, refl, sym, ap, subst, arith}
+use Rattle.std.proofs.Common.{◌≡◌, ◌≢◌, ⊎_elim, inl, inr, ◌∙◌, ℕ, ◌<◌, false, List, ◌∷◌, Contains, length, Some, refl, sym, subst}
 use Rattle.bx_base.specs.declared.names.Actor.TheVariants.{Node}
-use Rattle.bx_disk.specs.Disks.{Disks, sector_of}
+use Rattle.bx_disk.specs.Disks.{Disks}
 use Rattle.bx_facts.specs.declared.owners.Owners as owners
 use Rattle.bx_facts.specs.declared.register.Register as register
 use Rattle.bx_facts.specs.declared.store.Store as store
 use Rattle.bx_facts.specs.Chains.{LivesIn, last, oldest}
 use Rattle.bx_facts.specs.Writes.{IsSettled, Made, Sent, WritesIn, WritesTo}
 use Rattle.bx_facts.proofs.Lists.{front_or_behind}
-use Rattle.bx_global.specs.Allowed.{IsAllowed, IsSession}
+use Rattle.bx_global.specs.Allowed.{IsAllowed}
 use Rattle.bx_global.specs.declared.change.Change.TheVariants.{Close}
+use Rattle.bx_node_events.proofs.Sparing.{log_of, slot_low}
 use Rattle.bx_node_events.proofs.Working.{IsHanded, IsSending}
 use Rattle.bx_node_machines.specs.Machines.{IsFlying}
-use Rattle.bx_node_recovering.specs.Recovering.{AreAsRead, IsRecovering, Recovers, around, gates_back, gates_shut}
-use Rattle.bx_node_recovering.proofs.Going.{of_first, of_gates, of_others}
+use Rattle.bx_node_machines.specs.Recovering.{AreAsRead, IsRecovering, Recovers, around, gates_back, gates_shut}
+use Rattle.bx_node_machines.proofs.Going.{of_first, of_gates, of_others}
 use Rattle.bx_node_recovering.proofs.Surely.{one_sure}
 use Rattle.bx_node_recovers.proofs.Sending.{homes_touch, slot_touches}
 use Rattle.bx_node_recovers.proofs.Sent as sent
 use Rattle.bx_node_sends.proofs.Sent.{with_write}
 use Rattle.bx_node_views.proofs.Touching.{may_write}
-use Rattle.bx_places.specs.Places.{gate_place, log_device, log_start}
 use Rattle.bx_post.specs.declared.packets.Letter.{Letter}
 use Rattle.bx_records.specs.declared.runs.Run.{Run}
 use Rattle.bx_recover.specs.declared.stage.Stage.{Stage}
 use Rattle.bx_redo.specs.Homes.{AreItsHomes}
 use Rattle.bx_redo.specs.declared.work.Work.TheVariants as works
-use Rattle.bx_rows.specs.Words.{is_taken}
 use Rattle.bx_views.specs.Attempts.{Deed}
 use Rattle.bx_views.specs.Truths.{Hints, Truth}
-use Rattle.bx_volume.specs.Records.{LogWhere, Logged, gate_of}
+use Rattle.bx_volume.specs.Records.{Logged, gate_of}
 use Rattle.bx_world_chains.specs.Entitled.{IsEntitled}
-use Rattle.bx_world_chains.proofs.Rows.{all_row, taken_of}
-use Rattle.bx_world_logs.specs.Logs.{Found, IsLogOf, OfLog, SlotStands}
+use Rattle.bx_world_logs.specs.Logs.{Found, IsLogOf, OfLog}
 use Rattle.bx_world_standing.specs.Rights.{IsOfSlot, IsWithin, MayTouch, Surely}
 use Rattle.bx_world_standing.specs.Sessions.{IsOfNode}
 use Rattle.bx_world_standing.specs.Standing.{Course, Known, StandsAt, SureOf}
-
-module _ {G O S T : Type 0} (g : register.Ghosts G) (o : owners.Ghosts O) (st : store.Ghosts S) (Stands : Truth → Hints → T → Type 0) (Step_is : T → Deed → T → Type 0)
-    (register_is : G) (owners_are : O) (store_is : S) (x : Disks) (known : Known) (c : Course) (tree : T)
-    (at : StandsAt g o st Stands Step_is register_is owners_are store_is x known c tree) (gone slot session : ℕ) (allowed : IsAllowed (last c.register.chain)) (entitled : IsEntitled (last c.register.chain) gone slot session) where
-  -- a slot that a session is entitled to is one of eight, and has a row
-  pub slot_low : slot < 8
-  slot_low = subst (λ (n : ℕ). n < 8) entitled.at ((all_row (IsSession (last c.register.chain).term_end) (last c.register.chain).sessions gone entitled.row allowed.each_session entitled.is).slot)
-
-  taken : is_taken (last c.register.chain).sessions slot ≡ true
-  taken = subst (λ (n : ℕ). is_taken (last c.register.chain).sessions n ≡ true) entitled.at (taken_of (last c.register.chain) gone entitled.row entitled.is)
-
-  -- its log stands
-  pub log_of : IsLogOf (SureOf g o st Stands Step_is register_is owners_are store_is x known c) (st.made store_is).devices (st.made store_is).areas c.before c.logs slot (c.slots slot)
-  log_of = subst (λ (t : Bool). SlotStands (SureOf g o st Stands Step_is register_is owners_are store_is x known c) (st.made store_is).devices (st.made store_is).areas c.before t c.logs slot (c.slots slot)) taken (at.logs.each slot slot_low)
-
-  -- and has at most eight records
-  pub few_records : length (c.logs slot) ≤ 8
-  few_records = (subst (λ (t : Bool). LogWhere t c.before (st.made store_is).devices (st.made store_is).areas slot (c.logs slot)) taken (at.logs.is_truth.has_logs slot slot_low)).most
 
 module _ {G O S T : Type 0} (g : register.Ghosts G) (o : owners.Ghosts O) (st : store.Ghosts S) (Stands : Truth → Hints → T → Type 0) (Step_is : T → Deed → T → Type 0)
     (register_is : G) (owners_are : O) (old new : S) (x : Disks) (known : Known) (c : Course) (tree : T) (letters : List Letter) (node session : ℕ) (write : Sent)

@@ -1,5 +1,5 @@
 -- A recovery writes the gates back as it read them; and where gate 0 isn't open it has nothing to tell, and closes the others.
-use Rattle.std.proofs.Common.{◌≡◌, ◌≢◌, ◌⊎◌, ⊎_elim, inl, inr, ◌∙◌, ℕ, ◌<◌, true, false, List, [], ◌∷◌, Contains, length, reverse, Some, None, refl, sym, ap, subst, arith}
+use Rattle.std.proofs.Common.{◌≡◌, ◌≢◌, ◌⊎◌, ⊎_elim, inl, ◌∙◌, ℕ, ◌<◌, true, false, List, [], ◌∷◌, Contains, length, Some, None, refl, sym, ap, subst, arith}
 use Rattle.std.specs.Prelude.{map}
 use Rattle.std.proofs.lemmas.List.{length-reverse}
 use Rattle.bx_base.specs.declared.names.Actor.TheVariants.{Node}
@@ -14,14 +14,16 @@ use Rattle.bx_global.specs.declared.change.Change.TheVariants.{Close}
 use Rattle.bx_logs.specs.Bodies.{point_of}
 use Rattle.bx_node_events.proofs.Working.{IsSending}
 use Rattle.bx_node_landings.proofs.Landed.{with_landed}
-use Rattle.bx_node_recovering.specs.Recovering.{AreAsRead, AreBodiesAsRead, AreSettled, IsBodyAsRead, IsFound, Recovers, around, gates_back, gates_shut}
+use Rattle.bx_node_machines.specs.Recovering.{AreAsRead, AreBodiesAsRead, AreSettled, IsBodyAsRead, IsFound, Recovers, around, gates_back, gates_shut}
 use Rattle.bx_node_recovering.proofs.Asking.{gates_or_body, none_read_then, settled_sure}
 use Rattle.bx_node_recovering.proofs.Closing as closing
 use Rattle.bx_node_recovering.proofs.Sending as sends
-use Rattle.bx_node_recovering.proofs.Sending.{slot_low}
+use Rattle.bx_node_events.proofs.Sparing.{slot_low}
+use Rattle.bx_node_recovering.proofs.Beside.{IsInSlot}
+use Rattle.bx_node_recovering.proofs.Slots.{in_slot_on}
 use Rattle.bx_node_recovering.proofs.Telling as tells
 use Rattle.bx_node_recovers.proofs.Landed.{none_at}
-use Rattle.bx_node_recovers.proofs.Read.{recovery_of}
+use Rattle.bx_node_machines.specs.Recovering.{recovery_of}
 use Rattle.bx_post.specs.declared.packets.Letter.{Letter}
 use Rattle.bx_recover.specs.Bodies.{HasNoRecord}
 use Rattle.bx_recover.specs.Done.{HasRun, HasSettled, RecoveryStep}
@@ -114,12 +116,16 @@ module _ {G O S T : Type 0} (g : register.Ghosts G) (o : owners.Ghosts O) (st : 
 
     -- They are settled, and gate 0 isn't open: there are no records, and the other gates are closed.
     pub finds_closed : (opened : ℕ) → opened ≡ 0 → st.out_of old node ≡ None → step.done ≡ true → write.runs ≡ gates_shut devices slot works.Shuts
-        → step.said ≡ closes (recovery_of slot devices areas (Settles opened) records) works.Shuts → (was : Before (Settles opened)) → (later : Course) × (later.register ≡ c.register) × (later.doubts ≡ without_doubt c.doubts gone)
-        × ((next : T) × GoesTo next × Sends later next Shuts)
+        → step.said ≡ closes (recovery_of slot devices areas (Settles opened) records) works.Shuts → (was : Before (Settles opened)) → (later : Course) × (later.register ≡ c.register) × (later.owners ≡ c.owners) × (later.store ≡ c.store) × (later.doubts ≡ without_doubt c.doubts gone)
+        × IsInSlot devices areas c slot gone later.before later.logs later.slots later.doubts × ((next : T) × GoesTo next × Sends later next Shuts)
     finds_closed opened closed none is_done runs_are said was = (
       later,
       refl,
       refl,
+      refl,
+      refl,
+      in_slot_on devices areas c slot gone less then_is (λ e. cc) told_then.before told_then.logs told_then.slots told_then.doubts
+          (tells.told_in_slot g o st Stands Step_is register_is owners_are old x known c tree node session gone slot at allowed less none_sent settled_is was.claimed was.other (was.unproposed (λ over. over)) Shuts records (step ∷ was.steps) has sure bodies),
       (
         told.0,
         told.1,

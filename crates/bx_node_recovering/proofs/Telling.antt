@@ -1,5 +1,5 @@
 -- A recovery has read its run, and tells the points: its log is found then, with the records that were read, and the tree is as it was, or that after the record in doubt.
-use Rattle.std.proofs.Common.{◌≡◌, ◌≢◌, ◌⊎◌, inl, inr, ◌∙◌, ℕ, ◌+◌, ◌<◌, true, List, [], ◌∷◌, ◌++◌, Contains, length, map, reverse, None, Some, refl, sym, ap, subst, arith}
+use Rattle.std.proofs.Common.{◌≡◌, ◌≢◌, ◌⊎◌, inl, inr, ◌∙◌, ℕ, ◌+◌, ◌<◌, true, List, [], ◌∷◌, ◌++◌, Contains, length, map, reverse, None, Some, sym, ap, subst, arith}
 use Rattle.std.proofs.lemmas.List.{length-append, length-reverse}
 use Rattle.bx_base.specs.declared.names.Actor.TheVariants.{Node}
 use Rattle.bx_disk.specs.Disks.{Disks, Image, sector_of}
@@ -12,10 +12,10 @@ use Rattle.bx_global.specs.Allowed.{IsAllowed}
 use Rattle.bx_global.specs.declared.change.Change.TheVariants.{Close}
 use Rattle.bx_layout.specs.Labels.{IsOpenGate}
 use Rattle.bx_logs.specs.Bodies.{point_of}
-use Rattle.bx_node_recovering.specs.Recovering.{AreBodiesAsRead, AreSettled, IsBodyAsRead, IsFound, Recovers, around}
+use Rattle.bx_node_machines.specs.Recovering.{AreBodiesAsRead, AreSettled, IsBodyAsRead, IsFound, Recovers, around}
 use Rattle.bx_node_recovering.proofs.Asking.{bodies_then}
 use Rattle.bx_node_recovering.proofs.Surely.{one_sure}
-use Rattle.bx_node_recovers.proofs.Read.{recovery_of}
+use Rattle.bx_node_machines.specs.Recovering.{recovery_of}
 use Rattle.bx_node_recovers.proofs.Told as tells
 use Rattle.bx_places.specs.Places.{gate_place}
 use Rattle.bx_recover.specs.Bodies.{HasNoRecord, IsRecordIn}
@@ -27,11 +27,14 @@ use Rattle.bx_recover.specs.declared.stage.Stage.TheVariants.{Bodies, Told}
 use Rattle.bx_recover.proofs.Done.{later_gates, later_read, more_read, tells as tells_them}
 use Rattle.bx_views.specs.Attempts.{Deed}
 use Rattle.bx_views.specs.Truths.{Hints, Truth}
-use Rattle.bx_volume.specs.Records.{IsLog, Logged, gate_of}
-use Rattle.bx_volume.proofs.Overlay.{log_here}
+use Rattle.bx_volume.specs.Records.{IsLog, Logged, gate_of, newest_in}
+use Rattle.bx_volume.proofs.Overlay.{log_here, log_there}
+use Rattle.bx_node_recovering.proofs.Beside.{IsInSlot}
+use Rattle.bx_node_recovering.proofs.Slots.{in_slot_landed, run_unlogged}
+use Rattle.bx_world_views.proofs.Doubts.{without_only}
 use Rattle.bx_world_chains.specs.Entitled.{IsEntitled}
 use Rattle.bx_world_images.proofs.Settling.{found_slot}
-use Rattle.bx_world_logs.specs.Logs.{Found, Slot, opens}
+use Rattle.bx_world_logs.specs.Logs.{Slot, opens}
 use Rattle.bx_world_logs.proofs.Moving.{slot_here}
 use Rattle.bx_world_views.specs.Views.{Unacknowledged, StepOf}
 use Rattle.bx_world_standing.specs.Standing.{Course, Known, StandsAt, SureOf}
@@ -67,6 +70,21 @@ module _ {G O S T : Type 0} (g : register.Ghosts G) (o : owners.Ghosts O) (st : 
     abbrev pub told_course : Course
     told_course = tells.then_is g o st Stands Step_is register_is owners_are store_is x known c tree at gone session slot less allowed claimed other none_sent unproposed stage read steps has as_read sure
         (λ body i bytes came few one fills. bodies body bytes came i few (one, fills))
+
+    -- it is in the slot
+    pub told_in_slot : IsInSlot devices areas c slot gone told_course.before told_course.logs told_course.slots told_course.doubts
+    told_in_slot = in_slot_landed devices areas c slot gone less (found_slot (c.slots slot)) (λ e. cc) Sure (last c.register.chain).sessions at.logs told_course.before told_course.logs told_course.doubts
+        (λ d s apart. tells.same g o st Stands Step_is register_is owners_are store_is x known c tree at gone session slot less allowed claimed other none_sent unproposed stage read steps has as_read sure
+        (λ body i bytes came few one fills. bodies body bytes came i few (one, fills)) d s apart)
+        (λ one ne. log_there c.logs slot one its_run_is ne)
+        (λ block unlogged unwritten. ap (λ (l : List Logged). newest_in l block) (log_here c.logs slot its_run_is)
+        ∙ run_unlogged c.logs c.slots slot less its_run_is (tells.told_run g o st Stands Step_is register_is owners_are store_is x known c tree at gone session slot less allowed claimed other none_sent unproposed stage read steps has as_read sure
+        (λ body i bytes came few one fills. bodies body bytes came i few (one, fills))) block unlogged unwritten)
+        (λ one ne. (without_only c.doubts gone).others one ne)
+      where
+        its_run_is : List Logged
+        its_run_is = tells.run g o st Stands Step_is register_is owners_are store_is x known c tree at gone session slot less allowed claimed other none_sent unproposed stage read steps has as_read sure
+            (λ body i bytes came few one fills. bodies body bytes came i few (one, fills))
 
     -- It stands then.
     pub told_stands : (next : T) × GoesTo next × StandsAt g o st Stands Step_is register_is owners_are store_is x known told_course next

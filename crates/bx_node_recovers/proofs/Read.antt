@@ -8,20 +8,17 @@ use Rattle.bx_rows.specs.declared.session.SessionRow.{SessionRow}
 use Rattle.bx_rows.specs.Words.{is_taken}
 use Rattle.bx_views.specs.Truths.{Truth}
 use Rattle.bx_volume.specs.Overlay.{Logs, filled_of}
-use Rattle.bx_volume.specs.Records.{IsLog, Logged, logged_text}
-use Rattle.bx_volume.proofs.Sizes.{filled_below, filled_there}
+use Rattle.bx_volume.specs.Records.{IsLog, Logged}
+use Rattle.bx_volume.proofs.Sizes.{filled_below}
 use Rattle.bx_world_standing.specs.bx_world_logs.specs.Logs.{Activity, Finds, Found, IsLogOf, LogsStand, OfLog, Slot, SlotStands, opens, writes_in}
 use Rattle.bx_world_standing.specs.bx_world_logs.specs.Shown.{IsRun}
 use Rattle.bx_node_logs.proofs.Moved.{fills_few}
+use Rattle.bx_node_machines.specs.Recovering.{recovery_of}
 use Rattle.bx_recover.specs.Done.{HasRun, RecoveryStep, WasRead}
 use Rattle.bx_recover.specs.Reading.{AreGates}
-use Rattle.bx_recover.specs.Recovering.{RecoveryView, reads_body}
+use Rattle.bx_recover.specs.Recovering.{reads_body}
 use Rattle.bx_recover.specs.declared.stage.Stage.{Stage}
 use Rattle.bx_recover.proofs.Logs.{the_log}
-
--- a recovery of a slot that has read these records
-abbrev pub recovery_of : ℕ → ℕ → ℕ → Stage → List Logged → RecoveryView
-recovery_of slot devices areas stage records = record { slot = slot; devices = devices; areas = areas; stage = stage; records = records }
 
 module _ (Sure : ℕ → ℕ → List ℕ → Type 0) (devices areas : ℕ) (rows : List SessionRow) (before now : Image) (logs : Logs) (slots : ℕ → Slot) (truth : Truth) (slot : ℕ)
     (less : slot < 8) (taken : is_taken rows slot ≡ true) (st : LogsStand Sure devices areas rows before logs slots truth)

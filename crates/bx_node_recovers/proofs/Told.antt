@@ -27,7 +27,8 @@ use Rattle.bx_recover.specs.Done.{HasRun, RecoveryStep, WasRead}
 use Rattle.bx_recover.specs.Reading.{AreGates}
 use Rattle.bx_recover.specs.Recovering.{reads_body}
 use Rattle.bx_recover.specs.declared.stage.Stage.{Stage}
-use Rattle.bx_node_recovers.proofs.Read.{read_run, recovery_of}
+use Rattle.bx_node_machines.specs.Recovering.{recovery_of}
+use Rattle.bx_node_recovers.proofs.Read.{read_run}
 
 -- what devices hold once the gates of a slot are these
 abbrev pub with_gates : ℕ → ℕ → Image → List ℕ → Image
@@ -108,6 +109,12 @@ module _ {G O S T : Type 0} (g : register.Ghosts G) (o : owners.Ghosts O) (st : 
 
   abbrev pub run : List Logged
   run = (settled g o st Stands Step_is register_is owners_are store_is x known c tree at gone session slot less now allowed entitled other none_out unproposed same gates_sure).run
+
+  -- what it shows is a run of the slot
+  pub told_run : IsRun c.logs c.slots slot run
+  told_run =
+      let it = settled g o st Stands Step_is register_is owners_are store_is x known c tree at gone session slot less now allowed entitled other none_out unproposed same gates_sure in
+      run_of c.logs c.slots slot run c.truth it.next it.shows
 
   pub its_log : IsLog now (st.made store_is).devices (st.made store_is).areas slot run
   its_log =

@@ -1,5 +1,5 @@
 -- How a node is seen.
-use Rattle.std.specs.Prelude.{ℕ, List, map, Option, Some, None}
+use Rattle.std.specs.Prelude.{ℕ, List, [], map, Option, Some, None}
 use Rattle.bx_node_cache.specs.Kept.{away_in, held_in, hint_in}
 use Rattle.bx_node_machines.specs.Machines as views
 use Rattle.bx_node_machines.specs.Machines.{MachineView, Replying}
@@ -35,6 +35,7 @@ view_of machine = record {
   log = machine.log;
   stage = stage_of machine.stage;
   fetch = fetch_of machine.fetch;
+  finished = [];
 }
 
 abbrev pub seen : List Machine → List MachineView

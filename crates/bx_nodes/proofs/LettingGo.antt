@@ -29,6 +29,7 @@ use Rattle.bx_nodes.proofs.Caches.{hides_it, hints_left, home_left, leaves_fetch
 use Rattle.bx_nodes.proofs.Letters.{owners_send_no_registers, owners_send_no_stores}
 use Rattle.bx_facts.specs.declared.owners.Owners as owners
 use Rattle.bx_places.specs.Places.{is_block}
+use Rattle.bx_global.specs.Allowed.{IsAllowed}
 use Rattle.bx_post.specs.declared.packets.Letter.{Letter}
 use Rattle.bx_views.specs.Attempts.{Deed}
 use Rattle.bx_views.specs.Truths.{Hints, Truth, with_hint}
@@ -42,7 +43,7 @@ module _ {G O S T : Type 0} (g : register.Ghosts G) (o : owners.Ghosts O) (st : 
     (register_is : G) (owners_are owners_then : O) (store_is : S) (x : Disks) (letters out_old out_new : List Letter) (clocks : Clocks) (machines later : List MachineView) (c : Course) (tree : T)
     (node session block engine_areas : ℕ) (before after : Machine) (holding : Holds) (floor : ℕ → ℕ)
     (stands : NodesStand g o st Stands Step register_is owners_are store_is x (letters ++ out_old) clocks machines c tree)
-    (up : clocks.down (Node node) ≡ false) (own : o.own owners_are node ≡ Some session) (live : LivesIn (last c.register.chain) session)
+    (up : clocks.down (Node node) ≡ false) (own : o.own owners_are node ≡ Some session) (live : LivesIn (last c.register.chain) session) (allowed : IsAllowed (last c.register.chain))
     (there : slice_get machines node ≡ Some (view_of before)) (mark : before.session ≡ Some session) (rests : before.stage ≡ Idle)
     (then_there : slice_get later node ≡ Some (view_of after)) (others : (other : ℕ) → other ≢ node → slice_get later other ≡ slice_get machines other)
     (goes : LetsGo block before after)
@@ -108,7 +109,7 @@ module _ {G O S T : Type 0} (g : register.Ghosts G) (o : owners.Ghosts O) (st : 
         logs = refl;
         works = record { slots = refl; doubts = refl };
         stands = released g o st Stands Step register_is owners_are owners_then store_is x (letters ++ out_old) (letters ++ out_new) clocks machines later c tree node session block row.0 (view_of before)
-            (view_of after).held (view_of after).away (view_of after).hints (view_of after).fetch holding floor stands up own row.1 row.2 there mark idle
+            (view_of after).held (view_of after).away (view_of after).hints (view_of after).fetch holding floor stands up own allowed row.1 row.2 there mark idle
             (then_there ∙ ap (λ (m : Machine). Some (record (view_of m) { held = (view_of after).held; away = (view_of after).away; hints = (view_of after).hints; fetch = (view_of after).fetch })) goes.only)
             others register_keeps keeps store_goes.0 store_goes.1 same_own may (record { each = apart })
             (hides_it block before.cache.kept after.cache.kept goes.kept) (home_left block before.cache.kept after.cache.kept goes.kept) agree

@@ -27,6 +27,7 @@ use Rattle.bx_node_steps.specs.declared.machine.Fetch.TheVariants as fetches
 use Rattle.bx_node_steps.specs.declared.machine.Machine.{Machine}
 use Rattle.bx_nodes.proofs.Caches.{home_taken, none_kept, shows_one}
 use Rattle.bx_facts.specs.declared.owners.Owners as owners
+use Rattle.bx_global.specs.Allowed.{IsAllowed}
 use Rattle.bx_post.specs.declared.packets.Letter.{Letter}
 use Rattle.bx_views.specs.Attempts.{Deed}
 use Rattle.bx_views.specs.Truths.{Hints, Truth}
@@ -39,7 +40,7 @@ module _ {G O S T : Type 0} (g : register.Ghosts G) (o : owners.Ghosts O) (st : 
     (register_is : G) (owners_are : O) (old new : S) (x : Disks) (letters : List Letter) (clocks : Clocks) (machines : List MachineView) (c : Course) (tree : T)
     (node session : ℕ) (before : Machine)
     (stands : NodesStand g o st Stands Step register_is owners_are old x letters clocks machines c tree)
-    (up : clocks.down (Node node) ≡ false) (own : o.own owners_are node ≡ Some session) (live : LivesIn (last c.register.chain) session)
+    (up : clocks.down (Node node) ≡ false) (own : o.own owners_are node ≡ Some session) (live : LivesIn (last c.register.chain) session) (allowed : IsAllowed (last c.register.chain))
     (there : slice_get machines node ≡ Some (view_of before)) (mark : before.session ≡ Some session)
     (keeps : st.keeps new x c.store) (made : st.made new ≡ st.made old)
     (same : (other : ℕ) → (st.own new other ≡ st.own old other) × (st.out_of new other ≡ st.out_of old other))
@@ -49,7 +50,7 @@ module _ {G O S T : Type 0} (g : register.Ghosts G) (o : owners.Ghosts O) (st : 
   pub waits : st.asked new node ≡ st.asked old node → NodesStand g o st Stands Step register_is owners_are new x letters clocks machines c tree
   waits still =
       let row = lives_row (last c.register.chain) session live in
-      events.not_yet g o st Stands Step register_is owners_are old new x letters clocks machines c tree node session row.0 (view_of before) stands up own row.1 row.2 there mark keeps made same elsewhere goes still
+      events.not_yet g o st Stands Step register_is owners_are old new x letters clocks machines c tree node session row.0 (view_of before) stands up own allowed row.1 row.2 there mark keeps made same elsewhere goes still
 
   -- Nothing will, as no read is out.
   pub lost : (later : List MachineView) → slice_get later node ≡ Some (view_of (record before { fetch = fetches.Nothing })) → ((other : ℕ) → other ≢ node → slice_get later other ≡ slice_get machines other) → st.asked new node ≡ None
@@ -57,7 +58,7 @@ module _ {G O S T : Type 0} (g : register.Ghosts G) (o : owners.Ghosts O) (st : 
   lost later then_there others none =
       let row = lives_row (last c.register.chain) session live in
       let view = (sees_truth g o st Stands Step register_is owners_are old x letters clocks machines c tree node session (view_of before) stands up own live there mark).0 in
-      events.received g o st Stands Step register_is owners_are old new x letters clocks machines c tree node session row.0 (view_of before) stands up own row.1 row.2 there mark keeps made same elsewhere goes
+      events.received g o st Stands Step register_is owners_are old new x letters clocks machines c tree node session row.0 (view_of before) stands up own allowed row.1 row.2 there mark keeps made same elsewhere goes
       later (held_in before.cache.kept) (away_in before.cache.kept) (λ at. refl) then_there others none view
 
   -- It has.
@@ -82,7 +83,7 @@ module _ {G O S T : Type 0} (g : register.Ghosts G) (o : owners.Ghosts O) (st : 
         → ViewStands c.owners.holding c.truth session (held_in after.cache.kept) × ((at : ℕ) → away_in after.cache.kept at ≡ away_in before.cache.kept at)
     kept at mode block is spells only =
         let row = lives_row (last c.register.chain) session live in
-        let read = events.is_truth g o st Stands Step register_is owners_are old new x letters clocks machines c tree node session row.0 (view_of before) stands up own row.1 row.2 there mark keeps made same elsewhere goes
+        let read = events.is_truth g o st Stands Step register_is owners_are old new x letters clocks machines c tree node session row.0 (view_of before) stands up own allowed row.1 row.2 there mark keeps made same elsewhere goes
         at mode bytes block (ap fetch_of is) some promise spells in (
           holds_it c.owners.holding c.truth session at mode block (held_in before.cache.kept) (held_in after.cache.kept) view (shows_one at mode block before.cache.kept after.cache.kept only) read.0 read.1,
           home_taken at mode block before.cache.kept after.cache.kept only (none_kept (kept_in before.cache.kept at) (read.2 Shared)),
@@ -99,7 +100,7 @@ module _ {G O S T : Type 0} (g : register.Ghosts G) (o : owners.Ghosts O) (st : 
     taken =
         let row = lives_row (last c.register.chain) session live in
         let shows = fine before.fetch refl takes.kept in
-        events.received g o st Stands Step register_is owners_are old new x letters clocks machines c tree node session row.0 (view_of before) stands up own row.1 row.2 there mark keeps made same elsewhere goes
+        events.received g o st Stands Step register_is owners_are old new x letters clocks machines c tree node session row.0 (view_of before) stands up own allowed row.1 row.2 there mark keeps made same elsewhere goes
         later (held_in after.cache.kept) (away_in after.cache.kept) shows.1 (then_there ∙ as_seen) others none shows.0
 
 -- Nothing came of a read that is out.

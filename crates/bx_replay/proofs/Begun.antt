@@ -1,5 +1,5 @@
 -- How a replay stands behind its heading.
-use Rattle.std.proofs.Common.{◌≡◌, ℕ, ◌≤◌, List, [], ◌∷◌, true, refl, sym, ap, ◌∙◌, subst, arith}
+use Rattle.std.proofs.Common.{◌≡◌, ℕ, ◌≤◌, List, [], ◌∷◌, true, refl, sym, ap, ◌∙◌, subst, arith, None}
 use Rattle.std.specs.FinSet as set
 use Rattle.std.specs.Ordering.{nat_cmp}
 use Rattle.std.proofs.lemmas.List.{append-nil}
@@ -11,6 +11,8 @@ use Rattle.bx_model.specs.declared.tree.Tree.{Tree}
 use Rattle.bx_opens.specs.Opening.{IsNew, first_tree}
 use Rattle.bx_opens.specs.declared.opens.Shape.{Shape}
 use Rattle.bx_opens.specs.bx_world_events.specs.Refusals.{Seen}
+use Rattle.bx_schedule.specs.Execution.{IsOpened, Snapshot}
+use Rattle.bx_schedule.specs.Execution.ComesBy.{Opened}
 use Rattle.bx_schedule.specs.Places.{CanGo, Place}
 use Rattle.bx_script.proofs.Spelled.{spelling_injective}
 use Rattle.bx_script.specs.ScheduleLine.{spelling}
@@ -54,9 +56,22 @@ module _ (volume nodes devices areas : ℕ) where
     reached = reached_first shape seen greatest place nodes_are devices_are zero new;
   }
 
+  -- so a schedule stands behind its heading
+  pub opened_first : (shape : Shape) (now : Snapshot) → shape.nodes ≡ nodes → shape.devices ≡ devices → IsNew shape now.seen → now.held ≡ set.empty → now.clock ≡ 0 → IsOpened nodes devices now
+  opened_first shape now nodes_are devices_are new held zero = record {
+    nodes_are = new.nodes ∙ nodes_are;
+    devices_are = new.devices ∙ devices_are;
+    post = new.post;
+    greatest = new.greatest;
+    up = new.up;
+    held = held;
+    clock = zero;
+  }
+
   -- with what led to it: nothing
-  pub stands_first : (Led : Tree → List Part → Type 0) (lacking : set.FinSet nat_cmp) (start : List ℕ) → Led (first_tree volume areas) [] → lacking ≡ set.empty → ReplayStands ⊥ Led lacking (record { line = heading; parts = [] } ∷ []) start start
-  stands_first Led lacking start led none = record {
+  pub stands_first : (Led : Tree → List Part → Type 0) (lacking : set.FinSet nat_cmp) (now : Snapshot) (start : List ℕ) → Led (first_tree volume areas) [] → lacking ≡ set.empty → IsOpened nodes devices now
+      → ReplayStands ⊥ Led lacking now (record { line = heading; parts = [] } ∷ []) start start
+  stands_first Led lacking now start led none opened = record {
     led = led;
     lacks = λ call. ap (λ (s : set.FinSet nat_cmp). set.contains s call) none ∙ set.contains-empty nat_cmp call;
     of_lines = (
@@ -67,16 +82,17 @@ module _ (volume nodes devices areas : ℕ) where
       },
       tt,
     );
+    execution = (None, refl, Opened volume nodes devices areas now refl refl refl refl opened);
     in_range = tt;
     output = sym (append-nil start);
   }
 
   -- and so with any heading that the text begins with, which is that one
-  pub led_first : (Led : Tree → List Part → Type 0) (lacking : set.FinSet nat_cmp) (text rest : List ℕ) → HasPlace true heading → BeginsWith text (spelling heading) rest → Led (first_tree volume areas) [] → lacking ≡ set.empty
-      → (other : Line) (left start : List ℕ) → HasPlace true other → BeginsWith text (spelling other) left → ReplayStands ⊥ Led lacking (record { line = other; parts = [] } ∷ []) start start
-  led_first Led lacking text rest place begins led none other left start other_place other_begins =
-      subst (λ (line : Line). ReplayStands ⊥ Led lacking (record { line = line; parts = [] } ∷ []) start start) (one_first text heading other rest left place other_place begins other_begins)
-      (stands_first Led lacking start led none)
+  pub led_first : (Led : Tree → List Part → Type 0) (lacking : set.FinSet nat_cmp) (now : Snapshot) (text rest : List ℕ) → HasPlace true heading → BeginsWith text (spelling heading) rest → Led (first_tree volume areas) [] → lacking ≡ set.empty → IsOpened nodes devices now
+      → (other : Line) (left start : List ℕ) → HasPlace true other → BeginsWith text (spelling other) left → ReplayStands ⊥ Led lacking now (record { line = other; parts = [] } ∷ []) start start
+  led_first Led lacking now text rest place begins led none opened other left start other_place other_begins =
+      subst (λ (line : Line). ReplayStands ⊥ Led lacking now (record { line = line; parts = [] } ∷ []) start start) (one_first text heading other rest left place other_place begins other_begins)
+      (stands_first Led lacking now start led none opened)
 
 -- a new cluster of a shape can go, once its readings are at their beginning and the rack has room
 pub goes_first : {C R : Type 0} (seen_of : C → Seen) (room_of : C → List ℕ → Type 0) (ra : racks.Ghosts R) (place : Place C) (rack : R) (cluster : C) (shape : Shape) → place.cluster ≡ cluster → IsNew shape (seen_of cluster)

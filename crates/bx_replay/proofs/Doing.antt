@@ -1,5 +1,5 @@
 -- How a replay stands behind one line more.
-use Rattle.std.proofs.Common.{◌≡◌, ◌⊎◌, ◌/◌, ◌<◌, ◌≤◌, ℕ, Bool, true, false, List, [], ◌∷◌, ◌++◌, length, inl, inr, refl, sym, ap, ◌∙◌, subst, arith, append_assoc, take}
+use Rattle.std.proofs.Common.{◌≡◌, ◌⊎◌, ◌/◌, ◌<◌, ◌≤◌, ℕ, Bool, true, false, List, [], ◌∷◌, ◌++◌, length, inl, inr, refl, sym, ap, ◌∙◌, subst, arith, append_assoc, take, Some}
 use Rattle.std.specs.Prelude.{reverse}
 use Rattle.std.specs.FinSet as set
 use Rattle.std.specs.List.{AllByRecursion}
@@ -17,6 +17,8 @@ use Rattle.bx_model.specs.declared.tree.Tree.{Tree}
 use Rattle.bx_opens.specs.bx_cluster.specs.Steps.{greatest_reading}
 use Rattle.bx_opens.specs.bx_world_events.specs.Causes.{IsThere as IsInCluster}
 use Rattle.bx_opens.specs.bx_world_events.specs.Refusals.{Seen}
+use Rattle.bx_schedule.specs.Execution.{Executes, snapshot_of}
+use Rattle.bx_schedule.specs.Execution.ComesBy.{Executed}
 use Rattle.bx_schedule.specs.Doing.{IsDone, IsLine}
 use Rattle.bx_schedule.specs.Lacking.{AreLacking}
 use Rattle.bx_schedule.specs.Places.{HasAsMany, Place, has_stopped, lines_by}
@@ -31,7 +33,7 @@ use Rattle.bx_replay.specs.Lines.{Allows, after_lines, devices_in}
 use Rattle.bx_replay.specs.Replay.{Reached, ShowsLines, ReplayStands, StandsAfter}
 use Rattle.bx_replay.proofs.Refusals.{TellsNone, line_allowed}
 use Rattle.bx_replay.proofs.TraceTexts.{trace_text-append}
-use Rattle.bx_replay.proofs.Weaker.{done_weaker, of_lines_weaker, rose_on, rose_since}
+use Rattle.bx_replay.proofs.Weaker.{execution_weaker, done_weaker, of_lines_weaker, rose_on, rose_since}
 
 -- what the lines of a schedule come to
 pub record LineLaws : Type 0 where
@@ -131,6 +133,19 @@ module _ {C R : Type 0} (seen_of : C → Seen) (led_of : C → Disks → Tree �
   blamed : has_stopped is_done.goes.steps ≡ true → Now
   blamed stopped = rose_since start (ra.faults before) (ra.faults after) first (is_done.goes.blamed stopped)
 
+  -- the line did what it says
+  executes : ra.tells before → Executes Now line (parts_with is_done.goes.steps []) (snapshot_of seen_of old (ra.state before)) (snapshot_of seen_of new (ra.state after))
+  executes tells = record {
+    allowed = is_done.allowed;
+    steps = is_done.goes.steps;
+    is = is_done.goes.is;
+    parts_are = refl;
+    stopped = blamed;
+    held = is_done.held;
+    clock = is_done.clock;
+    disks = is_done.goes.disks tells;
+  }
+
   module _ (done : List Line) (few : length done < 4294967295) (reached : Reached Was (seen_of old.cluster) old.clock done) where
     allowed : Allows Was done line
     allowed =
@@ -166,7 +181,7 @@ module _ {C R : Type 0} (seen_of : C → Seen) (led_of : C → Disks → Tree �
         stopped who (inr may) = inr (goes_on may)
 
   module _ (done : List Done) (reached : Reached Was (seen_of old.cluster) old.clock (lines_of done)) (start_text written : List ℕ) (tells : ra.tells before)
-      (stands : ReplayStands Was (led_of old.cluster (ra.state before)) old.lacking done start_text written) where
+      (stands : ReplayStands Was (led_of old.cluster (ra.state before)) old.lacking (snapshot_of seen_of old (ra.state before)) done start_text written) where
     abbrev parts : List Part
     parts = parts_with is_done.goes.steps []
 
@@ -188,7 +203,7 @@ module _ {C R : Type 0} (seen_of : C → Seen) (led_of : C → Disks → Tree �
     traced : trace_of (parts_of (one ∷ done)) ≡ trace_of parts ++ trace_of (parts_of done)
     traced = trace_of-append parts (parts_of done)
 
-    stands_now : (text : List ℕ) → text ≡ trace_text (lines_by is_done.goes.steps) → ReplayStands Now (led_of new.cluster (ra.state after)) new.lacking (one ∷ done) start_text (written ++ text)
+    stands_now : (text : List ℕ) → text ≡ trace_text (lines_by is_done.goes.steps) → ReplayStands Now (led_of new.cluster (ra.state after)) new.lacking (snapshot_of seen_of new (ra.state after)) (one ∷ done) start_text (written ++ text)
     stands_now text text_is = record {
       led = subst (λ (t : Tree). led_of new.cluster (ra.state after) t (parts_of (one ∷ done))) (sym opened)
           (subst (led_of new.cluster (ra.state after) tree) whole (is_done.goes.leads tree (parts_of done) tells stands.led));
@@ -198,6 +213,7 @@ module _ {C R : Type 0} (seen_of : C → Seen) (led_of : C → Disks → Tree �
             (by_now (by_lines Was (seen_of old.cluster) old.clock (lines_of done) reached.shows)),
         of_lines_weaker Was Now goes_on done stands.of_lines,
       );
+      execution = (Some (snapshot_of seen_of old (ra.state before)), execution_weaker Was Now goes_on done (Some (snapshot_of seen_of old (ra.state before))) stands.execution, Executed (snapshot_of seen_of old (ra.state before)) (snapshot_of seen_of new (ra.state after)) refl refl (executes tells));
       in_range = subst (AllByRecursion InTraceRange) (sym traced)
           (all_append InTraceRange (trace_of parts) (trace_of (parts_of done)) (subst (AllByRecursion InTraceRange) (reverse-reverse (trace_of parts)) (all_reversed InTraceRange (lines_by is_done.goes.steps) is_done.goes.in_range)) stands.in_range);
       output = ap (λ (w : List ℕ). written ++ w) text_is ∙ ap (λ (w : List ℕ). w ++ trace_text (lines_by is_done.goes.steps)) stands.output
@@ -213,15 +229,16 @@ module _ {C R : Type 0} (seen_of : C → Seen) (led_of : C → Disks → Tree �
             of (inr may) = inr (goes_on may)
 
     -- all lines of the trace were written, or a part of them
-    pub stands_all : old.text ≡ [] → (now : List ℕ) → now ≡ written ++ new.text → StandsAfter Now (led_of new.cluster (ra.state after)) new.lacking line done start_text now
+    pub stands_all : old.text ≡ [] → (now : List ℕ) → now ≡ written ++ new.text → StandsAfter Now (led_of new.cluster (ra.state after)) new.lacking (snapshot_of seen_of old (ra.state before)) (snapshot_of seen_of new (ra.state after)) line done start_text now
     stands_all cleared now is = record {
       parts = parts;
-      stands = subst (ReplayStands Now (led_of new.cluster (ra.state after)) new.lacking (one ∷ done) start_text) (sym is) (stands_now new.text (text_is cleared));
+      executes = executes tells;
+      stands = subst (ReplayStands Now (led_of new.cluster (ra.state after)) new.lacking (snapshot_of seen_of new (ra.state after)) (one ∷ done) start_text) (sym is) (stands_now new.text (text_is cleared));
     }
       where
         text_is : old.text ≡ [] → new.text ≡ trace_text (lines_by is_done.goes.steps)
         text_is none = is_done.goes.text ∙ ap (λ (w : List ℕ). w ++ trace_text (lines_by is_done.goes.steps)) none
 
     pub stands_part : old.text ≡ [] → (now : List ℕ) (n : ℕ) → now ≡ written ++ take n new.text
-        → (text : List ℕ) × (m : ℕ) × (now ≡ written ++ take m text) × StandsAfter Now (led_of new.cluster (ra.state after)) new.lacking line done start_text (written ++ text)
+        → (text : List ℕ) × (m : ℕ) × (now ≡ written ++ take m text) × StandsAfter Now (led_of new.cluster (ra.state after)) new.lacking (snapshot_of seen_of old (ra.state before)) (snapshot_of seen_of new (ra.state after)) line done start_text (written ++ text)
     stands_part cleared now n is = (new.text, n, is, stands_all cleared (written ++ new.text) refl)

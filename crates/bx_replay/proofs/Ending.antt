@@ -35,8 +35,8 @@ module _ (Of : Tree → Entry → Tree → Type 0) (at_once : List ℕ → Type 
       let account = accounts (opening_of (schedule_of done)) (parts_of done) led in
       (account.last, headline Of at_once acts answers MayStop done is account)
 
-  pub closes_so : (done : List Done) → IsOfLines MayStop done → (lacking : set.FinSet nat_cmp) → AreLacking lacking (parts_of done) → (disks : Disks)
-      → (closes : Closes Of at_once (StandAlone disks) (AreOpenAlone disks) (opening_of (schedule_of done)) (parts_of done)) (points : List Point) → IsShownAs disks (set.contains lacking) closes.next points → ClosesSo MayStop done closes.next points
+  pub closes_so : (done : List Done) (is : IsOfLines MayStop done) → (lacking : set.FinSet nat_cmp) → AreLacking lacking (parts_of done) → (disks : Disks)
+      → (closes : Closes Of at_once (StandAlone disks) (AreOpenAlone disks) (opening_of (schedule_of done)) (parts_of done)) (points : List Point) → IsShownAs disks (set.contains lacking) closes.next points → ClosesSo MayStop done is.now closes.next points
   closes_so done is lacking lacks disks closes points shown =
       let told : closes.opened ≡ points =
       sym (closes.open_is shown.opened shown.open_are) ∙ sym (filter_same (λ (p : Point). set.contains lacking p.call) (λ (p : Point). lacks_point (trace_of (parts_of done)) p.call) shown.opened (λ (p : Point). lacks p.call)) ∙ sym shown.points_are in
@@ -44,9 +44,9 @@ module _ (Of : Tree → Entry → Tree → Type 0) (at_once : List ℕ → Type 
       (subst (λ (l : List Point). Tells Of closes.doubts 8 closes.account.last closes.next l) told closes.tells) shown.in_range
 
   -- an end that was written once the tree was read back
-  pub ending : (done : List Done) → IsOfLines MayStop done → (lacking : set.FinSet nat_cmp) → AreLacking lacking (parts_of done) → (disks : Disks)
+  pub ending : (done : List Done) (is : IsOfLines MayStop done) → (lacking : set.FinSet nat_cmp) → AreLacking lacking (parts_of done) → (disks : Disks)
       → Closes Of at_once (StandAlone disks) (AreOpenAlone disks) (opening_of (schedule_of done)) (parts_of done) → (r : Result (Unit {0}) Stop) (old new : List ℕ)
-      → ((tree : Tree) → StandAlone disks tree → Ends r disks (set.contains lacking) tree old new) → IsEnding MayStop disks (set.contains lacking) r old new done
+      → ((tree : Tree) → StandAlone disks tree → Ends r disks (set.contains lacking) tree old new) → IsEnding MayStop is.now disks (set.contains lacking) r old new done
   ending done is lacking lacks disks closes r old new ends = record {
     tree = closes.next;
     closes = λ points shown. closes_so done is lacking lacks disks closes points shown;

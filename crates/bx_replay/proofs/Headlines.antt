@@ -1,5 +1,5 @@
 -- A replay that stands has the headline's property.
-use Rattle.std.proofs.Common.{◌≡◌, ◌⊎◌, ℕ, zero, suc, ◌<◌, List, [], ◌∷◌, ◌++◌, Option, Some, inl, inr, refl, sym, ap, ◌∙◌, arith, subst}
+use Rattle.std.proofs.Common.{◌≡◌, ◌⊎◌, ℕ, zero, suc, ◌<◌, List, [], ◌∷◌, ◌++◌, Option, Some, None, inl, inr, refl, sym, ap, ◌∙◌, arith, subst}
 use Rattle.std.specs.Prelude.{◌≢◌, map, reverse}
 use Rattle.std.specs.List.{AllByRecursion}
 use Rattle.std.proofs.lemmas.List.{reverse-append, reverse-reverse}
@@ -21,7 +21,8 @@ use Rattle.bx_model.specs.History.{IsStep}
 use Rattle.bx_opens.specs.Opening.{first_tree}
 use Rattle.bx_opens.specs.bx_cluster.specs.Closing.{Doubt, HasActed, IsDoubted, Tells}
 use Rattle.bx_opens.specs.bx_cluster.specs.Runs as runs
-use Rattle.bx_schedule.specs.Placing.{AreOfLines, Done, parts_of, schedule_of}
+use Rattle.bx_schedule.specs.Execution.{Snapshot}
+use Rattle.bx_schedule.specs.Placing.{AreOfLines, Done, IsExecution, parts_of, schedule_of}
 use Rattle.bx_opens.specs.AtOnce.{IsAtOnce}
 use Rattle.bx_steps.specs.Steps as engine
 use Rattle.bx_replay.specs.Headline.{rules, opening_of, AreTyped, EntryStep, Headline}
@@ -65,37 +66,49 @@ one_told first last tree trace history others fits leads fits' leads' =
     let one = one_history EntryStep step_once rules.kept first tree last trace (reverse others) history fits' leads' fits leads in
     (sym (reverse-reverse others) ∙ ap (λ (h : List traces.Entry). reverse h) one.0, one.1)
 
--- what was done, and of which the trace is in range
+-- what was done, and led to where a schedule stands now, and of which the trace is in range
 pub record IsOfLines (MayStop : Type 0) (done : List Done) : Type 0 where
   pub of_lines : AreOfLines MayStop done
+  pub now : Option Snapshot
+  pub execution : IsExecution MayStop done now
   pub in_range : AllByRecursion InTraceRange (trace_of (parts_of done))
 
+-- the headline, by which a schedule stands so now
+pub record HeadlineAt (MayStop : Type 0) (schedule : List Line) (trace closing : List TraceLine) (last : Tree) (now : Option Snapshot) : Type 0 where
+  pub headline : Headline MayStop schedule trace closing last
+  pub stands : headline.placed.now ≡ now
+
 -- points behind the trace close a history, as the headline says
-headline_of : (MayStop : Type 0) (done : List Done) (points : List Point) (history : List traces.Entry) (last next : Tree) → IsOfLines MayStop done
+headline_of : (MayStop : Type 0) (done : List Done) (points : List Point) (history : List traces.Entry) (last next : Tree) → (is : IsOfLines MayStop done)
     → AwaitsNewest EntryStep rules (opening_of (schedule_of done)) (parts_of done) history last (waiting (parts_of done)) → IsClosed EntryStep rules (opening_of (schedule_of done)) (parts_of done) points next
-    → AllByRecursion InTraceRange (map Acted points) → Headline MayStop (schedule_of done) (reverse (trace_of (parts_of done))) (map Acted points) next
+    → AllByRecursion InTraceRange (map Acted points) → HeadlineAt MayStop (schedule_of done) (reverse (trace_of (parts_of done))) (map Acted points) next is.now
 headline_of MayStop done points history last next is accounts closes in_range =
     let first : Tree = opening_of (schedule_of done) in
     let all = typed first next closes.history closes.leads in
     let twice : reverse (reverse closes.history) ≡ closes.history = reverse-reverse closes.history in
     record {
-      history = reverse all.history;
-      bytes = reverse closes.history;
-      typed = AreTyped-reverse closes.history all.history all.typed;
-      fits = rw (closes.whole_is, twice) closes.fits;
-      legal = rw (reverse-reverse all.history) all.leads;
-      placed = record {
-        done = done;
-        along = refl;
-        of_lines = is.of_lines;
-        whole = sym (reverse-reverse (trace_of (parts_of done)));
-        placed = accounts.placed;
-        closed = closes.closed;
+      headline = record {
+        history = reverse all.history;
+        bytes = reverse closes.history;
+        typed = AreTyped-reverse closes.history all.history all.typed;
+        fits = rw (closes.whole_is, twice) closes.fits;
+        legal = rw (reverse-reverse all.history) all.leads;
+        placed = record {
+          done = done;
+          along = refl;
+          of_lines = is.of_lines;
+          now = is.now;
+          execution = is.execution;
+          whole = sym (reverse-reverse (trace_of (parts_of done)));
+          placed = accounts.placed;
+          closed = closes.closed;
+        };
+        in_range = all_append InTraceRange (reverse (trace_of (parts_of done))) (map Acted points) (all_reversed InTraceRange (trace_of (parts_of done)) is.in_range) in_range;
+        only = λ others tree fits leads.
+            let one = one_told first next tree (reverse (reverse (trace_of (parts_of done)) ++ map Acted points)) closes.history others (rw closes.whole_is closes.fits) closes.leads fits leads in
+            (one.0, one.1);
       };
-      in_range = all_append InTraceRange (reverse (trace_of (parts_of done))) (map Acted points) (all_reversed InTraceRange (trace_of (parts_of done)) is.in_range) in_range;
-      only = λ others tree fits leads.
-          let one = one_told first next tree (reverse (reverse (trace_of (parts_of done)) ++ map Acted points)) closes.history others (rw closes.whole_is closes.fits) closes.leads fits leads in
-          (one.0, one.1);
+      stands = refl;
     }
 
 module _ (Of : Tree → traces.Entry → Tree → Type 0) (at_once : List ℕ → Type 0) (acts : (tree next : Tree) (entry : traces.Entry) → Of tree entry next → runs.StepOf engine.StepOfTree tree entry next)
@@ -107,7 +120,7 @@ module _ (Of : Tree → traces.Entry → Tree → Type 0) (at_once : List ℕ �
   parts = parts_of done
 
   -- the trace alone
-  pub headline : (account : runs.Account Of at_once (opening_of (schedule_of done)) (parts_of done)) → Headline MayStop (schedule_of done) (reverse (trace_of (parts_of done))) [] account.last
+  pub headline : (account : runs.Account Of at_once (opening_of (schedule_of done)) (parts_of done)) → HeadlineAt MayStop (schedule_of done) (reverse (trace_of (parts_of done))) [] account.last stood.now
   headline account =
       let accounts = typed_account Of at_once acts answers opening account.last parts account.history (waiting parts) account.accounts in
       headline_of MayStop done [] account.history account.last account.last stood accounts (closes_none EntryStep rules opening parts account.history account.last (waiting parts) accounts) tt
@@ -166,7 +179,7 @@ module _ (Of : Tree → traces.Entry → Tree → Type 0) (at_once : List ℕ �
 
     -- with what is told at the end
     pub headline_told : (slots : ℕ) (next : Tree) (opened : List Point) → Tells Of doubts slots account.last next opened → AllByRecursion InTraceRange (map Acted opened)
-        → Headline MayStop (schedule_of done) (reverse (trace_of (parts_of done))) (map Acted opened) next
+        → HeadlineAt MayStop (schedule_of done) (reverse (trace_of (parts_of done))) (map Acted opened) next stood.now
     headline_told slots next opened told in_range = headline_of MayStop done opened account.history account.last next stood accounts (closing slots next opened told).closes in_range
 
 -- before the first line
@@ -177,7 +190,7 @@ no_headline MayStop = record {
   typed = tt;
   fits = refl;
   legal = refl;
-  placed = record { done = []; along = refl; of_lines = tt; whole = refl; placed = tt; closed = tt };
+  placed = record { done = []; along = refl; of_lines = tt; now = None; execution = refl; whole = refl; placed = tt; closed = tt };
   in_range = tt;
   only = λ others tree fits leads. one_told (first_tree 0 1) (first_tree 0 1) tree [] [] others refl refl fits leads;
 }

@@ -9,7 +9,9 @@ use Rattle.bx_history.specs.Along.{AllowedNewest}
 use Rattle.bx_history.specs.Parts.{Part}
 use Rattle.bx_model.specs.declared.tree.Tree.{Tree}
 use Rattle.bx_opens.specs.bx_world_events.specs.Refusals.{Seen}
-use Rattle.bx_schedule.specs.Placing.{AreOfLines, Done}
+use Rattle.bx_schedule.specs.Execution.{ComesBy, Snapshot}
+use Rattle.bx_schedule.specs.Execution.ComesBy.{Executed, Opened}
+use Rattle.bx_schedule.specs.Placing.{AreOfLines, Done, IsExecution}
 use Rattle.bx_script.specs.declared.line.Line.{Line}
 use Rattle.bx_stops.specs.declared.stop.Reason.{Reason}
 use Rattle.bx_stops.specs.declared.stop.Reason.TheVariants.{Grammar, NoMachine, ClockBack, NoPacket, Up, Down, NothingToSync, StillNeeded}
@@ -109,11 +111,30 @@ module _ (P Q : Type 0) (gives : P → Q) where
     of_lines_weaker before are.1,
   )
 
-  pub stands_weaker : (Led : Tree → List Part → Type 0) (lacking : set.FinSet nat_cmp) (done : List Done) (start written : List ℕ) → ReplayStands P Led lacking done start written → ReplayStands Q Led lacking done start written
-  stands_weaker Led lacking done start written stands = record {
+  comes_weaker : (line : Line) (parts : List Part) (before now : Option Snapshot) → ComesBy P line parts before now → ComesBy Q line parts before now
+  comes_weaker line parts before now (Opened volume nodes devices areas at heading none first then_at opened) = Opened volume nodes devices areas at heading none first then_at opened
+  comes_weaker line parts before now (Executed from to from_is to_is executes) =
+      Executed from to from_is to_is (record {
+        allowed = executes.allowed;
+        steps = executes.steps;
+        is = executes.is;
+        parts_are = executes.parts_are;
+        stopped = λ stopped. gives (executes.stopped stopped);
+        held = executes.held;
+        clock = executes.clock;
+        disks = executes.disks;
+      })
+
+  pub execution_weaker : (done : List Done) (now : Option Snapshot) → IsExecution P done now → IsExecution Q done now
+  execution_weaker [] now is = is
+  execution_weaker (one ∷ earlier) now is = (is.0, execution_weaker earlier is.0 is.1, comes_weaker one.line one.parts is.0 now is.2)
+
+  pub stands_weaker : (Led : Tree → List Part → Type 0) (lacking : set.FinSet nat_cmp) (now : Snapshot) (done : List Done) (start written : List ℕ) → ReplayStands P Led lacking now done start written → ReplayStands Q Led lacking now done start written
+  stands_weaker Led lacking now done start written stands = record {
     led = stands.led;
     lacks = stands.lacks;
     of_lines = of_lines_weaker done stands.of_lines;
+    execution = execution_weaker done (Some now) stands.execution;
     in_range = stands.in_range;
     output = stands.output;
   }

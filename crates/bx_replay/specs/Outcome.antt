@@ -1,12 +1,15 @@
 -- What a replay leaves on its output, by the way in which it ends.
-use Rattle.std.specs.Prelude.{◌≡◌, ◌≢◌, ℕ, ◌+◌, ◌<◌, ◌≤◌, ◌==◌, Bool, List, [], ◌∷◌, ◌++◌, length, map, filter, reverse, codes, ◌⊎◌}
+use Rattle.std.specs.Prelude.{◌≡◌, ◌≢◌, ℕ, ◌+◌, ◌<◌, ◌≤◌, ◌==◌, Bool, List, [], ◌∷◌, ◌++◌, length, map, filter, reverse, codes, ◌⊎◌, Option, Some}
 use Rattle.bx_base.specs.Text.{LacksFeed, ended, text_of, lines_of}
 use Rattle.bx_base.specs.declared.names.Point.{Point}
 use Rattle.bx_disk.specs.Disks.{Disks}
+use Rattle.bx_disk.specs.declared.noise.Noise.TheVariants.{Drop}
 use Rattle.bx_model.specs.Listing.{listing}
 use Rattle.bx_model.specs.declared.tree.Tree.{Tree}
 use Rattle.bx_opens.specs.Opening.{AreOpenAlone}
 use Rattle.bx_opens.specs.bx_rack_audit.specs.Alone.{StandAlone}
+use Rattle.bx_opens.specs.bx_world_events.specs.declared.event.EventError.{EventError}
+use Rattle.bx_schedule.specs.Execution.{RefusesAt, Snapshot}
 use Rattle.bx_script.specs.Schedule.{HasPlace, IsSchedule}
 use Rattle.bx_script.specs.ScheduleLine.{spelling}
 use Rattle.bx_script.specs.TraceText.{trace_text}
@@ -15,8 +18,11 @@ use Rattle.bx_script.specs.declared.trace_line.TraceLine.{TraceLine}
 use Rattle.bx_script.specs.declared.trace_line.TraceLine.TheVariants.{Acted}
 use Rattle.bx_stops.specs.declared.stop.Reason.{Reason}
 use Rattle.bx_stops.specs.declared.stop.Reason.TheVariants.{Grammar, NoMachine, ClockBack, NoPacket, Up, Down, NothingToSync, StillNeeded}
+use Rattle.bx_stops.specs.declared.stop.Stop.TheVariants.{Refused}
+use Rattle.bx_replay.specs.Bench.{all_crashed}
 use Rattle.bx_replay.specs.Headline.{Headline}
 use Rattle.bx_replay.specs.Lines.{Allows, AreDone, GoesByRun, IsRefusedLine, after_lines}
+use Rattle.bx_replay.specs.Stops.{stop_of}
 
 -- what comes after the trace: the word `end`, the closing lines, and the listing of the tree
 abbrev pub closing_text : List TraceLine → Tree → List ℕ
@@ -35,20 +41,28 @@ pub record AreOfOpen (disks : Disks) (lines : List TraceLine) : Type 0 where
   pub of : ℕ → Bool
   pub lines_are : lines ≡ map Acted (filter (λ point. of point.call) points)
 
--- The disks, on which nothing is unsure, stand for the tree in the state that their own cells tell; and what is told of it behind `end` is of records that are open on them.
-pub record IsShownBy (disks : Disks) (tree : Tree) (closing : List TraceLine) : Type 0 where
+-- The disks are those that a schedule leaves, once what was unsure on each was dropped. They stand for the tree in the state that their own cells tell; and what is told of it behind `end` is of records that are open
+-- on them.
+pub record IsShownBy (disks : Disks) (now : Option Snapshot) (tree : Tree) (closing : List TraceLine) : Type 0 where
+  pub left : Snapshot
+  pub leaves : now ≡ Some left
+  pub dropped : disks ≡ all_crashed left.disks Drop
   pub stands : StandAlone disks tree
   pub closing_open : AreOfOpen disks closing
 
+-- what is told of the end of a replay: where its schedule stood, the tree, and the closing lines
+abbrev pub AtEnd : Type 1
+AtEnd = Option Snapshot → Tree → List TraceLine → Type 0
+
 -- The output is the trace of such a text, `end`, closing lines, and the listing of the tree after it, which stand so.
-pub record IsReplayed (MayStop : Type 0) (text : List ℕ) (ReplayStands : Tree → List TraceLine → Type 0) (output : List ℕ) : Type 0 where
+pub record IsReplayed (MayStop : Type 0) (text : List ℕ) (ReplayStands : AtEnd) (output : List ℕ) : Type 0 where
   pub input : IsPlayable MayStop text
   pub trace : List TraceLine
   pub closing : List TraceLine
   pub last : Tree
   pub headline : Headline MayStop input.schedule trace closing last
   pub output-is : output ≡ trace_text trace ++ closing_text closing last
-  pub stands : ReplayStands last closing
+  pub stands : ReplayStands headline.placed.now last closing
 
 -- the text spells a line that has its place behind these lines, and that is refused so
 pub record IsTurnedAway (MayStop : Type 0) (before : List Line) (text : List ℕ) (reason : Reason) : Type 0 where
@@ -94,12 +108,22 @@ pub record IsRefusedByRun (MayStop : Type 0) (text : List ℕ) : Type 0 where
   pub allowed : Allows MayStop (reverse refused.done) line
   pub by_run : GoesByRun MayStop reason line
 
--- That line is refused so, and the output is the trace of the lines before.
+-- Where a schedule stands, the first of these lines is refused, for the cause that the reason tells.
+pub record IsTurnedAwayThere (now : Option Snapshot) (others : List (List ℕ)) (number : ℕ) (reason : Reason) : Type 0 where
+  pub line : Line
+  pub rest : List (List ℕ)
+  pub next : others ≡ spelling line ∷ rest
+  pub error : EventError
+  pub refuses : RefusesAt now line error
+  pub tells : stop_of number error ≡ Refused number reason
+
+-- That line is refused so: it is outside the grammar, or it was refused where the lines before led to; and the output is the trace of the lines before.
 pub record IsRefused (MayStop : Type 0) (text : List ℕ) (number : ℕ) (reason : Reason) (output : List ℕ) : Type 0 where
   pub first : IsReplayRefusal MayStop text number reason
   pub trace : List TraceLine
   pub last : Tree
   pub headline : Headline MayStop first.done trace [] last
+  pub there : (reason ≡ Grammar) ⊎ IsTurnedAwayThere headline.placed.now first.others number reason
   pub output-is : output ≡ trace_text trace
 
 -- The text is these lines, and then the rest; or it is these lines, of which the last lacks its line feed, and no rest.

@@ -15,19 +15,21 @@ use Rattle.bx_opens.specs.Opening.{AreOpenAlone}
 use Rattle.bx_opens.specs.bx_rack_audit.specs.Alone.{StandAlone}
 use Rattle.bx_opens.specs.bx_world_events.specs.Causes.{IsThere as IsInCluster}
 use Rattle.bx_opens.specs.bx_world_events.specs.Refusals.{Seen}
+use Rattle.bx_opens.specs.bx_world_events.specs.declared.event.EventError.{EventError}
+use Rattle.bx_schedule.specs.Execution.{Executes, RefusesAt, Snapshot}
 use Rattle.bx_schedule.specs.Lacking.{AreLacking}
-use Rattle.bx_schedule.specs.Placing.{AreOfLines, Done, lines_of, parts_of, schedule_of}
+use Rattle.bx_schedule.specs.Placing.{AreOfLines, Done, IsExecution, lines_of, parts_of, schedule_of}
 use Rattle.bx_script.specs.ScheduleLine.{spelling}
 use Rattle.bx_script.specs.TraceText.{InTraceRange, trace_text}
 use Rattle.bx_script.specs.declared.line.Line.{Line}
-use Rattle.bx_script.specs.declared.trace_line.TraceLine.{TraceLine}
 use Rattle.bx_script.specs.declared.trace_line.TraceLine.TheVariants.{Acted}
 use Rattle.bx_stops.specs.declared.stop.Reason.TheVariants.{Grammar}
 use Rattle.bx_stops.specs.declared.stop.Stop.{Stop}
 use Rattle.bx_stops.specs.declared.stop.Stop.TheVariants as stops
 use Rattle.bx_replay.specs.Headline.{opening_of}
 use Rattle.bx_replay.specs.Lines.{Allows, IsRefusedLine, Machines, after_lines}
-use Rattle.bx_replay.specs.Outcome.{IsBroken, IsCut, IsCutOff, IsPlayable, IsReadTo, IsReplayRefusal, IsRefused, IsReplayed, closing_text}
+use Rattle.bx_replay.specs.Outcome.{AtEnd, IsBroken, IsCut, IsCutOff, IsPlayable, IsReadTo, IsReplayRefusal, IsRefused, IsReplayed, closing_text}
+use Rattle.bx_replay.specs.Stops.{stop_of}
 use Rattle.bx_script.specs.Schedule.{HasPlace}
 
 -- A cluster shows what lines tell of its machines: no other is down, unless one may have stopped by itself.
@@ -44,12 +46,13 @@ pub record Reached (MayStop : Type 0) (seen : Seen) (greatest : ℕ) (done : Lis
   pub are_done : AllowedNewest (Allows MayStop) done
   pub shows : ShowsLines MayStop (after_lines done) seen greatest
 
--- These lines were done, the newest first: their parts led to the cluster from the tree that the heading opens, these calls lack their points, and what was written since the start is the trace of the parts, whose
--- lines are in range.
-pub record ReplayStands (MayStop : Type 0) (Led : Tree → List Part → Type 0) (lacking : set.FinSet nat_cmp) (done : List Done) (start written : List ℕ) : Type 0 where
+-- These lines were done, the newest first: each did what it says, which led to where the schedule stands now; their parts led to the cluster from the tree that the heading opens, these calls lack their points,
+-- and what was written since the start is the trace of the parts, whose lines are in range.
+pub record ReplayStands (MayStop : Type 0) (Led : Tree → List Part → Type 0) (lacking : set.FinSet nat_cmp) (now : Snapshot) (done : List Done) (start written : List ℕ) : Type 0 where
   pub led : Led (opening_of (schedule_of done)) (parts_of done)
   pub lacks : AreLacking lacking (parts_of done)
   pub of_lines : AreOfLines MayStop done
+  pub execution : IsExecution MayStop done (Some now)
   pub in_range : AllByRecursion InTraceRange (trace_of (parts_of done))
   pub output : written ≡ start ++ trace_text (reverse (trace_of (parts_of done)))
 
@@ -61,12 +64,12 @@ pub record IsRead (MayStop : Type 0) (seen : Seen) (greatest : ℕ) (text rest :
   pub count : number ≡ length done
 
 -- What was read, done and written.
-pub record Going (MayStop : Type 0) (Led : Tree → List Part → Type 0) (lacking : set.FinSet nat_cmp) (seen : Seen) (greatest : ℕ) (text rest : List ℕ) (number : ℕ) (start written : List ℕ) : Type 0 where
+pub record Going (MayStop : Type 0) (Led : Tree → List Part → Type 0) (lacking : set.FinSet nat_cmp) (now : Snapshot) (text rest : List ℕ) (number : ℕ) (start written : List ℕ) : Type 0 where
   pub done : List Done
-  pub reached : Reached MayStop seen greatest (lines_of done)
+  pub reached : Reached MayStop now.seen now.clock (lines_of done)
   pub read : IsReadTo text (schedule_of done) rest
   pub count : number ≡ length (lines_of done)
-  pub stands : ReplayStands MayStop Led lacking done start written
+  pub stands : ReplayStands MayStop Led lacking now done start written
 
 -- no fault of a sink, and of a bench, is forgotten, and both go on to tell what they told
 pub record BenchGoesOn (sink_told sink_tells : Type 0) (sink_before sink_now : ℕ) (bench_told bench_tells_now : Type 0) (bench_before bench_now : ℕ) : Type 0 where
@@ -149,10 +152,10 @@ Begins seen greatest (Err stops.DiskFault) text rest left = Unit {0}
 Begins seen greatest (Err stops.OutOfMemory) text rest left = Unit {0}
 
 -- The heading that the text begins with has no events: with it the cluster stands for what was written before.
-abbrev pub BeginsLed : {A : Type 0} → (A → Tree → List Part → Type 0) → (A → set.FinSet nat_cmp) → Result A Stop → List ℕ → Type 0
-BeginsLed Led lacking (Ok begun) text = (heading : Line) (rest start : List ℕ) → HasPlace true heading → BeginsWith text (spelling heading) rest
-    → ReplayStands ⊥ (Led begun) (lacking begun) (record { line = heading; parts = [] } ∷ []) start start
-BeginsLed Led lacking (Err stop) text = Unit {0}
+abbrev pub BeginsLed : {A : Type 0} → (A → Tree → List Part → Type 0) → (A → set.FinSet nat_cmp) → (A → Snapshot) → Result A Stop → List ℕ → Type 0
+BeginsLed Led lacking snapshot (Ok begun) text = (heading : Line) (rest start : List ℕ) → HasPlace true heading → BeginsWith text (spelling heading) rest
+    → ReplayStands ⊥ (Led begun) (lacking begun) (snapshot begun) (record { line = heading; parts = [] } ∷ []) start start
+BeginsLed Led lacking snapshot (Err stop) text = Unit {0}
 
 -- why a replay doesn't begin: the faults of the source and of the bench, before and now
 abbrev pub HasBeginCause : Stop → ℕ → ℕ → ℕ → ℕ → Type 0
@@ -164,10 +167,11 @@ HasBeginCause stops.OutOfMemory source_before source_now bench_before bench_now 
 
 -- ---- doing a line
 
--- These lines and one more were done, with some parts.
-pub record StandsAfter (MayStop : Type 0) (Led : Tree → List Part → Type 0) (lacking : set.FinSet nat_cmp) (line : Line) (done : List Done) (start written : List ℕ) : Type 0 where
+-- These lines and one more were done, with some parts; and that one led from where the schedule stood to where it stands now.
+pub record StandsAfter (MayStop : Type 0) (Led : Tree → List Part → Type 0) (lacking : set.FinSet nat_cmp) (was now : Snapshot) (line : Line) (done : List Done) (start written : List ℕ) : Type 0 where
   pub parts : List Part
-  pub stands : ReplayStands MayStop Led lacking (record { line = line; parts = parts } ∷ done) start written
+  pub executes : Executes MayStop line parts was now
+  pub stands : ReplayStands MayStop Led lacking now (record { line = line; parts = parts } ∷ done) start written
 
 -- What doing a line leaves on the output, by what it leaves where it is done: all of its lines; or nothing, where it is refused; or a part of them.
 abbrev pub DoesLine : Result (Unit {0}) Stop → (List ℕ → Type 0) → List ℕ → List ℕ → Type 0
@@ -193,6 +197,14 @@ IsRefusedFor MayStop stops.ReadFault wanted machines line = ⊥
 IsRefusedFor MayStop stops.WriteFault wanted machines line = Unit {0}
 IsRefusedFor MayStop stops.DiskFault wanted machines line = ⊥
 IsRefusedFor MayStop stops.OutOfMemory wanted machines line = Unit {0}
+
+-- where a schedule stands so, a line is refused for the cause that the stop tells
+abbrev pub IsRefusedThere : Snapshot → Line → Stop → Type 0
+IsRefusedThere now line (stops.Refused number reason) = (error : EventError) × RefusesAt (Some now) line error × (stop_of number error ≡ stops.Refused number reason)
+IsRefusedThere now line stops.ReadFault = Unit {0}
+IsRefusedThere now line stops.WriteFault = Unit {0}
+IsRefusedThere now line stops.DiskFault = Unit {0}
+IsRefusedThere now line stops.OutOfMemory = Unit {0}
 
 -- all of a text is behind what was there before; or a part of it, from its front; or none
 abbrev pub Prints : Result (Unit {0}) Stop → List ℕ → List ℕ → List ℕ → Type 0
@@ -267,7 +279,7 @@ pub record WroteOn (old new : List ℕ) (P : List ℕ → Type 0) : Type 0 where
 
 -- What a replay leaves, by what it was given and what is left of that; and, where the sink and the bench tell, by what the sink had and has. The tree that a replay to the end leaves stands on the bench so, with what is told
 -- behind `end`.
-abbrev pub Leaves : Type 0 → Type 0 → (Tree → List TraceLine → Type 0) → Result (Unit {0}) Stop → List ℕ → List ℕ → List ℕ → List ℕ → Type 0
+abbrev pub Leaves : Type 0 → Type 0 → AtEnd → Result (Unit {0}) Stop → List ℕ → List ℕ → List ℕ → List ℕ → Type 0
 Leaves MayStop Tells ReplayStands (Ok _) text left old new = IsPlayable MayStop text × (left ≡ []) × (Tells → WroteOn old new (IsReplayed MayStop text ReplayStands))
 Leaves MayStop Tells ReplayStands (Err (stops.Refused number reason)) text left old new = IsReplayRefusal MayStop text number reason × (Tells → WroteOn old new (IsRefused MayStop text number reason))
 Leaves MayStop Tells ReplayStands (Err stops.ReadFault) text left old new = IsCut MayStop text left × (Tells → WroteOn old new (IsCutOff MayStop text left))

@@ -4,6 +4,7 @@ ghost use Rattle.std.specs.Prelude.{◌≡◌, ◌≤◌, ◌++◌, [], ◌∷�
 ghost use Rattle.bx_base.specs.Faults.{Rose};
 ghost use Rattle.bx_history.specs.Parts.{Part};
 ghost use Rattle.bx_model.specs.declared.tree.Tree.{Tree};
+ghost use Rattle.bx_schedule.specs.Execution.{snapshot_of};
 ghost use Rattle.bx_schedule.specs.Places.{CanGo, place_of};
 ghost use Rattle.bx_replay.specs.Replay.{Begins, BeginsLed, HasBeginCause, UnlessDisk, UnlessRead};
 
@@ -25,7 +26,7 @@ pub(crate) fn begin<O: Opens, S: Source, B: Rack>(
 ) -> Result<Schedule<O::Made>, Stop>
     requires { reader.old.most ≡ 18600 }
     ensures begins { S.tells input.old → Begins (λ schedule. O.Made.seen schedule.cluster) (λ schedule. (place_of schedule).clock) result (reader.old.ahead ++ S.left input.old) (reader.new.ahead ++ S.left input.new) (S.left input.new) }
-    ensures led { S.tells input.old → B.tells bench.old → BeginsLed (λ schedule. O.Made.led schedule.cluster (B.state bench.new)) (λ schedule. (place_of schedule).lacking) result (reader.old.ahead ++ S.left input.old) }
+    ensures led { S.tells input.old → B.tells bench.old → BeginsLed (λ schedule. O.Made.led schedule.cluster (B.state bench.new)) (λ schedule. (place_of schedule).lacking) (λ schedule. snapshot_of O.Made.seen (place_of schedule) (B.state bench.new)) result (reader.old.ahead ++ S.left input.old) }
     ensures holds { B.tells bench.old → IfOk result (λ schedule. (tree : Tree) × (parts : List Part) × O.Made.led schedule.cluster (B.state bench.new) tree parts) }
     ensures goes { IfOk result (λ schedule. CanGo O.Made.seen O.Made.room B.Rack (place_of schedule) bench.new) }
     ensures events { IfOk result (λ schedule. O.Made.events schedule.cluster ≡ 0) }

@@ -5,11 +5,12 @@ ghost use Rattle.bx_base.specs.Faults.{Rose};
 ghost use Rattle.bx_driver.specs.Racks.{KeepsRack};
 ghost use Rattle.bx_history.specs.Parts.{Part};
 ghost use Rattle.bx_model.specs.declared.tree.Tree.{Tree};
+ghost use Rattle.bx_schedule.specs.Execution.{snapshot_of};
 ghost use Rattle.bx_schedule.specs.Places.{CanGo, place_of};
 ghost use Rattle.bx_schedule.specs.Placing.{Done, lines_of};
 ghost use Rattle.bx_script.specs.declared.line.Line.{Line};
 ghost use Rattle.bx_replay.specs.Lines.{after_lines};
-ghost use Rattle.bx_replay.specs.Replay.{DoesLine, HasStepCause, IsRefusedFor, Reached, ReplayStands, StandsAfter, UnlessWrite};
+ghost use Rattle.bx_replay.specs.Replay.{DoesLine, HasStepCause, IsRefusedFor, IsRefusedThere, Reached, ReplayStands, StandsAfter, UnlessWrite};
 ghost use Rattle.bx_script.specs.Schedule.{HasPlace};
 
 use crate::stops::stop_of;
@@ -48,11 +49,12 @@ pub(crate) fn step<C: Cluster, K: Sink, B: CrashRack>(
         → OnOk result (Reached (Rose start (B.faults bench.new)) (C.seen schedule.new.cluster) (place_of schedule.new).clock (at.entry.line.now ∷ done)) }
     ensures refused { (start : ℕ) (done : List Line) → start ≤ B.faults bench.old → Reached (Rose start (B.faults bench.old)) (C.seen schedule.old.cluster) (place_of schedule.old).clock done
         → IfErr result (λ stop. IsRefusedFor (Rose start (B.faults bench.old)) stop at.entry.number (after_lines done) at.entry.line.now) }
+    ensures there { IfErr result (λ stop. IsRefusedThere (snapshot_of C.seen (place_of schedule.old) (B.state bench.old)) at.entry.line.now stop) }
     ensures does { (start : ℕ) (done : List Done) (begun : List ℕ) → K.tells out.old → B.tells bench.old → start ≤ B.faults bench.old → length (lines_of done) < 4294967295
         → Reached (Rose start (B.faults bench.old)) (C.seen schedule.old.cluster) (place_of schedule.old).clock (lines_of done)
-        → ReplayStands (Rose start (B.faults bench.old)) (C.led schedule.old.cluster (B.state bench.old)) (place_of schedule.old).lacking done begun (K.written out.old)
+        → ReplayStands (Rose start (B.faults bench.old)) (C.led schedule.old.cluster (B.state bench.old)) (place_of schedule.old).lacking (snapshot_of C.seen (place_of schedule.old) (B.state bench.old)) done begun (K.written out.old)
         → DoesLine result (λ written. Reached (Rose start (B.faults bench.new)) (C.seen schedule.new.cluster) (place_of schedule.new).clock (at.entry.line.now ∷ lines_of done)
-        × StandsAfter (Rose start (B.faults bench.new)) (C.led schedule.new.cluster (B.state bench.new)) (place_of schedule.new).lacking at.entry.line.now done begun written) (K.written out.old) (K.written out.new) }
+        × StandsAfter (Rose start (B.faults bench.new)) (C.led schedule.new.cluster (B.state bench.new)) (place_of schedule.new).lacking (snapshot_of C.seen (place_of schedule.old) (B.state bench.old)) (snapshot_of C.seen (place_of schedule.new) (B.state bench.new)) at.entry.line.now done begun written) (K.written out.old) (K.written out.new) }
     ensures leads { (tree : Tree) (parts : List Part) → B.tells bench.old → C.led schedule.old.cluster (B.state bench.old) tree parts → OnOk result ((now : List Part) × C.led schedule.new.cluster (B.state bench.new) tree now) }
     ensures cause { IfErr result (λ stop. HasStepCause stop at.entry.number (K.faults out.old) (K.faults out.new)) }
     ensures first { UnlessWrite result (K.faults out.new ≡ K.faults out.old) }

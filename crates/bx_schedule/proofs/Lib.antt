@@ -4,6 +4,7 @@ mod Crashing
 mod Downs
 mod Dues
 mod Each
+mod Executions
 mod Going
 mod Holding
 mod Lacks

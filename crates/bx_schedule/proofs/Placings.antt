@@ -43,7 +43,7 @@ turned_in (y ∷ ys) x inside = by (λ rest. turned_in ys x rest) (in_cases y x 
     by recur (inl same) = subst (Contains (reverse (y ∷ ys))) same (subst (λ l. Contains l y) (sym whole) (Contains-push (reverse ys) y))
     by recur (inr rest) = subst (λ l. Contains l x) (sym whole) (Contains-append_left (reverse ys) (y ∷ []) x (recur rest))
 
-as_many_parts : (steps : List EventStep) → length (parts_with steps []) ≡ length steps
+pub as_many_parts : (steps : List EventStep) → length (parts_with steps []) ≡ length steps
 as_many_parts [] = refl
 as_many_parts (step ∷ earlier) = let e = as_many_parts earlier in let both : length (parts_with (step ∷ earlier) []) ≡ length (step ∷ earlier) = omega (arith, e) in both
 

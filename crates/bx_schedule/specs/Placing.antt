@@ -13,6 +13,7 @@ use Rattle.bx_script.specs.declared.line.Line.TheVariants.{Heading, Call, Run, T
 use Rattle.bx_script.specs.declared.trace_line.TraceLine.{TraceLine}
 use Rattle.bx_world_events.specs.Causes.{IsThere}
 use Rattle.bx_world_events.specs.Refusals.{Seen}
+use Rattle.bx_schedule.specs.Execution.{ComesBy, Snapshot}
 
 -- A line that was done, with the parts that its events are, the newest first.
 pub record Done : Type 0 where
@@ -119,13 +120,22 @@ abbrev pub AreOfLines : Type 0 → List Done → Type 0
 AreOfLines MayStop [] = Unit {0}
 AreOfLines MayStop (done ∷ before) = ArePartsOf MayStop (lines_of before) done.line done.parts × AreOfLines MayStop before
 
+-- ---- what the lines did
+
+-- Lines that were done, the newest first, with their parts: each did what it says, from where those before it left the cluster to where a schedule stands now. Before the heading there is no cluster.
+abbrev pub IsExecution : Type 0 → List Done → Option Snapshot → Type 0
+IsExecution MayStop [] now = now ≡ None
+IsExecution MayStop (done ∷ earlier) now = (before : Option Snapshot) × IsExecution MayStop earlier before × ComesBy MayStop done.line done.parts before now
+
 -- ---- the whole
 
--- The trace splits into parts, those of each line of the schedule, and a closing part.
+-- The trace splits into parts, those of each line of the schedule, which did what it says, and a closing part.
 pub record IsPlaced (MayStop : Type 0) (rules : Rules) (schedule : List Line) (trace closing : List TraceLine) : Type 0 where
   pub done : List Done
   pub along : schedule_of done ≡ schedule
   pub of_lines : AreOfLines MayStop done
+  pub now : Option Snapshot
+  pub execution : IsExecution MayStop done now
   pub whole : trace_of (parts_of done) ≡ reverse trace
   pub placed : PlacedNewest rules (parts_of done)
   pub closed : AllByRecursion (IsClosing (parts_of done)) closing

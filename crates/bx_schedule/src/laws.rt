@@ -1,19 +1,24 @@
 //! What the lines of a schedule come to, in parts of a run.
 
-ghost use Rattle.std.specs.Prelude.{◌≡◌, ◌++◌, ◌∷◌, ◌⊎◌, [], ℕ, Bool, List, Option, false, map, reverse, true};
+ghost use Rattle.std.specs.Prelude.{◌≡◌, ◌++◌, ◌∷◌, ◌⊎◌, [], ℕ, Bool, List, None, Option, false, length, map, reverse, true};
 ghost use Rattle.std.specs.FinSet as set;
 ghost use Rattle.bx_base.specs.Faults.{Rose};
 ghost use Rattle.bx_base.specs.declared.names.Actor.{Actor};
+ghost use Rattle.bx_cluster.specs.Steps.{part_at};
+ghost use Rattle.bx_cluster.specs.declared.outcome.Outcome.{Outcome};
 ghost use Rattle.bx_driver.specs.Lanes.{lane_cmp};
+ghost use Rattle.bx_driver.specs.Runs.{IsDue};
 ghost use Rattle.bx_driver.specs.Steps.{EventStep, parts_with};
 ghost use Rattle.bx_history.specs.Parts.{Part};
 ghost use Rattle.bx_script.specs.Schedule.{is_heading};
 ghost use Rattle.bx_script.specs.declared.line.Line.{Line};
+ghost use Rattle.bx_script.specs.declared.line.Line.TheVariants.{Deliver as DeliverLine, Hold, Run};
 ghost use Rattle.bx_world_events.specs.Causes.{IsThere};
 ghost use Rattle.bx_world_events.specs.Refusals.{Seen};
-ghost use Rattle.bx_world_events.specs.declared.event.Event.TheVariants.{Crash, Restart};
+ghost use Rattle.bx_world_events.specs.declared.event.Event.TheVariants.{Crash, Deliver, Restart};
 ghost use Rattle.bx_world_events.specs.declared.event.EventError.{EventError};
 ghost use Rattle.bx_schedule.specs.Doing.{AllCrash, AllRestart, IsLine};
+ghost use Rattle.bx_schedule.specs.Execution.{Executes, Snapshot};
 ghost use Rattle.bx_schedule.specs.Places.{HasAsMany, has_stopped};
 ghost use Rattle.bx_schedule.specs.Placing.{ArePartsOf, IsByLines, is_down_by, nodes_after};
 ghost use Rattle.bx_schedule.specs.Refusing.{IsRefusal};
@@ -43,6 +48,15 @@ pub fn parts_stand_apart()
 pub fn each_has_its_turn()
     ensures crash { (from to : Seen) (steps : List EventStep) (all : AllCrash from steps to) → has_stopped steps ≡ false → map (λ step. step.event) steps ≡ map Crash (reverse all.machines) }
     ensures restart { (reading : ℕ) (from to : Seen) (steps : List EventStep) (all : AllRestart reading from steps to) → map (λ step. step.event) steps ≡ map (Restart reading) (reverse all.machines) }
+{}
+
+/// What an execution holds a line to: a run has as many parts as its limit says, or behind it nothing is due; one that did nothing had the limit 0, or nothing was due; a delivery is one event,
+/// that of its packet; and a lane that is to be held is.
+pub fn lines_are_executed()
+    ensures goes_on { (first now reading limit : ℕ) (parts : List Part) (from to : Snapshot) → Executes (Rose first now) (Run reading limit) parts from to → (length parts ≡ limit) ⊎ IsDue to.seen from.held reading None }
+    ensures rests { (first now reading limit : ℕ) (from to : Snapshot) → Executes (Rose first now) (Run reading limit) [] from to → (limit ≡ 0) ⊎ IsDue from.seen from.held reading None }
+    ensures delivers { (first now reading number : ℕ) (parts : List Part) (from to : Snapshot) → Executes (Rose first now) (DeliverLine reading number) parts from to → (outcome : Outcome) × (parts ≡ part_at (Deliver reading number) outcome ∷ []) }
+    ensures holds { (first now kind : ℕ) (a b : Actor) (parts : List Part) (from to : Snapshot) → Executes (Rose first now) (Hold a b kind) parts from to → set.contains to.held (record { from = a; to = b; kind = kind }) ≡ true }
 {}
 
 /// A line has one cause for which it is refused, or none.

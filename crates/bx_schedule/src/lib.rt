@@ -16,5 +16,8 @@ mod steps;
 mod tells;
 mod turns;
 
-pub use laws::{down_by_lines, each_has_its_turn, lines_are_placed, one_cause, parts_stand_apart};
+pub use laws::{
+    down_by_lines, each_has_its_turn, lines_are_executed, lines_are_placed, one_cause,
+    parts_stand_apart,
+};
 pub use schedule::Schedule;

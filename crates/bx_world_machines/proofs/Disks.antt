@@ -79,6 +79,8 @@ module _ {G O S E T : Type 0} (g : register.Ghosts G) (o : owners.Ghosts O) (st 
             (record { each = λ s there. laws.allowed nodes.register x c.register s stands.at.parts.register_keeps there }) legal (λ who. omega arith) owners_lose lost.0 goes labels lives alone;
         about = decided.still_about g o st (e.stands nodes.engine) (e.step nodes.engine) nodes.register nodes.register nodes.owners nodes.store x y letters letters clocks (seen nodes.machines.items) c tree stands
             (record { each = λ s there. laws.allowed nodes.register x c.register s stands.at.parts.register_keeps there }) legal (λ who. omega arith) owners_lose lost.0 goes labels lives alone;
+        recovering = decided.still_recovering g o st (e.stands nodes.engine) (e.step nodes.engine) nodes.register nodes.register nodes.owners nodes.store x y letters letters clocks (seen nodes.machines.items) c tree stands
+            (record { each = λ s there. laws.allowed nodes.register x c.register s stands.at.parts.register_keeps there }) legal (λ who. omega arith) owners_lose lost.0 goes labels lives alone;
         single = stands.single;
         told = stands.told;
         given = stands.given;

@@ -61,6 +61,7 @@ module _ {G O S T : Type 0} (g : register.Ghosts G) (o : owners.Ghosts O) (st : 
       (record {
         at = decided.still_at g o st Stands Step register_is register_is owners_are store_is x y letters letters clocks machines course tree stands allowed legal (λ who. omega arith) stands.at.parts.owners_keep on.store on.goes on.labels lives alone;
         about = decided.still_about g o st Stands Step register_is register_is owners_are store_is x y letters letters clocks machines course tree stands allowed legal (λ who. omega arith) stands.at.parts.owners_keep on.store on.goes on.labels lives alone;
+        recovering = decided.still_recovering g o st Stands Step register_is register_is owners_are store_is x y letters letters clocks machines course tree stands allowed legal (λ who. omega arith) stands.at.parts.owners_keep on.store on.goes on.labels lives alone;
         single = stands.single;
         told = stands.told;
         given = stands.given;

@@ -2,10 +2,11 @@ use Rattle.std.proofs.Common.{◌≡◌, [], Err, ap, refl}
 use Rattle.std.proofs.lemmas.Result.{err_from_is_err_and}
 use Rattle.bx_opens.specs.Opening.{first_tree}
 use Rattle.bx_opens.specs.declared.opens.Shape.{Shape}
+use Rattle.bx_schedule.specs.Execution.{snapshot_of}
 use Rattle.bx_schedule.specs.Places.{Place, place_of}
 use Rattle.bx_schedule.specs.declared.schedule.Schedule.{Schedule}
 use Rattle.bx_replay.proofs.Beginning.{begins_unmade, begins_unread, unmade_cause, unmade_counts, unread_cause}
-use Rattle.bx_replay.proofs.Begun.{begun, goes_first, led_first}
+use Rattle.bx_replay.proofs.Begun.{begun, goes_first, led_first, opened_first}
 use Rattle.bx_replay.proofs.Causes.{same_least, unless_disk, unless_read}
 use Rattle.bx_replay.proofs.begins.begin.Goals as goal
 
@@ -60,7 +61,8 @@ returns-in-Some-Heading g c =
     let shape : Shape = record { nodes = c.in-Some-Heading.nodes; devices = c.in-Some-Heading.devices; areas = c.in-Some-Heading.areas } in
     record {
       begins = λ source_tells. begun c.in-Some-Heading.volume c.in-Some-Heading.nodes c.in-Some-Heading.devices c.in-Some-Heading.areas shape _ _ _ _ place (rw (c.in-Some-Heading.is, c.in-Some-Heading.field-0-is) at (read.gives source_tells)) refl refl (ap (λ (p : Place g.row.O-Made.Denot). p.clock) c.new.ensures) (rw same made.new);
-      led = λ source_tells bench_tells. led_first c.in-Some-Heading.volume c.in-Some-Heading.nodes c.in-Some-Heading.devices c.in-Some-Heading.areas _ _ _ _ place (rw (c.in-Some-Heading.is, c.in-Some-Heading.field-0-is) at (read.gives source_tells)) (rw same (made.led bench_tells)) (ap (λ (p : Place g.row.O-Made.Denot). p.lacking) c.new.ensures);
+      led = λ source_tells bench_tells. led_first c.in-Some-Heading.volume c.in-Some-Heading.nodes c.in-Some-Heading.devices c.in-Some-Heading.areas _ _ (snapshot_of g.O.Made.Shows.seen (place_of c.new.result) (g.B.Rack.state c.begin.new.rack)) _ _ place (rw (c.in-Some-Heading.is, c.in-Some-Heading.field-0-is) at (read.gives source_tells)) (rw same (made.led bench_tells)) (ap (λ (p : Place g.row.O-Made.Denot). p.lacking) c.new.ensures)
+          (opened_first c.in-Some-Heading.volume c.in-Some-Heading.nodes c.in-Some-Heading.devices c.in-Some-Heading.areas shape _ refl refl (rw same made.new) (ap (λ (p : Place g.row.O-Made.Denot). p.held) c.new.ensures) (ap (λ (p : Place g.row.O-Made.Denot). p.clock) c.new.ensures));
       holds = λ bench_tells. (first_tree c.in-Some-Heading.volume c.in-Some-Heading.areas, [], rw same (made.led bench_tells));
       goes = goes_first _ _ _ _ _ _ shape same made.new place.0.most_nodes place.0.most_devices made.room;
       events = rw same made.events;

@@ -3,6 +3,7 @@ use Rattle.std.specs.FinSet as set
 use Rattle.std.proofs.lemmas.Result.{IfErr-weaker, err_from_is_err_and, on_ok_weaker}
 use Rattle.bx_base.specs.Faults.{Rose}
 use Rattle.bx_disk.specs.declared.noise.Noise.TheVariants.{Drop}
+use Rattle.bx_schedule.specs.Execution.{snapshot_of}
 use Rattle.bx_schedule.specs.Places.{place_of}
 use Rattle.bx_schedule.specs.Placing.{lines_of}
 use Rattle.bx_replay.specs.Bench.{all_crashed}
@@ -74,7 +75,7 @@ lines-init g c =
       read = λ source_tells. read_first _ _ _ _ _ (rw (ap (λ (r : _). r.ahead) c.in_ok-reader.ensures) at (began.begins source_tells));
       going = λ source_tells sink_tells bench_tells.
           let begun = rw (ap (λ (r : _). r.ahead) c.in_ok-reader.ensures) at (began.begins source_tells) in
-          going_first _ _ _ _ _ begun _ _ _ ((rw (ap (λ (r : _). r.ahead) c.in_ok-reader.ensures) at (began.led source_tells bench_tells)) begun.heading _ _ begun.in_place begun.begins);
+          going_first _ _ _ _ begun _ _ _ ((rw (ap (λ (r : _). r.ahead) c.in_ok-reader.ensures) at (began.led source_tells bench_tells)) begun.heading _ _ begun.in_place begun.begins);
     }
 
 pub returns-in_err-line : goal.returns-in_err-line
@@ -86,7 +87,7 @@ returns-in_err-line g c =
     record {
       leaves = λ source_tells.
           rw (p.1, p.2) (line_stops (Rose (g.B.Rack.faults c.args.bench.now) (g.B.Rack.faults c.lines.bench)) (g.K.Sink.tells c.args.out.now × g.B.Rack.tells c.args.bench.now) (IsShownBy (g.B.Rack.state c.lines.bench)) _
-          (λ tells. heads (g.O.Made.Cluster.steps made) (g.O.Made.Cluster.at_once made) (g.met.O.Opens.acts made) (g.met.O.Opens.answers made) _ _ (g.met.O.Made.Cluster.accounts made (g.B.Rack.state c.lines.bench))) _ _ _
+          (λ tells. heads (g.O.Made.Cluster.steps made) (g.O.Made.Cluster.at_once made) (g.met.O.Opens.acts made) (g.met.O.Opens.answers made) _ _ (g.met.O.Made.Cluster.accounts made (g.B.Rack.state c.lines.bench))) _ (snapshot_of g.O.Made.Shows.seen (place_of c.lines.schedule) (g.B.Rack.state c.lines.bench))
           c.in_err-line.field-0.0 _ _ _ _ _ _ c.lines.number _ _
           (was.read source_tells) (λ tells. was.going source_tells tells.0 tells.1) why.cause (why.gives (was.source_tells source_tells)));
       dropped = λ disk sector tells. rw p.1 tt;
@@ -144,7 +145,7 @@ lines-preserved g c =
           let count = so_far.count in
           let begins = rw c.in-Some.is at (read.gives (was.source_tells source_tells)) in
           let does = stepped.does _ so_far.done _ (was.sink_tells sink_tells) (was.bench_tells bench_tells) was.bench_later (omega (arith, count, few)) so_far.reached so_far.stands in
-          going_on _ _ _ _ _ _ _ c.lines.number _ _ so_far _ _ _ _ _ c.in-Some.line _ _ begins does.0 does.1;
+          going_on _ _ _ (snapshot_of g.O.Made.Shows.seen (place_of c.lines.schedule) (g.B.Rack.state c.lines.bench)) _ _ c.lines.number _ _ so_far _ _ _ (snapshot_of g.O.Made.Shows.seen (place_of c.step.new.schedule) (g.B.Rack.state c.step.new.bench)) c.in-Some.line _ _ begins does.0 does.1;
     }
 
 pub returns-in_err-step : goal.returns-in_err-step
@@ -167,16 +168,17 @@ returns-in_err-step g c =
           let place = rw c.in-Some.is at read.in_place in
           let so_far = was.read source_tells in
           rw (p.1, p.2) (step_stops (Rose start after) (g.K.Sink.tells c.args.out.now × g.B.Rack.tells c.args.bench.now) (IsShownBy (g.B.Rack.state c.step.new.bench)) _
-          (λ tells. heads (g.O.Made.Cluster.steps made) (g.O.Made.Cluster.at_once made) (g.met.O.Opens.acts made) (g.met.O.Opens.answers made) _ _ (g.met.O.Made.Cluster.accounts made (g.B.Rack.state c.lines.bench))) _ _ _
+          (λ tells. heads (g.O.Made.Cluster.steps made) (g.O.Made.Cluster.at_once made) (g.met.O.Opens.acts made) (g.met.O.Opens.answers made) _ _ (g.met.O.Made.Cluster.accounts made (g.B.Rack.state c.lines.bench))) _ (snapshot_of g.O.Made.Shows.seen (place_of c.lines.schedule) (g.B.Rack.state c.lines.bench))
           stop _ _ _ _ _ _ _ c.lines.number _ _ c.in-Some.line _
-          (λ tells. heads (g.O.Made.Cluster.steps now) (g.O.Made.Cluster.at_once now) (g.met.O.Opens.acts now) (g.met.O.Opens.answers now) _ _ (g.met.O.Made.Cluster.accounts now (g.B.Rack.state c.step.new.bench))) _ _ _
+          (λ tells. heads (g.O.Made.Cluster.steps now) (g.O.Made.Cluster.at_once now) (g.met.O.Opens.acts now) (g.met.O.Opens.answers now) _ _ (g.met.O.Made.Cluster.accounts now (g.B.Rack.state c.step.new.bench))) _ (snapshot_of g.O.Made.Shows.seen (place_of c.step.new.schedule) (g.B.Rack.state c.step.new.bench))
           (read_later (Rose start before) (Rose start after) later _ _ _ _ _ so_far)
-          (λ tells. going_later (Rose start before) (Rose start after) later _ _ _ _ _ _ _ _ _ (was.going source_tells tells.0 tells.1))
+          (λ tells. going_later (Rose start before) (Rose start after) later _ _ _ _ _ _ _ _ (was.going source_tells tells.0 tells.1))
           (omega (arith, few)) begins (rw (behind c.lines.number was.some) at place) why.cause
           (refused_for_weaker (Rose start before) (Rose start after) later stop _ _ _ (why.refused start so_far.done was.bench_later so_far.reached))
           (λ tells.
           let going = was.going source_tells tells.0 tells.1 in
           refused_for_weaker (Rose start before) (Rose start after) later stop _ _ _ (why.refused start (lines_of going.done) was.bench_later going.reached))
+          why.there
           (λ tells.
           let going = was.going source_tells tells.0 tells.1 in
           let count = going.count in
@@ -212,17 +214,17 @@ returns g c =
           let ends = rw c.in_default.is at (read.gives (was.source_tells source_tells)) in
           let so_far = read_later (Rose start before) (Rose start after) later _ _ _ _ _ (rw ends.0 at (was.read source_tells)) in
           let going = λ (tells : g.K.Sink.tells c.args.out.now × g.B.Rack.tells c.args.bench.now).
-          going_later (Rose start before) (Rose start after) later _ _ _ _ _ (g.O.Made.Cluster.led made disks) lacking _ _ (rw ends.0 at (was.going source_tells tells.0 tells.1)) in
+          going_later (Rose start before) (Rose start after) later _ _ _ _ (g.O.Made.Cluster.led made disks) lacking _ _ (rw ends.0 at (was.going source_tells tells.0 tells.1)) in
           finish_leaves (Rose start after) (g.K.Sink.tells c.args.out.now × g.B.Rack.tells c.args.bench.now) (IsShownBy (g.B.Rack.state c.finish.new.bench)) _
-          (λ tells. heads (g.O.Made.Cluster.steps made) (g.O.Made.Cluster.at_once made) (g.met.O.Opens.acts made) (g.met.O.Opens.answers made) _ _ (g.met.O.Made.Cluster.accounts made disks)) _ _ _
+          (λ tells. heads (g.O.Made.Cluster.steps made) (g.O.Made.Cluster.at_once made) (g.met.O.Opens.acts made) (g.met.O.Opens.answers made) _ _ (g.met.O.Made.Cluster.accounts made disks)) _ (snapshot_of g.O.Made.Shows.seen (place_of c.lines.schedule) (g.B.Rack.state c.lines.bench))
           left (set.contains lacking) _ _ _ c.lines.number so_far going c.finish.result _ _ _ _ _ _ _ ends.1 ended.cause
           (λ tells. elim (ended.crashed (was.bench_tells tells.1)) [
             | inl crashed ↦ inl (ending (g.O.Made.Cluster.steps made) (g.O.Made.Cluster.at_once made) (g.met.O.Opens.acts made) (g.met.O.Opens.answers made) (Rose start after) (going tells).done
-                (of_lines _ _ _ _ _ _ _ _ _ _ (going tells)) lacking (going tells).stands.lacks left (g.met.O.Opens.closes made disks left _ _ (going tells).stands.led crashed) c.finish.result _ _
+                (of_lines _ _ _ _ _ _ _ _ _ (going tells)) lacking (going tells).stands.lacks left (g.met.O.Opens.closes made disks left _ _ (going tells).stands.led crashed) c.finish.result _ _
                 (λ tree stands. ended.ends tree (was.sink_tells tells.0) (was.bench_tells tells.1) stands))
             | inr none ↦ inr none
           ])
-          (λ tells. on_ok_weaker c.finish.result (λ drops tree points shown. rw drops (shown_by left (set.contains lacking) tree points shown)) (ended.drops (was.bench_tells tells.1)));
+          (λ tells. on_ok_weaker c.finish.result (λ drops tree points shown. rw drops (shown_by left (snapshot_of g.O.Made.Shows.seen (place_of c.lines.schedule) disks) (set.contains lacking) refl tree points shown)) (ended.drops (was.bench_tells tells.1)));
       dropped = λ disk sector tells. ended.dropped disk sector (was.bench_tells tells);
       cause = IfErr-weaker c.finish.result _ _
           (λ stop cause. finish_cause (g.B.Rack.tells c.args.bench.now) _ stop _ _ _ _ _ _ _ was.bench_later

@@ -2,6 +2,7 @@ use Rattle.std.proofs.Common.{◌≡◌, ◌*◌, ◌≤◌, ◌<◌, ◌-◌, �
 use Rattle.bx_base.specs.Faults.{Rose}
 use Rattle.bx_history.specs.Parts.{Part}
 use Rattle.bx_model.specs.declared.tree.Tree.{Tree}
+use Rattle.bx_schedule.specs.Execution.{snapshot_of}
 use Rattle.bx_schedule.specs.Places.{CanGo, place_of}
 use Rattle.bx_replay.specs.Replay.{Going, IsRead}
 use Rattle.bx_replay.proofs.run.replay.Given as goal
@@ -23,7 +24,7 @@ invariant-lines g l = record {
   read : g.S.Source.tells l.fn.input → IsRead (Rose (g.B.Rack.faults l.fn.bench) (g.B.Rack.faults l.bench)) (g.O.Made.Shows.seen l.schedule.cluster) (place_of l.schedule).clock
       (g.S.Source.left l.fn.input) (l.reader.ahead ++ g.S.Source.left l.input) l.number;
   going : g.S.Source.tells l.fn.input → g.K.Sink.tells l.fn.out → g.B.Rack.tells l.fn.bench
-      → Going (Rose (g.B.Rack.faults l.fn.bench) (g.B.Rack.faults l.bench)) (g.O.Made.Cluster.led l.schedule.cluster (g.B.Rack.state l.bench)) (place_of l.schedule).lacking (g.O.Made.Shows.seen l.schedule.cluster) (place_of l.schedule).clock
+      → Going (Rose (g.B.Rack.faults l.fn.bench) (g.B.Rack.faults l.bench)) (g.O.Made.Cluster.led l.schedule.cluster (g.B.Rack.state l.bench)) (place_of l.schedule).lacking (snapshot_of g.O.Made.Shows.seen (place_of l.schedule) (g.B.Rack.state l.bench))
       (g.S.Source.left l.fn.input) (l.reader.ahead ++ g.S.Source.left l.input) l.number (g.K.Sink.written l.fn.out) (g.K.Sink.written l.out);
 }
 

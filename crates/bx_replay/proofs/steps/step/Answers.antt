@@ -3,13 +3,18 @@ use Rattle.std.proofs.lemmas.Result.{err_from_is_err_and}
 use Rattle.bx_schedule.specs.Places.{cleared, place_of}
 use Rattle.bx_schedule.specs.Placing.{lines_of}
 use Rattle.bx_replay.proofs.Doing.{LineLaws, reaches, stands_all, stands_part}
-use Rattle.bx_replay.proofs.Stepping.{refuses}
+use Rattle.bx_replay.proofs.Stepping.{refuses, refuses_there}
 use Rattle.bx_replay.proofs.steps.step.Goals as goal
 
 pub returns-in-Err-clause-refused : goal.returns-in-Err-clause-refused
 returns-in-Err-clause-refused g c = λ start done first reached.
     rw c.stop_of.ensures (refuses g.C.Shows.seen g.C.Cluster.led g.B.Rack c.first_cause_is_told.ensures.told c.args.at.line.now c.in-Err.error (cleared (place_of c.args.schedule.now)) (place_of c.step.new.self) c.args.bench.now c.step.new.rack
     c.in-Err.ensures.ends.refused _ done c.args.at.number reached)
+
+pub returns-in-Err-clause-there : goal.returns-in-Err-clause-there
+returns-in-Err-clause-there g c =
+    rw c.stop_of.ensures (refuses_there g.C.Shows.seen g.C.Cluster.led g.B.Rack c.args.at.line.now c.args.at.number c.in-Err.error (cleared (place_of c.args.schedule.now)) (place_of c.step.new.self) c.args.bench.now c.step.new.rack
+    c.in-Err.ensures.ends.refused (g.B.Rack.state c.args.bench.now))
 
 pub returns-in_err-write_all-clause-does : goal.returns-in_err-write_all-clause-does
 returns-in_err-write_all-clause-does g c = λ start done begun sink_tells bench_tells first few reached stands.

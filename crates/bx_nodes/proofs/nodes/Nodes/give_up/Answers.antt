@@ -2,6 +2,7 @@ use Rattle.std.proofs.Common.{◌≡◌, ◌∙◌, ℕ, ◌+◌, ◌≤◌, ◌
 use Rattle.std.specs.Prelude.{slice_get, slice_set}
 use Rattle.std.proofs.lemmas.Option.{slice_get-get_or}
 use Rattle.std.proofs.lemmas.Result.{on_ok_weaker}
+use Rattle.bx_world_chains.proofs.Chains.{last_place}
 use Rattle.bx_base.specs.declared.names.Actor.TheVariants.{Node}
 use Rattle.bx_facts.specs.Chains.{Chain, HasRow, IsPlace, LivesIn, last, oldest}
 use Rattle.bx_facts.specs.Holds.{Hold, OwnersPast, given_floor, hold_of, owners_with}
@@ -71,7 +72,7 @@ returns-clause-stands g c = λ x letters clocks course tree session up stands ow
     let same_index : index ≡ course.store.told.knew (Node node) = omega (arith, less, most, is_index) in
     on_ok_weaker c.give_up.result
     (λ both. let r = lets_go g.G.Register g.O.Owners g.S.Store (e.stands engine) (e.step engine) register owners c.give_up.new.self store x letters c.args.out.now c.give_up.new.out clocks (seen items) (seen later) q tree node session block (e.areas engine)
-    before after both.0.holding (given_floor (g.O.Owners.hold owners node block) course.owners.floor block index) quiet up own live (seen_there items node before was) is_mine rests
+    before after both.0.holding (given_floor (g.O.Owners.hold owners node block) course.owners.floor block index) quiet up own live (allowed.each (last course.register.chain) (last_place course.register.chain)) (seen_there items node before was) is_mine rests
     (seen_there later node after (set_here items node after before was)) (λ other ne. seen_others items later other (set_there items node other after ne))
     c.let_go.ensures both.1
     (λ some_past some keeps among. g.met.G.Register.loses register x some_past some keeps among)

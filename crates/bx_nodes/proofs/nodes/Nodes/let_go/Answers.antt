@@ -1,6 +1,7 @@
 use Rattle.std.proofs.Common.{◌≡◌, ◌∙◌, inl, ℕ, ◌+◌, ◌≤◌, [], Contains, Option, Some, IfSome, refl, sym, ap, subst}
 use Rattle.std.specs.Prelude.{slice_get, slice_set}
 use Rattle.std.proofs.lemmas.Option.{slice_get-get_or}
+use Rattle.bx_world_chains.proofs.Chains.{last_place}
 use Rattle.bx_facts.specs.Chains.{Chain, HasRow, LivesIn, last, oldest}
 use Rattle.bx_facts.specs.Holds.{Hold, OwnersPast}
 use Rattle.bx_node_events.proofs.Quieted.{none_sent, quiet_course, quieted}
@@ -49,7 +50,7 @@ returns-clause-stands g c = λ x letters clocks course tree session up stands ow
     let same : course.owners ≡ record course.owners { told = record course.owners.told { letters = letters } } = λ i. record course.owners { told = record course.owners.told { letters = stands.at.pasts.owners_letters i } } in
     let kept = subst (λ (p : OwnersPast). g.O.Owners.keeps owners p) same stands.at.parts.owners_keep in
     let r = lets_go g.G.Register g.O.Owners g.S.Store (e.stands engine) (e.step engine) register owners owners store x [] letters letters clocks (seen items) (seen later) q tree node session block (e.areas engine)
-    before after course.owners.holding course.owners.floor quiet up own live (seen_there items node before was) is_mine rests
+    before after course.owners.holding course.owners.floor quiet up own live (allowed.each (last course.register.chain) (last_place course.register.chain)) (seen_there items node before was) is_mine rests
     (seen_there later node after (set_here items node after before was)) (λ other ne. seen_others items later other (set_there items node other after ne))
     c.let_go.ensures (record { kept = λ letter has. has; each = λ letter has. inl has })
     (λ some_past some keeps among. g.met.G.Register.loses register x some_past some keeps among)

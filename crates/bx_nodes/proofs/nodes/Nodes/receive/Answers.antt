@@ -2,6 +2,8 @@ use Rattle.std.proofs.Common.{◌≡◌, ◌∙◌, true, ℕ, List, Option, Som
 use Rattle.std.specs.Prelude.{is_some, slice_get, slice_set}
 use Rattle.std.proofs.lemmas.Option.{slice_get-get_or}
 use Rattle.std.proofs.lemmas.Result.{on_ok_weaker}
+use Rattle.bx_facts.specs.Chains.{last}
+use Rattle.bx_world_chains.proofs.Chains.{last_place}
 use Rattle.bx_facts.specs.Writes.{Asked}
 use Rattle.bx_node_steps.specs.Changing.{TakesAnswer}
 use Rattle.bx_node_steps.specs.Ready.{IsReady, WasReady}
@@ -32,7 +34,7 @@ returns-then-not-is_reading-clause-stands g c = λ x letters clocks course tree 
     let none : asked_then ≡ None = none_of asked_then (sym c.is_reading.ensures ∙ c.if-not-is_reading.true) in
     let later = slice_set items node after in
     lost g.G.Register g.O.Owners g.S.Store (e.stands engine) (e.step engine) c.args.self.now.register c.args.self.now.owners c.args.self.now.store c.arrived.new.self x letters clocks (seen items) course tree node session before
-    stands up own live (seen_there items node before was) (of_there (λ (m : Machine). m.session ≡ Some session) (slice_get items node) before was mine) (c.arrived.ensures.keeps x course.store stands.at.parts.store_keeps) c.arrived.ensures.made (λ other. c.arrived.ensures.stays other)
+    stands up own live (g.met.G.Register.allowed c.args.self.now.register x course.register (last course.register.chain) stands.at.parts.register_keeps (last_place course.register.chain)) (seen_there items node before was) (of_there (λ (m : Machine). m.session ≡ Some session) (slice_get items node) before was mine) (c.arrived.ensures.keeps x course.store stands.at.parts.store_keeps) c.arrived.ensures.made (λ other. c.arrived.ensures.stays other)
     (λ reader ne. (c.arrived.ensures.others reader ne).0) (c.arrived.ensures.goes_on x course.store stands.at.parts.store_keeps)
     (seen later) (seen_there later node after (set_here items node after before was)) (λ other ne. seen_others items later other (set_there items node other after ne)) none
 
@@ -91,7 +93,7 @@ returns-else-not-is_reading-clause-stands g c = λ x letters clocks course tree 
     let found = there_is items node c.requires.there in
     let is_mine = subst (λ (m : Option Machine). IfSome m (λ machine. machine.session ≡ Some session)) found.1 mine in
     waits g.G.Register g.O.Owners g.S.Store (e.stands engine) (e.step engine) c.args.self.now.register c.args.self.now.owners c.args.self.now.store c.arrived.new.self x letters clocks (seen items) course tree node session found.0
-    stands up own live (seen_there items node found.0 found.1) is_mine (c.arrived.ensures.keeps x course.store stands.at.parts.store_keeps) c.arrived.ensures.made (λ other. c.arrived.ensures.stays other)
+    stands up own live (g.met.G.Register.allowed c.args.self.now.register x course.register (last course.register.chain) stands.at.parts.register_keeps (last_place course.register.chain)) (seen_there items node found.0 found.1) is_mine (c.arrived.ensures.keeps x course.store stands.at.parts.store_keeps) c.arrived.ensures.made (λ other. c.arrived.ensures.stays other)
     (λ reader ne. (c.arrived.ensures.others reader ne).0) (c.arrived.ensures.goes_on x course.store stands.at.parts.store_keeps) (c.in_default.ensures.not_yet refl).0
 
 pub returns-else-not-is_reading-clause-takes : goal.returns-else-not-is_reading-clause-takes
@@ -150,7 +152,7 @@ returns-in-Some-clause-stands g c = λ x letters clocks course tree session up s
     let later = slice_set items node after in
     on_ok_weaker c.take_in.result
     (λ takes. taken g.G.Register g.O.Owners g.S.Store (e.stands engine) (e.step engine) c.args.self.now.register c.args.self.now.owners c.args.self.now.store c.arrived.new.self x letters clocks (seen items) course tree node session before
-    stands up own live (seen_there items node before was) is_mine (c.arrived.ensures.keeps x course.store stands.at.parts.store_keeps) c.arrived.ensures.made (λ other. c.arrived.ensures.stays other)
+    stands up own live (g.met.G.Register.allowed c.args.self.now.register x course.register (last course.register.chain) stands.at.parts.register_keeps (last_place course.register.chain)) (seen_there items node before was) is_mine (c.arrived.ensures.keeps x course.store stands.at.parts.store_keeps) c.arrived.ensures.made (λ other. c.arrived.ensures.stays other)
     (λ reader ne. (c.arrived.ensures.others reader ne).0) (c.arrived.ensures.goes_on x course.store stands.at.parts.store_keeps)
     (seen later) after c.in-Some.bytes (seen_there later node after (set_here items node after before was)) (λ other ne. seen_others items later other (set_there items node other after ne))
     (λ none. let h = sym (g.met.S.Store.only_asked c.args.self.now.store node none) ∙ sym c.in-Some.ensures.answer in cc)

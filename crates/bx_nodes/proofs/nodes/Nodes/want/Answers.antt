@@ -2,6 +2,7 @@ use Rattle.std.proofs.Common.{◌≡◌, ◌≢◌, ◌∙◌, ⊎_elim, inl, in
 use Rattle.std.specs.Prelude.{slice_get, slice_set}
 use Rattle.std.proofs.lemmas.Option.{slice_get-get_or}
 use Rattle.std.proofs.lemmas.Result.{on_ok_weaker}
+use Rattle.bx_world_chains.proofs.Chains.{last_place}
 use Rattle.bx_base.specs.declared.names.Actor.TheVariants.{Node}
 use Rattle.bx_facts.specs.Chains.{last}
 use Rattle.bx_facts.specs.Holds.{Hold, OwnersPast, hold_of, is_exclusive, owners_with}
@@ -52,7 +53,7 @@ returns-clause-stands g c = λ x letters clocks course tree session up stands ow
     (record { each = λ s place. g.met.G.Register.allowed register x course.register s stands.at.parts.register_keeps place }) stands.at.sessions node session row.0 (own_is clocks.down (g.O.Owners.own owners) node session up own) row.1 row.2 in
     on_ok_weaker c.want.result
     (λ both. lets_go g.G.Register g.O.Owners g.S.Store (e.stands engine) (e.step engine) register owners c.want.new.self store x letters c.args.out.now c.want.new.out clocks (seen items) (seen later) course tree node session at (e.areas engine) before after
-    both.0.holding course.owners.floor stands up own live (seen_there items node before was) is_mine rests (seen_there later node after (set_here items node after before was)) (λ other ne. seen_others items later other (set_there items node other after ne))
+    both.0.holding course.owners.floor stands up own live (g.met.G.Register.allowed register x course.register (last course.register.chain) stands.at.parts.register_keeps (last_place course.register.chain)) (seen_there items node before was) is_mine rests (seen_there later node after (set_here items node after before was)) (λ other ne. seen_others items later other (set_there items node other after ne))
     c.let_go.ensures both.1
     (λ some_past some keeps among. g.met.G.Register.loses register x some_past some keeps among)
     (λ some_past some keeps among. g.met.S.Store.loses store x some_past some keeps among)

@@ -1,13 +1,12 @@
 -- A recovery goes on where nothing happens to the slot that it recovers, nor to the homes of the blocks of its log.
-use Rattle.std.proofs.Common.{◌≡◌, ◌≢◌, ◌⊎◌, ⊎_elim, inl, inr, ◌∙◌, ℕ, ◌+◌, ◌*◌, ◌-◌, ◌/◌, ◌<◌, ◌≤◌, Bool, true, false, List, [], ◌∷◌, Contains, length, reverse, Option, Some, None, IsSome, refl, sym, ap, subst, arith}
+use Rattle.std.proofs.Common.{◌≡◌, ◌⊎◌, ⊎_elim, inl, inr, ◌∙◌, ℕ, ◌+◌, ◌-◌, ◌/◌, ◌<◌, ◌≤◌, true, false, List, ◌∷◌, Contains, length, reverse, Option, Some, None, IsSome, refl, sym, ap, subst, arith}
 use Rattle.bx_facts.specs.Chains.{Chain, IsPlace, last}
 use Rattle.bx_facts.specs.Writes.{Asked, Sent, Writes, WritesIn, WritesTo}
 use Rattle.bx_global.specs.declared.change.Change.{Change}
 use Rattle.bx_global.specs.declared.change.Change.TheVariants.{Close}
 use Rattle.bx_global.specs.declared.state.GlobalState.{GlobalState}
-use Rattle.bx_node_machines.specs.Machines.{IsWriting}
-use Rattle.bx_node_recovering.specs.Recovering.{AreGatesAsked, Around, IsAtStage, IsBodyAsked, IsFilled, IsFound, IsRecovering, IsStill, body_asked, gates_asked, gates_back, gates_shut}
-use Rattle.bx_node_recovers.proofs.Read.{recovery_of}
+use Rattle.bx_node_machines.specs.Machines.{IsFlying, IsWriting}
+use Rattle.bx_node_machines.specs.Recovering.{AreGatesAsked, Around, HasEnded, IsAtStage, IsBodyAsked, IsFilled, IsFound, IsRecovering, IsStill, body_asked, gates_asked, gates_back, gates_shut, recovery_of}
 use Rattle.bx_places.specs.Places.{IsBlock, block_place, body_place, gate_place, log_device, log_start}
 use Rattle.bx_records.specs.Drafts.{Block}
 use Rattle.bx_records.specs.declared.runs.Run.{Run}
@@ -15,17 +14,16 @@ use Rattle.bx_recover.specs.Done.{HasDone, RecoveryStep}
 use Rattle.bx_recover.specs.HomesOf.{home_runs}
 use Rattle.bx_recover.specs.declared.stage.Stage.{Stage}
 use Rattle.bx_recover.specs.declared.stage.Stage.TheVariants.{Begins, Gates, Settles, Bodies, Told, Homes, Closes, Shuts, Closed}
-use Rattle.bx_redo.specs.Homes.{AreItsHomes, home_run}
-use Rattle.bx_redo.specs.declared.work.Work.TheVariants as works
-use Rattle.bx_redo.proofs.Stored.{its_sectors, only_one}
-use Rattle.bx_redo.proofs.Within.{within_is}
-use Rattle.bx_volume.specs.Overlay.{filled_of}
-use Rattle.bx_volume.specs.Records.{Logged, gate_of, logged_text, newest_in}
-use Rattle.bx_volume.proofs.Sizes.{filled_below, filled_there, length-block_text}
-use Rattle.bx_world_chains.specs.Entitled.{IsEntitled}
-use Rattle.bx_world_logs.specs.Logs.{Activity, Finds, Found, IsLogOf, OfLog, Slot, opens, view_of, writes_in}
-use Rattle.bx_world_standing.specs.Closings.{IsClosed}
-use Rattle.bx_world_standing.specs.Rights.{IsOfHome, IsOfSlot}
+use Rattle.bx_node_views.specs.bx_redo.specs.Homes.{AreItsHomes, home_run}
+use Rattle.bx_node_views.specs.bx_redo.specs.declared.work.Work.TheVariants as works
+use Rattle.bx_node_views.specs.bx_redo.proofs.Stored.{its_sectors, only_one}
+use Rattle.bx_node_views.specs.bx_redo.proofs.Within.{within_is}
+use Rattle.bx_node_views.specs.bx_volume.specs.Overlay.{filled_of}
+use Rattle.bx_node_views.specs.bx_volume.specs.Records.{Logged, gate_of, logged_text, newest_in}
+use Rattle.bx_node_views.specs.bx_volume.proofs.Sizes.{filled_below, filled_there, length-block_text}
+use Rattle.bx_node_views.specs.bx_world_chains.specs.Entitled.{IsEntitled}
+use Rattle.bx_node_views.specs.bx_world_logs.specs.Logs.{Activity, Finds, Found, IsLogOf, OfLog, Slot, opens, view_of, writes_in}
+use Rattle.bx_node_views.specs.bx_world_standing.specs.Rights.{IsOfHome, IsOfSlot}
 
 -- ---- what its writes touch
 
@@ -112,21 +110,22 @@ module _ (devices areas : ℕ) (Sure : ℕ → ℕ → List ℕ → Type 0) (a :
       by (OfLog works.Shuts) finds (inr top) = absurd (let e = top.1 in cc)
       by Found finds (inr top) = absurd (let e = top.1 in cc)
 
--- ---- what leaves a slot
+-- ---- what spares a slot
 
--- The slot stays: its log and what is under way there, what stands surely in it and at home, and what its node asked for; or that was over, or is done.
-pub record LeavesSlot (devices areas : ℕ) (Sure Sure_then : ℕ → ℕ → List ℕ → Type 0) (Reads Reads_then : ℕ → List ℕ → Type 0) (a b : Around) (session slot : ℕ) : Type 0 where
+-- An event spares the slot: its log and what is under way there, what stands surely in it and at home, and what its node asked for; or that was over, or is done.
+pub record SparesSlot (devices areas : ℕ) (Sure Sure_then : ℕ → ℕ → List ℕ → Type 0) (Reads Reads_then : ℕ → List ℕ → Type 0) (a b : Around) (session slot : ℕ) : Type 0 where
   pub logs : b.logs slot ≡ a.logs slot
   pub slots : b.slots slot ≡ a.slots slot
   pub before : (d s : ℕ) → IsOfSlot devices slot d s → b.before d s ≡ a.before d s
   pub asked : (b.asked ≡ a.asked) ⊎ (b.asked ≡ None)
-  pub out : (b.out ≡ a.out) ⊎ ((b.out ≡ None) × ((write : Sent) (d s : ℕ) (content : List ℕ) → a.out ≡ Some write → IsNear devices areas slot (a.logs slot) d s → WritesTo write d s content → Sure_then d s content))
+  pub out : (b.out ≡ a.out) ⊎ ((b.out ≡ None) × ((runs : List Run) → ((d s : ℕ) (content : List ℕ) → WritesIn runs d s content → IsNear devices areas slot (a.logs slot) d s) → IsFlying session runs a.out a.sent
+      → (d s : ℕ) (content : List ℕ) → WritesIn runs d s content → Sure_then d s content))
   pub sent : (write : Sent) → Contains b.sent write → write.session ≡ session → Contains a.sent write
   pub sure : (d s : ℕ) (content : List ℕ) → IsNear devices areas slot (a.logs slot) d s → Sure d s content → Sure_then d s content
   pub reads : (asks : Asked) (s : ℕ) (content : List ℕ) → a.asked ≡ Some asks → b.asked ≡ Some asks → IsNear devices areas slot (a.logs slot) asks.device s → Sure asks.device s content → Reads s content → Reads_then s content
 
 module _ (devices areas : ℕ) (Sure Sure_then : ℕ → ℕ → List ℕ → Type 0) (Reads Reads_then : ℕ → List ℕ → Type 0) (a b : Around) (session slot : ℕ)
-    (leaves : LeavesSlot devices areas Sure Sure_then Reads Reads_then a b session slot) where
+    (leaves : SparesSlot devices areas Sure Sure_then Reads Reads_then a b session slot) where
   none_out : a.out ≡ None → b.out ≡ None
   none_out none = ⊎_elim (λ same. same ∙ none) (λ done. done.0) leaves.out
 
@@ -151,7 +150,7 @@ module _ (devices areas : ℕ) (Sure Sure_then : ℕ → ℕ → List ℕ → Ty
       (λ same. inl (record { write = flying.write; whose = flying.whose; runs_are = flying.runs_are; once = flying.once; is_out = same ∙ flying.is_out; only = λ other has its. flying.only other (leaves.sent other has its) its }))
       (λ done. inr (record {
         none_out = done.0;
-        sure = λ d s content w. done.1 flying.write d s content flying.is_out (near d s content w) (subst (λ (l : List Run). WritesIn l d s content) (sym flying.runs_are) w);
+        sure = λ d s content w. done.1 runs near flying d s content w;
       }))
       leaves.out
   writing_on runs near (inr landed) = inr (record { none_out = none_out landed.none_out; sure = λ d s content w. leaves.sure d s content (near d s content w) (landed.sure d s content w) })
@@ -236,18 +235,57 @@ module _ (devices areas : ℕ) (Sure Sure_then : ℕ → ℕ → List ℕ → Ty
       unwritten = λ write d s content has its w inside. at.unwritten write d s content (leaves.sent write has its) its w inside;
     }
 
-    -- So a recovery goes on, where its session may write the slot still, and hasn't proposed that the dead one is closed.
+    -- So a recovery goes on, where its session may write the slot still, and has proposed no more than it had that the dead one is closed, if it is under way.
     pub goes_on : (chain later : Chain) (knew knew_then : ℕ) (proposed proposed_then : List Change) (gone : ℕ) (stage : Stage) (records : List Logged)
         → IsRecovering devices areas Sure Reads chain knew proposed a session gone slot stage records
         → IsEntitled (last later) gone slot session → ((s : GlobalState) → IsPlace later s → knew_then ≤ s.index → IsEntitled s gone slot session)
-        → (Contains proposed_then (Close gone session) → Contains proposed (Close gone session))
+        → ((HasEnded stage → ⊥) → Contains proposed_then (Close gone session) → Contains proposed (Close gone session))
         → IsRecovering devices areas Sure_then Reads_then later knew_then proposed_then b session gone slot stage records
     goes_on chain later knew knew_then proposed proposed_then gone stage records was claimed known back = record {
       claimed = claimed;
       known = known;
       other = was.other;
-      unproposed = λ under_way there. was.unproposed under_way (back there);
+      unproposed = λ under_way there. was.unproposed under_way (back under_way there);
       steps = was.steps;
       done = was.done;
       at = stage_on records was.steps stage was.done was.at;
+    }
+
+-- ---- what is over
+
+-- An event spares a slot whose recovery is over: its log, and what is under way there; and no write of the session that comes is of the slot.
+pub record SparesClosed (devices : ℕ) (a b : Around) (session slot : ℕ) : Type 0 where
+  pub logs : b.logs slot ≡ a.logs slot
+  pub slots : (b.slots slot).activity ≡ (a.slots slot).activity
+  pub sent : (write : Sent) → Contains b.sent write → write.session ≡ session → Contains a.sent write ⊎ ((d s : ℕ) (content : List ℕ) → WritesTo write d s content → IsOfSlot devices slot d s → ⊥)
+
+-- So a recovery that is over stays so.
+pub ended_on : (devices areas : ℕ) (Sure Sure_then : ℕ → ℕ → List ℕ → Type 0) (Reads Reads_then : ℕ → List ℕ → Type 0) (a b : Around) (session slot : ℕ) → SparesClosed devices a b session slot
+    → (chain later : Chain) (knew knew_then : ℕ) (proposed proposed_then : List Change) (gone : ℕ) (stage : Stage) (records : List Logged) → HasEnded stage
+    → IsRecovering devices areas Sure Reads chain knew proposed a session gone slot stage records
+    → IsEntitled (last later) gone slot session → ((s : GlobalState) → IsPlace later s → knew_then ≤ s.index → IsEntitled s gone slot session)
+    → IsRecovering devices areas Sure_then Reads_then later knew_then proposed_then b session gone slot stage records
+ended_on devices areas Sure Sure_then Reads Reads_then a b session slot spares chain later knew knew_then proposed proposed_then gone stage records ended was claimed known = record {
+  claimed = claimed;
+  known = known;
+  other = was.other;
+  unproposed = λ under_way. absurd (under_way ended);
+  steps = was.steps;
+  done = was.done;
+  at = by stage ended was.done was.at;
+}
+  where
+    by : (one : Stage) → HasEnded one → (done : HasDone (recovery_of slot devices areas one records) was.steps one) → IsAtStage devices areas Sure Reads a session slot records was.steps one done → IsAtStage devices areas Sure_then Reads_then b session slot records was.steps one done
+    by Begins over done at = absurd over
+    by Gates over done at = absurd over
+    by (Settles opened) over done at = absurd over
+    by (Bodies opened) over done at = absurd over
+    by Told over done at = absurd over
+    by Homes over done at = absurd over
+    by Closes over done at = absurd over
+    by Shuts over done at = absurd over
+    by Closed over done at = record {
+      none = spares.logs ∙ at.none;
+      still = spares.slots ∙ at.still;
+      unwritten = λ write d s content has its w inside. ⊎_elim (λ before. at.unwritten write d s content before its w inside) (λ apart. apart d s content w inside) (spares.sent write has its);
     }

@@ -3,17 +3,15 @@ use Rattle.std.proofs.Common.{◌≡◌, ℕ, ◌<◌, List, ◌++◌, length, t
 use Rattle.std.specs.Prelude.{Result, Ok, Err, IfErr}
 use Rattle.std.specs.Result.{IsErrAnd}
 use Rattle.bx_generated.specs.Schedules.{generated_text}
-use Rattle.bx_model.specs.declared.tree.Tree.{Tree}
-use Rattle.bx_replay.specs.Outcome.{IsReplayed}
+use Rattle.bx_replay.specs.Outcome.{AtEnd, IsReplayed}
 use Rattle.bx_replay.specs.Replay.{WroteOn}
-use Rattle.bx_script.specs.declared.trace_line.TraceLine.{TraceLine}
 use Rattle.bx_stops.specs.declared.stop.Stop.{Stop}
 use Rattle.bx_stops.specs.declared.stop.Stop.TheVariants as stops
 use Rattle.bx_make.specs.Counts.{seen_text}
 use Rattle.bx_make.specs.Makes.{IsMade, IsMadeInPart, LeavesPart}
 use Rattle.bx_make.proofs.Counting.{seen_is}
 
-module _ (MayStop : Type 0) (seed nodes calls : ℕ) (Stands : Tree → List TraceLine → Type 0) (replay text : List ℕ) (replayed : IsReplayed MayStop (generated_text seed nodes calls) Stands replay) (is : text ≡ seen_text calls replay) where
+module _ (MayStop : Type 0) (seed nodes calls : ℕ) (Stands : AtEnd) (replay text : List ℕ) (replayed : IsReplayed MayStop (generated_text seed nodes calls) Stands replay) (is : text ≡ seen_text calls replay) where
   made : IsMade MayStop seed nodes calls Stands text
   made = record { replay = replay; replayed = replayed; output-is = is ∙ seen_is calls replay replayed.trace replayed.closing replayed.last replayed.headline.in_range replayed.output-is }
 

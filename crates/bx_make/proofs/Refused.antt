@@ -8,20 +8,18 @@ use Rattle.bx_base.specs.Text.{LacksFeed, lines_of}
 use Rattle.bx_base.specs.declared.names.Actor.{Actor}
 use Rattle.bx_generated.specs.Schedules.{generated, generated_text}
 use Rattle.bx_generated.proofs.Grammar.{begins_schedule, generated_own, is_own}
-use Rattle.bx_model.specs.declared.tree.Tree.{Tree}
 use Rattle.bx_script.proofs.Spaced.{all_map}
 use Rattle.bx_script.proofs.Spelled.{spelling_injective, spelling_lacks_feed}
 use Rattle.bx_script.specs.Schedule.{BeginsSchedule, HasPlace, IsSchedule}
 use Rattle.bx_script.specs.ScheduleLine.{InRange, spelling}
 use Rattle.bx_script.specs.declared.line.Line.{Line}
 use Rattle.bx_script.specs.declared.line.Line.TheVariants.{Heading, Call, Run, Tick, Deliver, Next, Sync, Hold, Free, Drop, Crash, CrashAll, Restart, RestartAll, Blank}
-use Rattle.bx_script.specs.declared.trace_line.TraceLine.{TraceLine}
 use Rattle.bx_stops.specs.declared.stop.Reason.{Reason}
 use Rattle.bx_stops.specs.declared.stop.Reason.TheVariants.{Grammar, NoMachine, ClockBack, NoPacket, Up, Down, NothingToSync, StillNeeded}
 use Rattle.bx_stops.specs.declared.stop.Stop.{Stop}
 use Rattle.bx_stops.specs.declared.stop.Stop.TheVariants as stops
 use Rattle.bx_replay.specs.Lines.{AreDone, GoesByRun, IsArrival, IsBlank, IsSync, MayName, needs_down, needs_up}
-use Rattle.bx_replay.specs.Outcome.{IsReplayRefusal, IsReplayed}
+use Rattle.bx_replay.specs.Outcome.{AtEnd, IsReplayRefusal, IsReplayed}
 use Rattle.bx_replay.specs.Replay.{HasCause, IsDiskCause, Leaves, WroteOn}
 use Rattle.bx_replay.proofs.ByRun.{refused_by_run}
 use Rattle.bx_make.specs.Makes.{cause_of}
@@ -122,7 +120,7 @@ module _ (MayStop : Type 0) where
 
 -- ---- what the replay of it leaves
 
-pub cause_is : (Tells Bench : Type 0) (Stands : Tree → List TraceLine → Type 0) (stop : Stop) (seed nodes calls : ℕ) (text left old new : List ℕ) (source_before source_now sink_before sink_now before now : ℕ)
+pub cause_is : (Tells Bench : Type 0) (Stands : AtEnd) (stop : Stop) (seed nodes calls : ℕ) (text left old new : List ℕ) (source_before source_now sink_before sink_now before now : ℕ)
     → seed < 2 ^ 64 → 1 ≤ nodes → nodes ≤ 4 → calls ≤ 20000 → text ≡ generated_text seed nodes calls
     → HasCause stop source_before source_now sink_before sink_now Bench before now → Leaves (Rose before now) Tells Stands (Err stop) text left old new
     → (cause_of stop ≡ stops.OutOfMemory) ⊎ ((cause_of stop ≡ stops.DiskFault) × IsDiskCause Bench before now)
@@ -133,7 +131,7 @@ cause_is Tells Bench Stands stops.WriteFault seed nodes calls text left old new 
 cause_is Tells Bench Stands stops.DiskFault seed nodes calls text left old new a b c d before now fits one four few is cause leaves = inr (refl, cause)
 cause_is Tells Bench Stands stops.OutOfMemory seed nodes calls text left old new a b c d before now fits one four few is cause leaves = inl refl
 
-pub replayed_is : (MayStop Tells : Type 0) (Stands : Tree → List TraceLine → Type 0) (seed nodes calls : ℕ) (text left old new : List ℕ) → old ≡ [] → text ≡ generated_text seed nodes calls → Tells
+pub replayed_is : (MayStop Tells : Type 0) (Stands : AtEnd) (seed nodes calls : ℕ) (text left old new : List ℕ) → old ≡ [] → text ≡ generated_text seed nodes calls → Tells
     → Leaves MayStop Tells Stands (Ok tt) text left old new → IsReplayed MayStop (generated_text seed nodes calls) Stands new
 replayed_is MayStop Tells Stands seed nodes calls text left old new none is tells leaves =
     let wrote = leaves.2 tells in

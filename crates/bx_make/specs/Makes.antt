@@ -2,22 +2,20 @@
 use Rattle.std.specs.Prelude.{◌≡◌, ℕ, List, ◌++◌, take}
 use Rattle.bx_base.specs.Faults.{Rose}
 use Rattle.bx_generated.specs.Schedules.{generated_text}
-use Rattle.bx_model.specs.declared.tree.Tree.{Tree}
-use Rattle.bx_replay.specs.Outcome.{IsReplayed}
+use Rattle.bx_replay.specs.Outcome.{AtEnd, IsReplayed}
 use Rattle.bx_replay.specs.Replay.{IsDiskCause, WroteOn}
-use Rattle.bx_script.specs.declared.trace_line.TraceLine.{TraceLine}
 use Rattle.bx_stops.specs.declared.stop.Stop.{Stop}
 use Rattle.bx_stops.specs.declared.stop.Stop.TheVariants as stops
 use Rattle.bx_make.specs.Counts.{count_text}
 
 -- The output is the six lines that tell of a replay of the generated schedule: of a trace that is one of that schedule, and of the listing of the tree behind it, which stand so.
-pub record IsMade (MayStop : Type 0) (seed nodes calls : ℕ) (ReplayStands : Tree → List TraceLine → Type 0) (output : List ℕ) : Type 0 where
+pub record IsMade (MayStop : Type 0) (seed nodes calls : ℕ) (ReplayStands : AtEnd) (output : List ℕ) : Type 0 where
   pub replay : List ℕ
   pub replayed : IsReplayed MayStop (generated_text seed nodes calls) ReplayStands replay
   pub output-is : output ≡ count_text calls (replayed.trace ++ replayed.closing) replayed.last
 
 -- the output is a part of such, from its front
-pub record IsMadeInPart (MayStop : Type 0) (seed nodes calls : ℕ) (ReplayStands : Tree → List TraceLine → Type 0) (output : List ℕ) : Type 0 where
+pub record IsMadeInPart (MayStop : Type 0) (seed nodes calls : ℕ) (ReplayStands : AtEnd) (output : List ℕ) : Type 0 where
   pub whole : List ℕ
   pub made : IsMade MayStop seed nodes calls ReplayStands whole
   pub size : ℕ

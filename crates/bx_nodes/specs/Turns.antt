@@ -1,13 +1,15 @@
 -- What a turn does.
-use Rattle.std.specs.Prelude.{◌≡◌, ◌≢◌, ◌⊎◌, ℕ, false, true, All, Contains, IfSome, List, [], Option, None, Some, IsSome, reverse, slice_get}
+use Rattle.std.specs.Prelude.{◌≡◌, ◌≢◌, ◌⊎◌, ◌++◌, ◌∷◌, ℕ, false, true, All, Contains, IfSome, List, [], Option, None, Some, IsSome, reverse, slice_get}
 use Rattle.std.specs.List.{AllByRecursion}
 use Rattle.bx_base.specs.declared.names.Mode.{Mode}
+use Rattle.bx_base.specs.declared.names.Point.{Point}
 use Rattle.bx_facts.specs.declared.store.Store as store
 use Rattle.bx_facts.specs.Chains.{LivesIn, last}
 use Rattle.bx_facts.specs.Holds.{first_of}
 use Rattle.bx_facts.specs.Writes.{Asked, Sent}
 use Rattle.bx_node_cache.specs.Kept.{held_in, hint_in}
 use Rattle.bx_node_events.specs.Works.{LeavesWorks}
+use Rattle.bx_node_machines.specs.Machines.{IsDoubtOf, Replying}
 use Rattle.bx_node_steps.specs.Calls.{IsAnswered}
 use Rattle.bx_node_steps.specs.Changing.{TakesAnswer}
 use Rattle.bx_node_steps.specs.Gives.{marked, since}
@@ -20,13 +22,18 @@ use Rattle.bx_node_tries.specs.declared.round.Said.{Said}
 use Rattle.bx_node_tries.specs.declared.round.Waiting.{Waiting}
 use Rattle.bx_nodes.specs.Asks.{KeepsUnneeded}
 use Rattle.bx_nodes.specs.Giving.{AreWanted, GivesBack, IsInNeeds}
+use Rattle.bx_nodes.specs.declared.turns.Turn.{Turn}
 use Rattle.bx_facts.specs.declared.owners.Owners as owners
+use Rattle.bx_rows.specs.Words.{row_in}
+use Rattle.bx_rows.specs.declared.session.SessionRow.{SessionRow}
 use Rattle.bx_views.specs.declared.attempt.Attempt.TheVariants.{Need}
 use Rattle.bx_views.specs.declared.engine.Engine as engine
 use Rattle.bx_views.specs.Attempts.{Deed, IsFairNeed}
 use Rattle.bx_volume.specs.Overlay.{Logs}
 use Rattle.bx_volume.specs.Records.{Logged}
+use Rattle.bx_world_standing.specs.bx_world_logs.specs.Logs.{opens}
 use Rattle.bx_world_standing.specs.Standing.{Course}
+use Rattle.bx_world_views.specs.Views.{StepOf, Unacknowledged}
 
 -- A record in a log was in it before; or it is of no call; or its call is answered.
 abbrev pub IsOldOrTold : Logs → List Said → ℕ → Logged → Type 0
@@ -43,12 +50,79 @@ pub record Turned {T : Type 0} (own : Option ℕ) (Step : T → Deed → T → T
   pub works : LeavesWorks own c later
   pub stands : Stands_then later next
 
--- So a node had a turn under a session that is its own and lives; or under none, and then it answers nothing.
-pub record TurnedUnder {T : Type 0} (IsOwn : ℕ → Type 0) (Step : T → Deed → T → Type 0) (Stands_then : Course → T → Type 0) (c : Course) (tree : T) (said : List Said) : Type 0 where
+-- So a node answered calls under a session that is its own and lives; or under none, and then it answers none.
+pub record AnswersUnder {T : Type 0} (IsOwn : ℕ → Type 0) (Step : T → Deed → T → Type 0) (Stands_then : Course → T → Type 0) (c : Course) (tree : T) (said : List Said) : Type 0 where
   pub own : Option ℕ
   pub is_own : IfSome own (λ session. IsOwn session × LivesIn (last c.register.chain) session)
   pub quiet : own ≡ None → said ≡ []
   pub turned : Turned own Step Stands_then c tree said
+
+-- ---- a whole turn
+
+-- A log has a record of the call whose point this is.
+pub record HasRecordOf (logs : Logs) (point : Point) : Type 0 where
+  pub slot : ℕ
+  pub one : Logged
+  pub there : Contains (logs slot) one
+  pub same : one.head.call ≡ point.call
+
+-- The record in doubt of a session, whose gate was being opened, was found open: at its point it does what it says, and is in doubt no more.
+pub record ActsInDoubt {T : Type 0} (Step : T → Deed → T → Type 0) (old new : Course) (tree : T) (point : Point) (next : T) : Type 0 where
+  pub session : ℕ
+  pub row : SessionRow
+  pub has_row : row_in (last old.register.chain).sessions session ≡ Some row
+  pub sent : opens (old.slots row.slot).activity ≡ true
+  pub doubt : Unacknowledged
+  pub is : old.doubts session ≡ Some doubt
+  pub call : Option Replying
+  pub of : IsDoubtOf call doubt.draft point doubt
+  pub step : StepOf (λ truth hints stood. Unit {0}) Step doubt.act tree next
+  pub settled : new.doubts session ≡ None
+
+-- The points of a log that its recovery tells: those of records that it had, and then perhaps that of one which was in doubt, by which the tree goes on.
+pub data Tells {T : Type 0} (Step : T → Deed → T → Type 0) (old new : Course) (tree : T) (told : List Point) (next : T) : Type 0 where
+  OfLog : ((point : Point) → Contains told point → HasRecordOf old.logs point) → next ≡ tree → Tells Step old new tree told next
+  WithDoubt : (earlier : List Point) (point : Point) → told ≡ earlier ++ point ∷ [] → ((one : Point) → Contains earlier one → HasRecordOf old.logs one) → ActsInDoubt Step old new tree point next
+      → Tells Step old new tree told next
+
+-- the point of a call is told
+pub record IsToldOf (told : List Point) (number : ℕ) : Type 0 where
+  pub one : Point
+  pub there : Contains told one
+  pub same : one.call ≡ number
+
+-- A call has its point by a turn: it is answered, or its point is told.
+abbrev pub IsSaidIn : Turn → ℕ → Type 0
+IsSaidIn turn number = IsAnswered turn.said.items number ⊎ IsToldOf turn.told.items number
+
+-- A record in a log was in it before; or it is of no call; or its call has its point by the turn.
+abbrev pub IsOldOrSaid : Logs → Turn → ℕ → Logged → Type 0
+IsOldOrSaid logs turn slot one = Contains (logs slot) one ⊎ ((one.head.call ≡ 0) ⊎ IsSaidIn turn one.head.call)
+
+-- A node did something under its own session, where it has one, and recovered what another session left, whose record in doubt went: what is of all other sessions stays.
+pub record LeavesOrSettles (own : Option ℕ) (old new : Course) : Type 0 where
+  pub slots : (session : ℕ) (row : SessionRow) → own ≢ Some session → row_in (last old.register.chain).sessions session ≡ Some row → ((new.slots row.slot).activity ≡ (old.slots row.slot).activity) ⊎ (new.doubts session ≡ None)
+  pub doubts : (session : ℕ) → own ≢ Some session → (new.doubts session ≡ old.doubts session) ⊎ (new.doubts session ≡ None)
+
+-- What is told of a log that was recovered leads to a tree, and the answers from there to a next one, for which what stands stands; nothing was decided meanwhile, and what the logs have besides is
+-- of calls that have their points then.
+pub record TakesTurn {T : Type 0} (own : Option ℕ) (Step : T → Deed → T → Type 0) (Stands_then : Course → T → Type 0) (c : Course) (tree : T) (turn : Turn) : Type 0 where
+  pub later : Course
+  pub between : T
+  pub next : T
+  pub tells : Tells Step c later tree turn.told.items between
+  pub leads : LeadsBack Step between (reverse turn.said.items) next
+  pub chain : later.register.chain ≡ c.register.chain
+  pub logged : (slot : ℕ) (one : Logged) → Contains (later.logs slot) one → IsOldOrSaid c.logs turn slot one
+  pub works : LeavesOrSettles own c later
+  pub stands : Stands_then later next
+
+-- So a node had a turn under a session that is its own and lives; or under none, and then it tells and answers nothing.
+pub record TurnedUnder {T : Type 0} (IsOwn : ℕ → Type 0) (Step : T → Deed → T → Type 0) (Stands_then : Course → T → Type 0) (c : Course) (tree : T) (turn : Turn) : Type 0 where
+  pub own : Option ℕ
+  pub is_own : IfSome own (λ session. IsOwn session × LivesIn (last c.register.chain) session)
+  pub quiet : own ≡ None → (turn.told.items ≡ []) × (turn.said.items ≡ [])
+  pub turned : TakesTurn own Step Stands_then c tree turn
 
 -- All machines but one are as they were.
 pub record OnlyMachine (node : ℕ) (old new : List Machine) : Type 0 where

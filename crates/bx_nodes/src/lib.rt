@@ -18,7 +18,7 @@ mod turns;
 
 pub use answers::Attempted;
 pub use nodes::{Nodes, first_machines};
-pub use turns::Lease;
+pub use turns::{Lease, Turn};
 
 /// What the crates above use of `bx_node_openings`.
 pub mod node_openings {

@@ -6,8 +6,8 @@ use Rattle.bx_node_steps.specs.Gives.{marked, newest, since}
 use Rattle.bx_node_steps.specs.declared.machine.Machine.{Machine}
 use Rattle.bx_nodes.specs.Cleaning.{IsHeldUp}
 use Rattle.bx_nodes.specs.Standing.{Asking, IsUnderOwn, Stand}
-use Rattle.bx_nodes.specs.Turns.{OnlyStore, TurnEnds, TurnedUnder, noting}
-use Rattle.bx_nodes.proofs.Leading.{under_as}
+use Rattle.bx_nodes.specs.Turns.{AnswersUnder, OnlyStore, TurnEnds, noting}
+use Rattle.bx_nodes.proofs.Leading.{turned_whole, under_as}
 use Rattle.bx_nodes.proofs.Calling.{answers_still, answers_then, noted_there, session_noted, session_then, was_fits}
 use Rattle.bx_nodes.proofs.HoldingUp.{held_noted}
 use Rattle.bx_nodes.proofs.Machines.{is_some_there, of_there, there_is, two_there, was_there}
@@ -41,14 +41,15 @@ returns-clause-stands g c = λ x letters clocks course tree up steady stands.
     let two = c.in_ok-said.ensures.stands x letters clocks course tree up steady one in
     let Acted = Stand g.G.Register g.O.Owners g.S.Store e acted x (letters ++ c.act.new.out) clocks in
     let Final = Stand g.G.Register g.O.Owners g.S.Store e new x (letters ++ c.act.new.out) clocks in
-    subst (λ en. TurnedUnder (IsUnderOwn g.O.Owners old node) (e.step en) Final course tree c.in_ok-said.said.items) c.note_asked.ensures.parts.3
+    turned_whole (IsUnderOwn g.O.Owners old node) (e.step old.engine) Final course tree _ c.new.ensures.items
+    (subst (λ en. AnswersUnder (IsUnderOwn g.O.Owners old node) (e.step en) Final course tree c.in_ok-said.said.items) c.note_asked.ensures.parts.3
     (under_as (IsUnderOwn g.O.Owners noted node) (IsUnderOwn g.O.Owners old node) (e.step noted.engine) Acted Final course tree c.in_ok-said.said.items
     (λ session is. (
       sym (ap (λ w. g.O.Owners.own w node) c.note_asked.ensures.parts.1) ∙ is.0,
       was_there (λ (m : Machine). m.session ≡ Some session) (slice_get old.machines.items node) found.0 found.1
           (of_there (λ (m : Machine). m.session ≡ Some session) (slice_get noted.machines.items node) (record found.0 { mark = mark }) is_noted is.1),
     ))
-    (λ later next stood. stands_noted g.G.Register g.O.Owners g.S.Store e acted new c.note_asked-2.ensures.parts x (letters ++ c.act.new.out) clocks later next c.note_asked-2.ensures.seen stood) two)
+    (λ later next stood. stands_noted g.G.Register g.O.Owners g.S.Store e acted new c.note_asked-2.ensures.parts x (letters ++ c.act.new.out) clocks later next c.note_asked-2.ensures.seen stood) two))
 
 pub returns-clause-waits : goal.returns-clause-waits
 returns-clause-waits g c = λ lease has.

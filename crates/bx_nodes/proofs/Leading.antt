@@ -9,8 +9,8 @@ use Rattle.bx_node_events.proofs.Works.{keeps_all, leaves_kept, leaves_on}
 use Rattle.bx_node_tries.specs.Tries.{LeadsBack}
 use Rattle.bx_node_tries.specs.declared.round.Said.{Said}
 use Rattle.bx_nodes.specs.Asks.{Later}
-use Rattle.bx_nodes.specs.Turns.{AnswersUnder, IsOldOrTold, Turned, TurnedUnder}
-use Rattle.bx_nodes.specs.Turns.Tells.{OfLog}
+use Rattle.bx_nodes.specs.Turns.{AnswersUnder, IsInDoubt, IsOldOrTold, Turned, TurnedUnder}
+use Rattle.bx_nodes.specs.Turns.Tells.{OfKnown}
 use Rattle.bx_nodes.specs.declared.turns.Turn.{Turn}
 use Rattle.bx_nodes.proofs.Told.{told_as, told_from, told_on}
 use Rattle.bx_views.specs.Attempts.{Deed}
@@ -85,16 +85,18 @@ pub under_none : {T : Type 0} (IsOwn : ℕ → Type 0) (Step : T → Deed → T 
 under_none IsOwn Step Stands_then c tree stands = record { own = None; is_own = tt; quiet = λ none. refl; turned = turned_none Step Stands_then c tree stands }
 
 -- Where nothing is told the answers make a whole turn.
-pub turned_whole : {T : Type 0} (IsOwn : ℕ → Type 0) (Step : T → Deed → T → Type 0) (Stands_then : Course → T → Type 0) (c : Course) (tree : T) (turn : Turn) → turn.told.items ≡ [] → AnswersUnder IsOwn Step Stands_then c tree turn.said.items → TurnedUnder IsOwn Step Stands_then c tree turn
-turned_whole IsOwn Step Stands_then c tree turn none one = record {
+pub turned_whole : {T : Type 0} (IsOwn Opens : ℕ → Type 0) (Step : T → Deed → T → Type 0) (Stands_then : Course → T → Type 0) (c : Course) (tree : T) (turn : Turn) → turn.told.items ≡ []
+    → ((session number : ℕ) → IsOwn session → LivesIn (last c.register.chain) session → Opens number → IsInDoubt c session number) → AnswersUnder IsOwn Step Stands_then c tree turn.said.items → TurnedUnder IsOwn Opens Step Stands_then c tree turn
+turned_whole IsOwn Opens Step Stands_then c tree turn none in_doubt one = record {
   own = one.own;
   is_own = one.is_own;
   quiet = λ is. (none, one.quiet is);
+  opened = λ number opens answered. by number opens one.own one.is_own;
   turned = record {
     later = one.turned.later;
     between = tree;
     next = one.turned.next;
-    tells = OfLog (λ point has. absurd (nothing point (subst (λ (l : List Point). Contains l point) none has))) refl;
+    tells = OfKnown (λ point has. absurd (nothing point (subst (λ (l : List Point). Contains l point) none has))) refl;
     leads = one.turned.leads;
     chain = one.turned.chain;
     logged = λ slot logged has. ⊎_elim (λ before. inl before) (λ newer. inr (⊎_elim (λ zero. inl zero) (λ answered. inr (inl answered)) newer)) (one.turned.logged slot logged has);
@@ -105,3 +107,7 @@ turned_whole IsOwn Step Stands_then c tree turn none one = record {
     stands = one.turned.stands;
   };
 }
+  where
+    by : (number : ℕ) → Opens number → (own : Option ℕ) → IfSome own (λ session. IsOwn session × LivesIn (last c.register.chain) session) → IfSome own (λ session. IsInDoubt c session number)
+    by number opens None is = tt
+    by number opens (Some session) is = in_doubt session number is.0 is.1 opens

@@ -9,7 +9,6 @@ use Rattle.bx_facts.specs.Holds.{first_of}
 use Rattle.bx_facts.specs.Writes.{Asked, Sent}
 use Rattle.bx_node_cache.specs.Kept.{held_in, hint_in}
 use Rattle.bx_node_events.specs.Works.{LeavesWorks}
-use Rattle.bx_node_machines.specs.Machines.{IsDoubtOf, Replying}
 use Rattle.bx_node_steps.specs.Calls.{IsAnswered}
 use Rattle.bx_node_steps.specs.Changing.{TakesAnswer}
 use Rattle.bx_node_steps.specs.Gives.{marked, since}
@@ -31,9 +30,9 @@ use Rattle.bx_views.specs.declared.engine.Engine as engine
 use Rattle.bx_views.specs.Attempts.{Deed, IsFairNeed}
 use Rattle.bx_volume.specs.Overlay.{Logs}
 use Rattle.bx_volume.specs.Records.{Logged}
-use Rattle.bx_world_standing.specs.bx_world_logs.specs.Logs.{opens}
+use Rattle.bx_world_standing.specs.bx_world_logs.specs.Logs.{Slot, opens}
 use Rattle.bx_world_standing.specs.Standing.{Course}
-use Rattle.bx_world_views.specs.Views.{StepOf, Unacknowledged}
+use Rattle.bx_world_views.specs.Views.{OfCall, Unacknowledged}
 
 -- A record in a log was in it before; or it is of no call; or its call is answered.
 abbrev pub IsOldOrTold : Logs → List Said → ℕ → Logged → Type 0
@@ -59,6 +58,25 @@ pub record AnswersUnder {T : Type 0} (IsOwn : ℕ → Type 0) (Step : T → Deed
 
 -- ---- a whole turn
 
+-- A session's record in doubt is of this call, and its gate may be open: it was sent.
+pub record MayBeOpen (rows : List SessionRow) (slots : ℕ → Slot) (doubts : ℕ → Option Unacknowledged) (session : ℕ) (doubt : Unacknowledged) (deed : Deed) : Type 0 where
+  pub row : SessionRow
+  pub has_row : row_in rows session ≡ Some row
+  pub sent : opens (slots row.slot).activity ≡ true
+  pub is : doubts session ≡ Some doubt
+  pub act : doubt.act ≡ OfCall deed
+
+-- so it is by a course
+abbrev pub IsOpenIn : Course → ℕ → Unacknowledged → Deed → Type 0
+IsOpenIn c = MayBeOpen (last c.register.chain).sessions c.slots c.doubts
+
+-- the call with a number is in doubt so, in this session
+pub record IsInDoubt (c : Course) (session number : ℕ) : Type 0 where
+  pub doubt : Unacknowledged
+  pub deed : Deed
+  pub open_is : IsOpenIn c session doubt deed
+  pub call : doubt.call ≡ number
+
 -- A log has a record of the call whose point this is.
 pub record HasRecordOf (logs : Logs) (point : Point) : Type 0 where
   pub slot : ℕ
@@ -66,23 +84,25 @@ pub record HasRecordOf (logs : Logs) (point : Point) : Type 0 where
   pub there : Contains (logs slot) one
   pub same : one.head.call ≡ point.call
 
--- The record in doubt of a session, whose gate was being opened, was found open: at its point it does what it says, and is in doubt no more.
+-- a point of a record of no call, or of one which is in a log
+abbrev pub IsKnown : Logs → Point → Type 0
+IsKnown logs point = HasRecordOf logs point ⊎ (point.call ≡ 0)
+
+-- The record in doubt of a session, of which the gate was sent, was found open: its call acts at its point, and is in doubt no more.
 pub record ActsInDoubt {T : Type 0} (Step : T → Deed → T → Type 0) (old new : Course) (tree : T) (point : Point) (next : T) : Type 0 where
   pub session : ℕ
-  pub row : SessionRow
-  pub has_row : row_in (last old.register.chain).sessions session ≡ Some row
-  pub sent : opens (old.slots row.slot).activity ≡ true
   pub doubt : Unacknowledged
-  pub is : old.doubts session ≡ Some doubt
-  pub call : Option Replying
-  pub of : IsDoubtOf call doubt.draft point doubt
-  pub step : StepOf (λ truth hints stood. Unit {0}) Step doubt.act tree next
+  pub deed : Deed
+  pub open_is : IsOpenIn old session doubt deed
+  pub call : point.call ≡ doubt.call
+  pub at : (deed.moment ≡ point.moment) × (deed.spare ≡ point.spare) × (deed.made ≡ point.made)
+  pub step : Step tree deed next
   pub settled : new.doubts session ≡ None
 
--- The points of a log that its recovery tells: those of records that it had, and then perhaps that of one which was in doubt, by which the tree goes on.
+-- The points of a log that its recovery tells: those of records that it had, or of no call; and perhaps, behind them, that of a call which was in doubt, by which the tree goes on.
 pub data Tells {T : Type 0} (Step : T → Deed → T → Type 0) (old new : Course) (tree : T) (told : List Point) (next : T) : Type 0 where
-  OfLog : ((point : Point) → Contains told point → HasRecordOf old.logs point) → next ≡ tree → Tells Step old new tree told next
-  WithDoubt : (earlier : List Point) (point : Point) → told ≡ earlier ++ point ∷ [] → ((one : Point) → Contains earlier one → HasRecordOf old.logs one) → ActsInDoubt Step old new tree point next
+  OfKnown : ((point : Point) → Contains told point → IsKnown old.logs point) → next ≡ tree → Tells Step old new tree told next
+  WithDoubt : (earlier : List Point) (point : Point) → told ≡ earlier ++ point ∷ [] → ((one : Point) → Contains earlier one → IsKnown old.logs one) → ActsInDoubt Step old new tree point next
       → Tells Step old new tree told next
 
 -- the point of a call is told
@@ -117,11 +137,13 @@ pub record TakesTurn {T : Type 0} (own : Option ℕ) (Step : T → Deed → T �
   pub works : LeavesOrSettles own c later
   pub stands : Stands_then later next
 
--- So a node had a turn under a session that is its own and lives; or under none, and then it tells and answers nothing.
-pub record TurnedUnder {T : Type 0} (IsOwn : ℕ → Type 0) (Step : T → Deed → T → Type 0) (Stands_then : Course → T → Type 0) (c : Course) (tree : T) (turn : Turn) : Type 0 where
+-- So a node had a turn under a session that is its own and lives; or under none, and then it tells and answers nothing. An answer to one of these calls is to one in doubt. (`Opens` says of a call
+-- that its record's gate may have been sent at the node before.)
+pub record TurnedUnder {T : Type 0} (IsOwn Opens : ℕ → Type 0) (Step : T → Deed → T → Type 0) (Stands_then : Course → T → Type 0) (c : Course) (tree : T) (turn : Turn) : Type 0 where
   pub own : Option ℕ
   pub is_own : IfSome own (λ session. IsOwn session × LivesIn (last c.register.chain) session)
   pub quiet : own ≡ None → (turn.told.items ≡ []) × (turn.said.items ≡ [])
+  pub opened : (number : ℕ) → Opens number → IsAnswered turn.said.items number → IfSome own (λ session. IsInDoubt c session number)
   pub turned : TakesTurn own Step Stands_then c tree turn
 
 -- All machines but one are as they were.

@@ -9,7 +9,7 @@ ghost use Rattle.bx_node_steps.specs.Calls.{AnswersCalls, AreApart};
 ghost use Rattle.bx_node_steps.specs.Gives.{marked};
 ghost use Rattle.bx_node_steps.specs.Tidying.{TidyGoes};
 ghost use Rattle.bx_nodes.specs.Cleaning.{CleansArea, IsHeldUp};
-ghost use Rattle.bx_nodes.specs.Standing.{Asking, BeReady, HasLease, IsUnder, IsUnderOwn, OfBoth, OfNode, Ready, Rests, Stand};
+ghost use Rattle.bx_nodes.specs.Standing.{Asking, BeReady, HasLease, IsUnder, IsUnderOwn, OfBoth, OfNode, OpensThere, Ready, Rests, Stand};
 ghost use Rattle.bx_nodes.specs.Turns.{OnlyMachine, AnswersUnder, OnlyStore, TurnEnds, Turned, TurnedUnder, Waits, newest_of, noting};
 ghost use Rattle.bx_post.specs.declared.packets.Letter.{Letter};
 ghost use Rattle.bx_world_standing.specs.Parts.{Clocks};
@@ -56,7 +56,7 @@ impl<G: Register, O: Owners, S: Store, E: Engine> Nodes<G, O, S, E> {
         requires moment { reading ≤ 4294967295999 }
         ensures stands { (x : Disks) (letters : List Letter) (clocks : Clocks) (c : Course) (tree : E.Tree) → clocks.down (Node node) ≡ false → clocks.greatest ≤ reading + 500
             → Stand G.Register O.Owners S.Store E.Engine self.old x (letters ++ out.old) clocks c tree
-            → IfOk result (λ turn. TurnedUnder (IsUnderOwn O.Owners self.old node) (E.step self.old.engine) (Stand G.Register O.Owners S.Store E.Engine self.new x (letters ++ out.new) clocks) c tree turn) }
+            → IfOk result (λ turn. TurnedUnder (IsUnderOwn O.Owners self.old node) (OpensThere self.old node) (E.step self.old.engine) (Stand G.Register O.Owners S.Store E.Engine self.new x (letters ++ out.new) clocks) c tree turn) }
         ensures waits { (lease : Lease) → HasLease O.Owners S.Store self.old node reading lease → IfOk result (λ turn. OfBoth self.old self.new node (λ old new. TurnEnds O.Owners E.Engine self.new.engine node reading lease.session (S.answer self.old.store node) (S.asked self.old.store node) turn.said.items self.old.owners self.new.owners (S.out_of self.new.store node) (Asking G.Register O.Owners self.new node) (noting (O.asks self.old.owners node) old) new)) }
         ensures answers { IfOk result (λ turn. OfBoth self.old self.new node (λ old new. AreApart old → AnswersCalls reading old new turn.said.items)) }
         ensures notes { OnOk result (OfNode self.new node (λ machine. machine.mark ≡ marked (first_of (O.asks self.new.owners node)) machine)) }

@@ -1,5 +1,5 @@
 -- A call whose record's gate may have been sent at a node is in doubt there.
-use Rattle.std.proofs.Common.{◌≡◌, ◌∙◌, ℕ, true, false, List, Option, None, Some, IfSome, IsSomeAnd, refl, sym, ap, subst}
+use Rattle.std.proofs.Common.{◌≡◌, ◌∙◌, ℕ, true, false, List, Option, None, Some, IsSomeAnd, refl, sym, ap, subst}
 use Rattle.std.specs.Prelude.{option_map, slice_get}
 use Rattle.bx_base.specs.declared.names.Actor.TheVariants.{Node}
 use Rattle.bx_base.specs.declared.names.Point.{Point}
@@ -8,7 +8,7 @@ use Rattle.bx_facts.specs.declared.owners.Owners as owners
 use Rattle.bx_facts.specs.declared.register.Register as register
 use Rattle.bx_facts.specs.declared.store.Store as store
 use Rattle.bx_facts.specs.Chains.{LivesIn, last}
-use Rattle.bx_node_machines.specs.Machines.{IsAbout, IsAtWork, IsDoubtIn, IsDoubtOf, IsOfClosing, IsOfRecord, Scene, act_of, number_of}
+use Rattle.bx_node_machines.specs.Machines.{IsAbout, IsAtWork, IsDoubtIn, IsDoubtOf, IsOfRecord, Scene, act_of, number_of}
 use Rattle.bx_node_machines.specs.Nodes.{NodesStand}
 use Rattle.bx_node_steps.specs.Calls.{IsOpening, call_written, is_opening}
 use Rattle.bx_node_steps.specs.Seen.{replying, seen, stage_of, view_of}
@@ -21,15 +21,13 @@ use Rattle.bx_nodes.specs.Turns.{IsInDoubt}
 use Rattle.bx_nodes.proofs.Machines.{seen_there}
 use Rattle.bx_redo.specs.declared.work.Work.{Work}
 use Rattle.bx_redo.specs.declared.work.Work.TheVariants as works
-use Rattle.bx_rows.specs.declared.session.SessionRow.{SessionRow}
-use Rattle.bx_rows.specs.Words.{row_in}
 use Rattle.bx_views.specs.Attempts.{Deed}
 use Rattle.bx_views.specs.Truths.{Hints, Truth}
 use Rattle.bx_post.specs.declared.packets.Letter.{Letter}
 use Rattle.bx_world_chains.proofs.Rows.{lives_row}
 use Rattle.bx_world_standing.specs.Parts.{Clocks}
 use Rattle.bx_world_standing.specs.Standing.{Course}
-use Rattle.bx_world_standing.specs.bx_world_logs.specs.Logs.{Activity, OfLog, opens}
+use Rattle.bx_world_standing.specs.bx_world_logs.specs.Logs.{OfLog, opens}
 use Rattle.bx_world_standing.proofs.Owns.{own_is}
 use Rattle.bx_world_views.specs.Views.{OfCall, Unacknowledged}
 

@@ -6,6 +6,7 @@ use Rattle.bx_base.specs.declared.names.Point.{Point}
 use Rattle.bx_facts.specs.Chains.{LivesIn, last}
 use Rattle.bx_facts.proofs.Lists.{nothing}
 use Rattle.bx_node_events.proofs.Works.{keeps_all, leaves_kept, leaves_on}
+use Rattle.bx_node_steps.specs.Calls.{IsAnswered}
 use Rattle.bx_node_tries.specs.Tries.{LeadsBack}
 use Rattle.bx_node_tries.specs.declared.round.Said.{Said}
 use Rattle.bx_nodes.specs.Asks.{Later}
@@ -111,3 +112,49 @@ turned_whole IsOwn Opens Step Stands_then c tree turn none in_doubt one = record
     by : (number : ℕ) → Opens number → (own : Option ℕ) → IfSome own (λ session. IsOwn session × LivesIn (last c.register.chain) session) → IfSome own (λ session. IsInDoubt c session number)
     by number opens None is = tt
     by number opens (Some session) is = in_doubt session number is.0 is.1 opens
+
+-- A whole turn, under a session that is its own otherwise told, for what stands then.
+pub whole_as : {T : Type 0} (IsOwn IsOwn_then Opens Opens_then : ℕ → Type 0) (Step : T → Deed → T → Type 0) (Stands Stands_then : Course → T → Type 0) (c : Course) (tree : T) (turn : Turn) → ((session : ℕ) → IsOwn session → IsOwn_then session)
+    → ((number : ℕ) → Opens_then number → IsAnswered turn.said.items number → Opens number) → ((later : Course) (next : T) → Stands later next → Stands_then later next) → TurnedUnder IsOwn Opens Step Stands c tree turn
+    → TurnedUnder IsOwn_then Opens_then Step Stands_then c tree turn
+whole_as IsOwn IsOwn_then Opens Opens_then Step Stands Stands_then c tree turn owns opens leads one = record {
+  own = one.own;
+  is_own = by one.own one.is_own;
+  quiet = one.quiet;
+  opened = λ number is answered. one.opened number (opens number is answered) answered;
+  turned = record {
+    later = one.turned.later;
+    between = one.turned.between;
+    next = one.turned.next;
+    tells = one.turned.tells;
+    leads = one.turned.leads;
+    chain = one.turned.chain;
+    logged = one.turned.logged;
+    works = one.turned.works;
+    stands = leads one.turned.later one.turned.next one.turned.stands;
+  };
+}
+  where
+    by : (own : Option ℕ) → IfSome own (λ session. IsOwn session × LivesIn (last c.register.chain) session) → IfSome own (λ session. IsOwn_then session × LivesIn (last c.register.chain) session)
+    by None is = tt
+    by (Some session) is = (owns session is.0, is.1)
+
+-- nothing is done in it, under no session
+pub whole_none : {T : Type 0} (IsOwn Opens : ℕ → Type 0) (Step : T → Deed → T → Type 0) (Stands_then : Course → T → Type 0) (c : Course) (tree : T) (turn : Turn) → turn.told.items ≡ [] → turn.said.items ≡ [] → Stands_then c tree → TurnedUnder IsOwn Opens Step Stands_then c tree turn
+whole_none IsOwn Opens Step Stands_then c tree turn told said stands = record {
+  own = None;
+  is_own = tt;
+  quiet = λ none. (told, said);
+  opened = λ number opens answered. tt;
+  turned = record {
+    later = c;
+    between = tree;
+    next = tree;
+    tells = OfKnown (λ point has. absurd (nothing point (subst (λ (l : List Point). Contains l point) told has))) refl;
+    leads = subst (λ (l : List Said). LeadsBack Step tree (reverse l) tree) (sym said) refl;
+    chain = refl;
+    logged = λ slot one has. inl has;
+    works = record { slots = λ session row other has. inl refl; doubts = λ session other. inl refl };
+    stands = stands;
+  };
+}

@@ -88,12 +88,13 @@ pub record HasRecordOf (logs : Logs) (point : Point) : Type 0 where
 abbrev pub IsKnown : Logs → Point → Type 0
 IsKnown logs point = HasRecordOf logs point ⊎ (point.call ≡ 0)
 
--- The record in doubt of a session, of which the gate was sent, was found open: its call acts at its point, and is in doubt no more.
+-- The record in doubt of a session that is dead, of which the gate was sent, was found open: its call acts at its point, and is in doubt no more.
 pub record ActsInDoubt {T : Type 0} (Step : T → Deed → T → Type 0) (old new : Course) (tree : T) (point : Point) (next : T) : Type 0 where
   pub session : ℕ
   pub doubt : Unacknowledged
   pub deed : Deed
   pub open_is : IsOpenIn old session doubt deed
+  pub dead : LivesIn (last old.register.chain) session → ⊥
   pub call : point.call ≡ doubt.call
   pub at : (deed.moment ≡ point.moment) × (deed.spare ≡ point.spare) × (deed.made ≡ point.made)
   pub step : Step tree deed next

@@ -22,6 +22,7 @@ use bx_facts::{Outbox, Owners, Register, Store};
 use bx_node_steps::Stage;
 use bx_node_tries::Said;
 use bx_views::Engine;
+use std::alloc::Global;
 
 /// What a node works under in a turn.
 #[derive(Clone, Copy)]
@@ -39,6 +40,18 @@ pub struct Turn {
     pub told: Vec<Point>,
     /// The answers, in the order in which the calls acted, behind what is told.
     pub said: Vec<Said>,
+}
+
+impl Turn {
+    /// A turn in which nothing is told or said. It takes no memory.
+    pub fn none(alloc: Global) -> Turn
+        ensures { (result.told.items ≡ []) × (result.said.items ≡ []) }
+    {
+        Turn {
+            told: Vec::new(alloc),
+            said: Vec::new(alloc),
+        }
+    }
 }
 
 impl<G: Register, O: Owners, S: Store, E: Engine> Nodes<G, O, S, E> {

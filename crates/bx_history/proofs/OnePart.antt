@@ -1,16 +1,16 @@
--- An account goes on by one part of a run. A call may be taken in it; then calls that wait are answered; and then a kept answer may be sent again. Or some nodes end.
+-- An account goes on by one part of a run. A call may be taken in it; then a call may be found to have acted, and gets its point alone; then calls that wait are answered; and then a kept answer may be sent again. Or some nodes end.
 use Rattle.std.proofs.Common.{◌≡◌, ℕ, ◌+◌, Bool, true, false, List, [], ◌∷◌, ◌++◌, Option, Some, None, IfSome, refl, sym, ap, subst, ◌∙◌, append_assoc, eqb}
 use Rattle.std.specs.Prelude.{◌≢◌, ◌↔◌, filter, is_some, map, not, if◌then◌else◌}
 use Rattle.std.specs.List.{AllByRecursion}
 use Rattle.std.proofs.lemmas.Bool.{eq-eqb, ne_eqb, not-true}
 use Rattle.bx_script.specs.declared.trace_line.TraceLine.{TraceLine}
 use Rattle.bx_script.specs.declared.trace_line.TraceLine.TheVariants.{Again, Took}
-use Rattle.bx_history.specs.Trace.{Answer, Entry, FitsNewest, IsIn, IsSentBefore, Taking, taken_count, taking_in, taking_of, takings}
+use Rattle.bx_history.specs.Trace.{Answer, Entry, FitsNewest, IsIn, IsSentBefore, Taking, answers, has_point, taken_count, taking_in, taking_of, takings}
 use Rattle.bx_history.specs.Legal.{LeadsNewest}
 use Rattle.bx_history.specs.Parts.{Arrival, Happening, Part, trace_of, trace_since, unanswered, waiting}
 use Rattle.bx_history.specs.Placed.{HasMoment, HasReadingSince, IsAnsweredAtOnce, IsPart, Repeat, Rules, again_by, again_in, taken_by, taken_in}
 use Rattle.bx_history.specs.Along.{none_ends}
-use Rattle.bx_history.specs.Account.{AreNewestFirst, AwaitsNewest, IsPatient, IsPending, IsSplit, answers_at}
+use Rattle.bx_history.specs.Account.{AreNewestFirst, AwaitsNewest, IsPatient, IsPending, IsSplit, LacksPoint, answers_at}
 use Rattle.bx_history.proofs.Lists.{all_mapped, all_of, filter_all, filter_in, in_filter, one_of}
 use Rattle.bx_history.proofs.Serving.{AreOfOthers, Awaits, IsDue, IsKnown, Served, acted_line, awaits_served, awaits_taken, entry_by, is_among, known_behind, known_since, longer_front, none_among, one_sent, reply_line, sent_by, sent_in, served, served_answers, served_fits, served_takings, served_waits}
 use Rattle.bx_history.proofs.Since.{since_front}
@@ -26,15 +26,25 @@ abbrev pub again_lines : Option Repeat → List TraceLine
 again_lines None = []
 again_lines (Some one) = Again one.node one.client one.reply ∷ []
 
-abbrev pub lines_with : Option Taking → List Served → Option Repeat → List TraceLine
-lines_with taken all again = again_lines again ++ served all all (took_lines taken)
+-- of a call that a node that recovers its record finds to have acted: its point alone
+abbrev pub found_lines : Option Served → List TraceLine
+found_lines None = []
+found_lines (Some one) = acted_line one ∷ []
+
+-- whether it is this call
+abbrev pub is_found : Option Served → ℕ → Bool
+is_found None call = false
+is_found (Some one) call = one.point.call == call
+
+abbrev pub lines_with : Option Taking → Option Served → List Served → Option Repeat → List TraceLine
+lines_with taken found all again = again_lines again ++ served all all (found_lines found ++ took_lines taken)
 
 -- perhaps something arrives, at a reading or at none, and no node ends
 abbrev pub going : Option Arrival → Option ℕ → Bool → Happening
 going arrives reading runs = record { arrives = arrives; reading = reading; ends = none_ends; runs = runs }
 
-abbrev pub part_with : Happening → Option Taking → List Served → Option Repeat → Part
-part_with what taken all again = record { what = what; lines = lines_with taken all again }
+abbrev pub part_with : Happening → Option Taking → Option Served → List Served → Option Repeat → Part
+part_with what taken found all again = record { what = what; lines = lines_with taken found all again }
 
 -- what is taken, as it arrived
 abbrev pub arrived : Option Taking → List Arrival
@@ -123,16 +133,19 @@ lines_lack taken all again call other = ap (λ (ts : List Taking). is_some (taki
 
 -- ---- what may come in a part
 
--- Perhaps a call is taken, exactly where it is to be, with the next number. Then calls that wait are answered, that call or others, each once, and at a reading since it was taken. Then perhaps a
--- kept answer is sent again, exactly where it is to be. And a call that is answered at once is answered in the part.
-pub record IsServed (rules : Rules) (parts : List Part) (what : Happening) (taken : Option Taking) (all : List Served) (again : Option Repeat) : Type 0 where
+-- Perhaps a call is taken, exactly where it is to be, with the next number. Then perhaps a call that was taken before, and has no point, is found to have acted, and has its point; whether it waits or not, it has no reply.
+-- Then calls that wait and have no point are answered, each once, and at a reading since it was taken. Then perhaps a kept answer is sent again, exactly where it is to be. And a call that is answered at once is answered in
+-- the part.
+pub record IsServed (rules : Rules) (parts : List Part) (what : Happening) (taken : Option Taking) (acted : Option Served) (all : List Served) (again : Option Repeat) : Type 0 where
   pub takes : arrived taken ≡ taken_by rules parts what.arrives
   pub number : IfSome taken (λ taking. taking.call ≡ taken_count (trace_of parts) + 1)
+  pub found : IfSome acted (λ one. (one.point.call ≡ one.taking.call) × LacksPoint (trace_of parts) one.taking × HasReadingSince one.point.call one.point.moment (part_with what taken acted all again ∷ parts))
   pub of : AllByRecursion (λ one. one.point.call ≡ one.taking.call) all
-  pub waits : AllByRecursion (λ one. IsIn one.taking (waiting (part_with what taken [] None ∷ parts) one.taking.node)) all
+  pub waits : AllByRecursion (λ one. IsIn one.taking (waiting (part_with what taken None [] None ∷ parts) one.taking.node)) all
+  pub unpointed : AllByRecursion (λ one. has_point (found_lines acted ++ (took_lines taken ++ trace_of parts)) one.point.call ≡ false) all
   pub others : AreOfOthers all
-  pub moments : AllByRecursion (λ one. HasReadingSince one.point.call one.point.moment (part_with what taken all again ∷ parts)) all
-  pub immediate : IfSome taken (IsAnsweredAtOnce rules parts (part_with what taken all again))
+  pub moments : AllByRecursion (λ one. HasReadingSince one.point.call one.point.moment (part_with what taken acted all again ∷ parts)) all
+  pub immediate : IfSome taken (IsAnsweredAtOnce rules parts (part_with what taken acted all again))
   pub repeats : in_list again ≡ again_by rules parts what.arrives
   pub sent : IfSome again (λ one. IsSentBefore rules.kept (served all all (took_lines taken ++ trace_of parts)) one.node one.client one.reply)
 

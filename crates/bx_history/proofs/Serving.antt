@@ -170,7 +170,7 @@ module _ (since : List TraceLine) (node : ℕ) where
       let found : taking_of (served some all since) one.point.call ≡ taking_of since one.point.call = ap (λ (ts : List Taking). taking_in ts one.point.call) (served_takings some all since) in
       record { here = λ at. found ∙ known.here at; only = λ other is. known.only other (sym found ∙ is) }
 
-acted_answers : (all : List Served) (older : List TraceLine) → answers (map acted_line all ++ older) ≡ answers older
+pub acted_answers : (all : List Served) (older : List TraceLine) → answers (map acted_line all ++ older) ≡ answers older
 acted_answers [] older = refl
 acted_answers (one ∷ all) older = acted_answers all older
 

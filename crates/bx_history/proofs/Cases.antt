@@ -36,6 +36,13 @@ answered call reading client byte = record {
   lines = Reply call (byte ∷ []) ∷ Acted (record { call = call; moment = reading; spare = 8; made = 0 }) ∷ Took call 0 client (byte ∷ []) ∷ [];
 }
 
+-- the point of a call, found by a node that recovers its record
+abbrev found : ℕ → ℕ → ℕ → Part
+found call reading moment = record {
+  what = record { arrives = None; reading = Some reading; ends = none_ends; runs = true };
+  lines = Acted (record { call = call; moment = moment; spare = 8; made = 0 }) ∷ [];
+}
+
 -- ---- what is sent again
 
 abbrev sent : List TraceLine
@@ -101,6 +108,15 @@ what_waits_is_not_sent = refl
 pub what_waited_is_taken_after_a_crash : taken_by rules (crash ∷ waits 1 10 5 7 ∷ []) (Some (from 5 7)) ≡ from 5 7 ∷ []
 what_waited_is_taken_after_a_crash = refl
 
+pub what_was_found_is_not_taken : taken_by rules (found 1 30 10 ∷ waits 1 10 5 7 ∷ []) (Some (from 5 7)) ≡ []
+what_was_found_is_not_taken = refl
+
+pub what_was_found_is_not_sent : again_by rules (found 1 30 10 ∷ waits 1 10 5 7 ∷ []) (Some (from 5 7)) ≡ []
+what_was_found_is_not_sent = refl
+
+pub what_was_found_is_taken_after_a_crash : taken_by rules (crash ∷ found 1 30 10 ∷ waits 1 10 5 7 ∷ []) (Some (from 5 7)) ≡ from 5 7 ∷ []
+what_was_found_is_taken_after_a_crash = refl
+
 abbrev many : ℕ → List Part
 many zero = []
 many (suc n) = waits (suc n) 10 n 7 ∷ many n
@@ -110,6 +126,9 @@ a_64th_is_taken = refl
 
 pub a_65th_is_not : is_taken rules (many 64) (from 100 7) ≡ false
 a_65th_is_not = refl
+
+pub one_that_was_found_counts : is_taken rules (found 1 30 10 ∷ many 64) (from 100 7) ≡ false
+one_that_was_found_counts = refl
 
 -- ---- when a call acts
 

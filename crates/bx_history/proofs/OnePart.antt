@@ -247,7 +247,7 @@ answers_behind found [] all trace = acted_answers all (found_lines found ++ trac
     by (Some one) = refl
 answers_behind found (one ∷ some) all trace =
     ap (λ (ts : List Taking). with_answer (taking_in ts one.point.call) one.reply (answers (served some all (found_lines found ++ trace))))
-        (served_takings some all (found_lines found ++ trace) ∙ found_takings found trace ∙ sym (served_takings some all trace))
+    (served_takings some all (found_lines found ++ trace) ∙ found_takings found trace ∙ sym (served_takings some all trace))
     ∙ ap (with_answer (taking_of (served some all trace) one.point.call) one.reply) (answers_behind found some all trace)
 
 sent_behind : (kept : ℕ) (found : Option Served) (all : List Served) (trace : List TraceLine) (one : Repeat) → IsSentBefore kept (served all all trace) one.node one.client one.reply
@@ -328,8 +328,7 @@ module _ {Tree : Type 0} (Step : Tree → Entry → Tree → Type 0) (rules : Ru
               → FitsNewest rules.kept (found_lines acted ++ trace_taken) (map entry_by (in_list acted) ++ history)
           by None is = fits_taken
           by (Some one) is =
-              let lacks = lacks_then one is.1 in
-              (
+              let lacks = lacks_then one is.1 in (
                 record {
                   taking = one.taking;
                   taken = ap (taking_of trace_taken) is.0 ∙ lacks.taken;
@@ -353,8 +352,8 @@ module _ {Tree : Type 0} (Step : Tree → Entry → Tree → Type 0) (rules : Ru
           → AllByRecursion (λ one. IsIn one.taking (unanswered (since_found one.taking.node) one.taking.node)) some
       waits_then some = all_mapped _ _ some (λ one there. subst (IsIn one.taking) (sym (found_waits found (since_taken one.taking.node) one.taking.node)) there)
 
-      waits : AllByRecursion (λ one. IsIn one.taking (unanswered (since_found one.taking.node) one.taking.node)) all
-      waits = waits_then all serves.waits
+      all_wait : AllByRecursion (λ one. IsIn one.taking (unanswered (since_found one.taking.node) one.taking.node)) all
+      all_wait = waits_then all serves.waits
 
       due_of : (some : List Served) → AllByRecursion (λ one. one.point.call ≡ one.taking.call) some → AllByRecursion (λ one. IsIn one.taking (unanswered (since_found one.taking.node) one.taking.node)) some
           → AllByRecursion (λ one. has_point trace_found one.point.call ≡ false) some → AllByRecursion (IsDue trace_found) some
@@ -377,10 +376,10 @@ module _ {Tree : Type 0} (Step : Tree → Entry → Tree → Type 0) (rules : Ru
       )
 
       due : AllByRecursion (IsDue trace_found) all
-      due = due_of all serves.of waits serves.unpointed
+      due = due_of all serves.of all_wait serves.unpointed
 
       awaits_answered : (node : ℕ) → Awaits node (served all all trace_found) (served all all (since_found node))
-      awaits_answered node = awaits_served node trace_found (since_found node) all serves.others due (there_of node all waits) (awaits_found node)
+      awaits_answered node = awaits_served node trace_found (since_found node) all serves.others due (there_of node all all_wait) (awaits_found node)
 
       -- ---- the answer that is sent again
 
@@ -529,7 +528,7 @@ module _ {Tree : Type 0} (Step : Tree → Entry → Tree → Type 0) (rules : Ru
           waits = again_stays.waits ∙ some_waits all ∙ filter_all (λ t. not (is_among all t.call)) (waiting (part_taken ∷ parts) node)
               (all_mapped (IsPending trace_found node) (λ t. not (is_among all t.call) ≡ true) (waiting (part_taken ∷ parts) node) (λ t pending. ap not (none_among all t.call (among_here t all pending due apart))) pending_then);
           sent = again_stays.sent ∙ ap (λ (l : List TraceLine). answers_at l node) (some_since all)
-              ∙ served_answers (since_found node) node all all (known_since node trace_found (since_found node) all serves.others due (there_of node all waits) (awaits_found node) all due (there_of node all waits))
+              ∙ served_answers (since_found node) node all all (known_since node trace_found (since_found node) all serves.others due (there_of node all all_wait) (awaits_found node) all due (there_of node all all_wait))
               ∙ ap (λ (l : List Answer). l ++ answers_at (since_found node) node) (none_sent all apart) ∙ found_sent found (since_taken node) node;
         }
           where

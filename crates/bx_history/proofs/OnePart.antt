@@ -183,13 +183,17 @@ lines_lack taken found all again call other = ap (λ (ts : List Taking). is_some
 
 -- ---- what may come in a part
 
+-- A call that was taken in these parts, and has no point by them, acted at a reading of these that go on, since it was taken.
+abbrev pub IsFoundIn : List Part → List Part → Served → Type 0
+IsFoundIn parts now one = (one.point.call ≡ one.taking.call) × LacksPoint (trace_of parts) one.taking × HasReadingSince one.point.call one.point.moment now
+
 -- Perhaps a call is taken, exactly where it is to be, with the next number. Then perhaps a call that was taken before, and has no point, is found to have acted, and has its point; whether it waits or not, it has no reply.
 -- Then calls that wait and have no point are answered, each once, and at a reading since it was taken. Then perhaps a kept answer is sent again, exactly where it is to be. And a call that is answered at once is answered in
 -- the part.
 pub record IsServed (rules : Rules) (parts : List Part) (what : Happening) (taken : Option Taking) (acted : Option Served) (all : List Served) (again : Option Repeat) : Type 0 where
   pub takes : arrived taken ≡ taken_by rules parts what.arrives
   pub number : IfSome taken (λ taking. taking.call ≡ taken_count (trace_of parts) + 1)
-  pub found : IfSome acted (λ one. (one.point.call ≡ one.taking.call) × LacksPoint (trace_of parts) one.taking × HasReadingSince one.point.call one.point.moment (part_with what taken acted all again ∷ parts))
+  pub found : IfSome acted (IsFoundIn parts (part_with what taken acted all again ∷ parts))
   pub of : AllByRecursion (λ one. one.point.call ≡ one.taking.call) all
   pub waits : AllByRecursion (λ one. IsIn one.taking (waiting (part_with what taken None [] None ∷ parts) one.taking.node)) all
   pub unpointed : AllByRecursion (λ one. has_point (found_lines acted ++ (took_lines taken ++ trace_of parts)) one.point.call ≡ false) all
@@ -324,7 +328,7 @@ module _ {Tree : Type 0} (Step : Tree → Entry → Tree → Type 0) (rules : Ru
       fits_found : FitsNewest rules.kept trace_found (map entry_by (in_list found) ++ history)
       fits_found = by found serves.found
         where
-          by : (acted : Option Served) → IfSome acted (λ one. (one.point.call ≡ one.taking.call) × LacksPoint (trace_of parts) one.taking × HasReadingSince one.point.call one.point.moment (part ∷ parts))
+          by : (acted : Option Served) → IfSome acted (IsFoundIn parts (part ∷ parts))
               → FitsNewest rules.kept (found_lines acted ++ trace_taken) (map entry_by (in_list acted) ++ history)
           by None is = fits_taken
           by (Some one) is =
@@ -430,7 +434,7 @@ module _ {Tree : Type 0} (Step : Tree → Entry → Tree → Type 0) (rules : Ru
           each None is = tt
           each (Some taking) is = (is, tt)
 
-          its_moment : (acted : Option Served) → IfSome acted (λ one. (one.point.call ≡ one.taking.call) × LacksPoint (trace_of parts) one.taking × HasReadingSince one.point.call one.point.moment (part ∷ parts))
+          its_moment : (acted : Option Served) → IfSome acted (IsFoundIn parts (part ∷ parts))
               → IfSome acted (HasItsMoment (part ∷ parts))
           its_moment None is = tt
           its_moment (Some one) is = is.2

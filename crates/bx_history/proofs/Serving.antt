@@ -14,7 +14,7 @@ use Rattle.bx_history.proofs.Numbering.{next_has_no_reply, taking_bound}
 use Rattle.bx_history.proofs.Since.{IsFront, found_there, known_there}
 use Rattle.bx_history.proofs.Unanswered.{fewer_but, no_reply_front, same}
 
--- A call that is answered: as it was taken, at its point, with its reply.
+-- A call that acts: as it was taken, at its point, with the reply of its entry, which is sent where it is answered.
 pub record Served : Type 0 where
   pub taking : Taking
   pub point : Point

@@ -7,6 +7,8 @@ use Rattle.bx_history.specs.Trace.{Taking, IsSentBefore}
 use Rattle.bx_history.specs.Parts.{Arrival, Happening, Part}
 use Rattle.bx_history.specs.Placed.{Rules, HasReadingSince, HasSpare, IsAnsweredAtOnce, IsClosing, IsPrompt, again_by, is_taken, taken_by}
 use Rattle.bx_history.specs.Along.{none_ends}
+use Rattle.bx_history.proofs.OnePart.{IsServed, going}
+use Rattle.bx_history.proofs.Serving.{Served}
 
 -- all bytes are calls, none is answered at once, and a node keeps two answers
 abbrev rules : Rules
@@ -169,6 +171,54 @@ never_waiting_behind_a_run h = let none = h.answered refl 0 in cc
 
 pub never_short_of_blocks : HasSpare (Acted (record { call = 1; moment = 10; spare = 7; made = 0 })) → ⊥
 never_short_of_blocks h = omega arith
+
+-- ---- what one part may tell
+
+-- the first call, which acted at this reading
+abbrev acted : ℕ → Served
+acted moment = record { taking = first; point = record { call = 1; moment = moment; spare = 8; made = 0 }; reply = 7 ∷ [] }
+
+pub the_point_of_one_that_waits : IsServed rules (waits 1 10 5 7 ∷ []) (going None (Some 30) false) None (Some (acted 10)) [] None
+the_point_of_one_that_waits = record {
+  takes = refl;
+  number = tt;
+  found = (refl, record { taken = refl; no_point = refl }, inr (refl, inl refl));
+  of = tt;
+  waits = tt;
+  unpointed = tt;
+  others = tt;
+  moments = tt;
+  immediate = tt;
+  repeats = refl;
+  sent = tt;
+}
+
+pub the_point_of_one_whose_node_ended : IsServed rules (crash ∷ waits 1 10 5 7 ∷ []) (going None (Some 30) false) None (Some (acted 10)) [] None
+the_point_of_one_whose_node_ended = record {
+  takes = refl;
+  number = tt;
+  found = (refl, record { taken = refl; no_point = refl }, inr (refl, inr (refl, inl refl)));
+  of = tt;
+  waits = tt;
+  unpointed = tt;
+  others = tt;
+  moments = tt;
+  immediate = tt;
+  repeats = refl;
+  sent = tt;
+}
+
+pub never_a_point_twice : IsServed rules (found 1 30 10 ∷ waits 1 10 5 7 ∷ []) (going None (Some 40) false) None (Some (acted 10)) [] None → ⊥
+never_a_point_twice h = let none = h.found.1.no_point in cc
+
+pub never_answered_once_found : IsServed rules (found 1 30 10 ∷ waits 1 10 5 7 ∷ []) (going None (Some 40) false) None None (acted 40 ∷ []) None → ⊥
+never_answered_once_found h = let none = h.unpointed.0 in cc
+
+pub never_found_and_answered : IsServed rules (waits 1 10 5 7 ∷ []) (going None (Some 30) false) None (Some (acted 10)) (acted 30 ∷ []) None → ⊥
+never_found_and_answered h = let none = h.unpointed.0 in cc
+
+pub never_found_before_it_was_taken : IsServed rules [] (going None (Some 30) false) None (Some (acted 30)) [] None → ⊥
+never_found_before_it_was_taken h = let none = h.found.1.taken in cc
 
 -- ---- what comes behind the last part
 

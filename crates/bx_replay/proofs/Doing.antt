@@ -18,7 +18,7 @@ use Rattle.bx_opens.specs.bx_cluster.specs.Steps.{greatest_reading}
 use Rattle.bx_opens.specs.bx_world_events.specs.Causes.{IsThere as IsInCluster}
 use Rattle.bx_opens.specs.bx_world_events.specs.Refusals.{Seen}
 use Rattle.bx_schedule.specs.Doing.{IsDone, IsLine}
-use Rattle.bx_schedule.specs.Lacking.{AreLacking}
+use Rattle.bx_opens.specs.bx_cluster.specs.Lacking.{AreLacking}
 use Rattle.bx_schedule.specs.Places.{HasAsMany, Place, has_stopped, lines_by}
 use Rattle.bx_schedule.specs.Placing.{ArePartsOf, Done, IsByLines, is_down_after, is_down_by, lines_of, nodes_after, parts_of, schedule_of}
 use Rattle.bx_script.specs.Schedule.{HasPlace, is_heading, reading_of}

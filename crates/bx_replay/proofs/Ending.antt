@@ -12,7 +12,7 @@ use Rattle.bx_opens.specs.Opening.{AreOpenAlone}
 use Rattle.bx_opens.specs.bx_cluster.specs.Closing.{Closes, Tells, lacks_point}
 use Rattle.bx_opens.specs.bx_cluster.specs.Runs as runs
 use Rattle.bx_opens.specs.bx_rack_audit.specs.Alone.{StandAlone}
-use Rattle.bx_schedule.specs.Lacking.{AreLacking}
+use Rattle.bx_opens.specs.bx_cluster.specs.Lacking.{AreLacking}
 use Rattle.bx_schedule.specs.Placing.{Done, parts_of, schedule_of}
 use Rattle.bx_opens.specs.AtOnce.{IsAtOnce}
 use Rattle.bx_steps.specs.Steps as engine

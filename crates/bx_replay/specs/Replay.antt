@@ -15,7 +15,7 @@ use Rattle.bx_opens.specs.Opening.{AreOpenAlone}
 use Rattle.bx_opens.specs.bx_rack_audit.specs.Alone.{StandAlone}
 use Rattle.bx_opens.specs.bx_world_events.specs.Causes.{IsThere as IsInCluster}
 use Rattle.bx_opens.specs.bx_world_events.specs.Refusals.{Seen}
-use Rattle.bx_schedule.specs.Lacking.{AreLacking}
+use Rattle.bx_opens.specs.bx_cluster.specs.Lacking.{AreLacking}
 use Rattle.bx_schedule.specs.Placing.{AreOfLines, Done, lines_of, parts_of, schedule_of}
 use Rattle.bx_script.specs.ScheduleLine.{spelling}
 use Rattle.bx_script.specs.TraceText.{InTraceRange, trace_text}

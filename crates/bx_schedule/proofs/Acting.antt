@@ -16,9 +16,9 @@ use Rattle.bx_script.specs.TraceText.{InTraceRange, trace_text}
 use Rattle.bx_world_events.specs.Refusals.{Seen, refusal}
 use Rattle.bx_world_events.specs.declared.event.Event.{Event}
 use Rattle.bx_schedule.specs.Disks.{moved}
-use Rattle.bx_schedule.specs.Lacking.{AreLacking, lacking_with}
+use Rattle.bx_cluster.specs.Lacking.{AreLacking, lacking_with}
 use Rattle.bx_schedule.specs.Places.{Acts, Place}
-use Rattle.bx_schedule.proofs.Lacks.{Fits, lacking_more}
+use Rattle.bx_cluster.proofs.Lacks.{Fits, lacking_more}
 
 pub keeps_none : {R : Type 0} (ra : racks.Ghosts R) (a : R) → KeepsRack ra a a
 keeps_none ra a = record { sizes = refl; later = record { all = omega arith; each = λ d. omega arith }; tells = λ tells. tells }

@@ -6,12 +6,10 @@ mod Dues
 mod Each
 mod Going
 mod Holding
-mod Lacks
 mod Lasting
 mod Lining
 mod OneCause
 mod Parting
 mod Placings
-mod Sets
 mod Telling
 mod Turning

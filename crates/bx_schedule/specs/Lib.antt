@@ -1,6 +1,5 @@
 pub mod Disks
 pub mod Doing
-pub mod Lacking
 pub mod Places
 pub mod Placing
 pub mod Refusing

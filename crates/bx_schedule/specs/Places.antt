@@ -20,7 +20,7 @@ use Rattle.bx_world_events.specs.Events.{reading_of}
 use Rattle.bx_world_events.specs.Refusals.{Seen}
 use Rattle.bx_world_events.specs.declared.event.Event.{Event}
 use Rattle.bx_schedule.specs.Disks.{AreDisks, moved}
-use Rattle.bx_schedule.specs.Lacking.{AreLacking}
+use Rattle.bx_cluster.specs.Lacking.{AreLacking}
 use Rattle.bx_schedule.specs.declared.schedule.Schedule.{Schedule}
 
 -- A cluster, the lanes that are held, the greatest reading of all lines, the calls that lack their points, and the text of what came.

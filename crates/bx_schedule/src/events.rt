@@ -9,7 +9,7 @@ ghost use Rattle.bx_script.specs.TraceText.{InTraceRange, trace_text};
 ghost use Rattle.bx_world_events.specs.Events.{reading_of};
 ghost use Rattle.bx_world_events.specs.Refusals.{refusal};
 ghost use Rattle.bx_world_events.specs.declared.event.EventError.TheVariants.{OutOfMemory as NoMemory};
-ghost use Rattle.bx_schedule.specs.Lacking.{lacking_with};
+ghost use Rattle.bx_cluster.specs.Lacking.{lacking_with};
 ghost use Rattle.bx_schedule.specs.Places.{Acts, CanGo, Goes, IsSame, IsWithin, place_of};
 ghost use Rattle.bx_schedule.specs.Refusing.{at_clock};
 

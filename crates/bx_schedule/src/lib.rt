@@ -2,7 +2,6 @@
 #![tactic(auto)]
 
 mod at_clock;
-mod calls;
 mod clock;
 mod disks;
 mod event_of;

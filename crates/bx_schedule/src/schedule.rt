@@ -4,12 +4,11 @@ ghost use Rattle.std.specs.Prelude.{◌≡◌, [], List};
 ghost use Rattle.std.specs.FinSet as set;
 ghost use Rattle.bx_cluster.specs.Closing.{lacks_point};
 ghost use Rattle.bx_history.specs.Parts.{Part, trace_of};
-ghost use Rattle.bx_schedule.specs.Lacking.{AreLacking};
+ghost use Rattle.bx_cluster.specs.Lacking.{AreLacking};
 ghost use Rattle.bx_schedule.specs.Places.{place_of};
 
-use crate::calls::Calls;
 use bx_base::CallNo;
-use bx_cluster::Cluster;
+use bx_cluster::{Calls, Cluster};
 use bx_driver::Held;
 use bx_world_events::ClockRule;
 use std::alloc::Global;

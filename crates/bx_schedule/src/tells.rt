@@ -4,10 +4,10 @@ ghost use Rattle.std.specs.Prelude.{◌≡◌, ◌++◌, OnOk, reverse};
 ghost use Rattle.std.specs.List.{AllByRecursion};
 ghost use Rattle.bx_base.specs.Text.{ended};
 ghost use Rattle.bx_script.specs.TraceText.{InTraceRange, trace_spelling, trace_text};
-ghost use Rattle.bx_schedule.specs.Lacking.{lacking_by, lacking_with};
+ghost use Rattle.bx_cluster.specs.Lacking.{lacking_by, lacking_with};
 
-use crate::calls::Calls;
 use bx_base::OutOfMemory;
+use bx_cluster::Calls;
 use bx_script::TraceLine;
 
 /// Puts lines behind the text, in their order, and keeps which calls lack their points.

@@ -1,7 +1,7 @@
 use Rattle.std.proofs.Common.{◌≡◌, ◌++◌, reverse, take}
 use Rattle.std.specs.List.{AllByRecursion}
 use Rattle.bx_script.specs.TraceText.{InTraceRange, trace_text}
-use Rattle.bx_schedule.specs.Lacking.{lacking_with}
+use Rattle.bx_cluster.specs.Lacking.{lacking_with}
 use Rattle.bx_schedule.proofs.tells.tell_all.Given as goal
 
 abbrev pub invariant-loop-line : goal.invariant-loop-line

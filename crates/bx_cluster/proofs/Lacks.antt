@@ -12,8 +12,8 @@ use Rattle.bx_history.proofs.Numbering.{next_has_no_point}
 use Rattle.bx_history.specs.Trace.{Entry, FitsNewest, Taking, has_point, taken_count, taking_of}
 use Rattle.bx_script.specs.declared.trace_line.TraceLine.{TraceLine}
 use Rattle.bx_script.specs.declared.trace_line.TraceLine.TheVariants.{Took, Acted, Reply, Again}
-use Rattle.bx_schedule.specs.Lacking.{lacking_with}
-use Rattle.bx_schedule.proofs.Sets.{turned}
+use Rattle.bx_cluster.specs.Lacking.{lacking_with}
+use Rattle.bx_cluster.proofs.Sets.{turned}
 
 -- a trace fits some history
 abbrev pub Fits : List TraceLine → Type 0

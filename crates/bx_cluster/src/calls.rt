@@ -8,9 +8,9 @@ use std::alloc::Global;
 use std::collections::BTreeSet;
 use std::marker::Model;
 
-/// Numbers of calls. Contracts see it as their set.
+/// Numbers of calls, as those that lack their points. Contracts see it as their set.
 #[derive(Drop)]
-pub(crate) struct Calls {
+pub struct Calls {
     calls: BTreeSet<CallNo>,
 }
 
@@ -28,7 +28,7 @@ impl Model for Calls {
 
 impl Calls {
     /// No call. It takes no memory.
-    pub(crate) fn new(alloc: Global) -> Calls
+    pub fn new(alloc: Global) -> Calls
         ensures { result ≡ set.empty }
     {
         Calls {
@@ -37,7 +37,7 @@ impl Calls {
     }
 
     /// Puts a call among them. Where memory runs out, nothing changes.
-    pub(crate) fn put(&mut self, call: CallNo) -> Result<(), OutOfMemory>
+    pub fn put(&mut self, call: CallNo) -> Result<(), OutOfMemory>
         ensures ok { OnOk result (self.new ≡ set.insert self.old call) }
         ensures err { OnErr result (self.new ≡ self.old) }
     {
@@ -46,14 +46,14 @@ impl Calls {
     }
 
     /// Takes a call from among them. It takes no memory.
-    pub(crate) fn strike(&mut self, call: CallNo)
+    pub fn strike(&mut self, call: CallNo)
         ensures { self.new ≡ set.remove self.old call }
     {
         self.calls.remove(&call);
     }
 
     /// Whether a call is among them. It takes no memory.
-    pub(crate) fn has(&self, call: CallNo) -> bool
+    pub fn has(&self, call: CallNo) -> bool
         ensures { result ≡ set.contains self.now call }
     {
         self.calls.contains(&call)

@@ -1,5 +1,5 @@
 -- What disks tell behind a run: the tree that its history leads to, or that after some of the calls in doubt, which were taken and have no point.
-use Rattle.std.specs.Prelude.{◌≡◌, ◌⊎◌, ◌&&◌, ℕ, zero, suc, ◌<◌, Bool, not, false, List, [], ◌∷◌, ◌++◌, filter, is_some, Option, Some}
+use Rattle.std.specs.Prelude.{◌≡◌, ◌⊎◌, ◌&&◌, ℕ, zero, suc, Bool, not, false, List, [], ◌∷◌, ◌++◌, filter, is_some, Option, Some}
 use Rattle.bx_base.specs.declared.names.Point.{Point}
 use Rattle.bx_disk.specs.Disks.{Disks, IsImage}
 use Rattle.bx_history.specs.Account.{LacksPoint, entry_for}

@@ -1,5 +1,5 @@
 -- What led to a cluster: the parts of a run, which fit one history.
-use Rattle.std.specs.Prelude.{◌≡◌, ◌≤◌, ℕ, true, false, List, map}
+use Rattle.std.specs.Prelude.{◌≤◌, ℕ, true, false, List}
 use Rattle.bx_history.specs.Account.{AwaitsNewest}
 use Rattle.bx_history.specs.Parts.{Part, waiting}
 use Rattle.bx_history.specs.Placed.{Rules}

@@ -1,7 +1,6 @@
 -- What one event is, what a cluster shows after it, and what it is in a run.
 use Rattle.std.specs.Prelude.{◌≡◌, ℕ, ◌+◌, ◌≤◌, max, Bool, true, false, List, [], ◌∷◌, ◌++◌, map, reverse, Option, Some, None, IsSome, if◌then◌else◌}
 use Rattle.bx_base.specs.declared.names.Actor.{Actor}
-use Rattle.bx_base.specs.declared.names.Actor.TheVariants.{Node, Replica, Server, Member}
 use Rattle.bx_facts.specs.Machines.{put_at}
 use Rattle.bx_history.specs.Along.{ends_one}
 use Rattle.bx_history.specs.Parts.{Arrival, Part}

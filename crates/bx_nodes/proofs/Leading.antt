@@ -6,7 +6,6 @@ use Rattle.bx_base.specs.declared.names.Point.{Point}
 use Rattle.bx_facts.specs.Chains.{LivesIn, last}
 use Rattle.bx_facts.proofs.Lists.{nothing}
 use Rattle.bx_node_events.proofs.Works.{keeps_all, leaves_kept, leaves_on}
-use Rattle.bx_node_steps.specs.Calls.{IsAnswered}
 use Rattle.bx_node_tries.specs.Tries.{LeadsBack}
 use Rattle.bx_node_tries.specs.declared.round.Said.{Said}
 use Rattle.bx_nodes.specs.Asks.{Later}
@@ -92,7 +91,7 @@ turned_whole IsOwn Opens Step Stands_then c tree turn none in_doubt one = record
   own = one.own;
   is_own = one.is_own;
   quiet = λ is. (none, one.quiet is);
-  opened = λ number opens answered. by number opens one.own one.is_own;
+  opened = λ number opens. by number opens one.own one.is_own;
   turned = record {
     later = one.turned.later;
     between = tree;
@@ -115,13 +114,13 @@ turned_whole IsOwn Opens Step Stands_then c tree turn none in_doubt one = record
 
 -- A whole turn, under a session that is its own otherwise told, for what stands then.
 pub whole_as : {T : Type 0} (IsOwn IsOwn_then Opens Opens_then : ℕ → Type 0) (Step : T → Deed → T → Type 0) (Stands Stands_then : Course → T → Type 0) (c : Course) (tree : T) (turn : Turn) → ((session : ℕ) → IsOwn session → IsOwn_then session)
-    → ((number : ℕ) → Opens_then number → IsAnswered turn.said.items number → Opens number) → ((later : Course) (next : T) → Stands later next → Stands_then later next) → TurnedUnder IsOwn Opens Step Stands c tree turn
+    → ((number : ℕ) → Opens_then number → Opens number) → ((later : Course) (next : T) → Stands later next → Stands_then later next) → TurnedUnder IsOwn Opens Step Stands c tree turn
     → TurnedUnder IsOwn_then Opens_then Step Stands_then c tree turn
 whole_as IsOwn IsOwn_then Opens Opens_then Step Stands Stands_then c tree turn owns opens leads one = record {
   own = one.own;
   is_own = by one.own one.is_own;
   quiet = one.quiet;
-  opened = λ number is answered. one.opened number (opens number is answered) answered;
+  opened = λ number is. one.opened number (opens number is);
   turned = record {
     later = one.turned.later;
     between = one.turned.between;
@@ -145,7 +144,7 @@ whole_none IsOwn Opens Step Stands_then c tree turn told said stands = record {
   own = None;
   is_own = tt;
   quiet = λ none. (told, said);
-  opened = λ number opens answered. tt;
+  opened = λ number opens. tt;
   turned = record {
     later = c;
     between = tree;

@@ -138,13 +138,13 @@ pub record TakesTurn {T : Type 0} (own : Option ℕ) (Step : T → Deed → T �
   pub works : LeavesOrSettles own c later
   pub stands : Stands_then later next
 
--- So a node had a turn under a session that is its own and lives; or under none, and then it tells and answers nothing. An answer to one of these calls is to one in doubt. (`Opens` says of a call
--- that its record's gate may have been sent at the node before.)
+-- So a node had a turn under a session that is its own and lives; or under none, and then it tells and answers nothing. Calls of which the gate may have been sent there before were in doubt then.
+-- (`Opens` says which those are.)
 pub record TurnedUnder {T : Type 0} (IsOwn Opens : ℕ → Type 0) (Step : T → Deed → T → Type 0) (Stands_then : Course → T → Type 0) (c : Course) (tree : T) (turn : Turn) : Type 0 where
   pub own : Option ℕ
   pub is_own : IfSome own (λ session. IsOwn session × LivesIn (last c.register.chain) session)
   pub quiet : own ≡ None → (turn.told ≡ []) × (turn.said.items ≡ [])
-  pub opened : (number : ℕ) → Opens number → IsAnswered turn.said.items number → IfSome own (λ session. IsInDoubt c session number)
+  pub opened : (number : ℕ) → Opens number → IfSome own (λ session. IsInDoubt c session number)
   pub turned : TakesTurn own Step Stands_then c tree turn
 
 -- All machines but one are as they were.

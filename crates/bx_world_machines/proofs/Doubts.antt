@@ -5,7 +5,9 @@ use Rattle.bx_facts.proofs.Lists.{nothing}
 use Rattle.bx_global.specs.Allowed.{IsAllowed}
 use Rattle.bx_global.specs.bx_rows.specs.Words.{row_in}
 use Rattle.bx_node_calls.proofs.Found.{same_or}
+use Rattle.bx_base.specs.declared.names.Point.{Point}
 use Rattle.bx_node_steps.specs.declared.machine.Machine.{Machine}
+use Rattle.bx_node_tries.specs.declared.round.Said.{Said}
 use Rattle.bx_node_calls.specs.bx_nodes.specs.Turns.{LeavesOrSettles}
 use Rattle.bx_node_calls.specs.bx_nodes.specs.bx_node_events.specs.Works.{KeepsWorks}
 use Rattle.bx_views.specs.Attempts.{Deed}
@@ -109,10 +111,17 @@ in_doubt_later latest number machines c later was = record {
 }
 
 -- Nothing is answered or found, and the logs stay.
-pub goes_none : (machines : List Machine) (c later : Course) → WereOpen c later → later.logs ≡ c.logs → DoubtsGo None [] machines c later
+pub goes_none : {MayAct : ℕ → Type 0} (machines : List Machine) (c later : Course) → WereOpen c later → later.logs ≡ c.logs → DoubtsGo MayAct None [] machines c later
 goes_none machines c later before logs = record {
   doubted = λ session doubt deed is. inl (before session doubt deed is, (λ answered. nothing answered.one answered.there), λ none. none);
   logged = λ slot one has. inl (record { slot = slot; one = one; there = subst (λ (l : Logs). Contains (l slot) one) logs has; same = refl });
+}
+
+-- It goes on so where more might act.
+pub goes_as : (MayAct MayAct_then : ℕ → Type 0) (found : Option Point) (said : List Said) (machines : List Machine) (c later : Course) → ((number : ℕ) → MayAct number → MayAct_then number) → DoubtsGo MayAct found said machines c later → DoubtsGo MayAct_then found said machines c later
+goes_as MayAct MayAct_then found said machines c later more goes = record {
+  doubted = λ session doubt deed is. ⊎_elim inl (λ acts. inr (acts.0, λ none. acts.1 (λ may. none (more doubt.call may)))) (goes.doubted session doubt deed is);
+  logged = goes.logged;
 }
 
 -- Nothing is in doubt.

@@ -35,7 +35,7 @@ use Rattle.bx_post.specs.declared.packets.Letter.{Letter}
 use Rattle.bx_views.specs.Attempts.{Deed}
 use Rattle.bx_views.specs.declared.engine.Engine as engine
 use Rattle.bx_world_machines.specs.Acts.{ActThen, MayActAt, OpenStill, OpensAt}
-use Rattle.bx_world_machines.specs.Answering.{AtNode, MightNot}
+use Rattle.bx_world_machines.specs.Answering.{AtNode, WasSent}
 use Rattle.bx_world_machines.specs.Doubts.{AnswersThose, AreInDoubt, DoubtsGo, Finds, IsFoundOf, IsOfActing, IsOldOrPointed, IsOpenIn, IsUsed}
 use Rattle.bx_world_machines.proofs.Doubts.{WereOpen, open_left, same_own}
 use Rattle.bx_world_standing.specs.Parts.{Clocks}
@@ -130,7 +130,7 @@ pub record CallsGo {T : Type 0} (Step : T → Deed → T → Type 0) (latest : �
   pub found : Option Point
   pub finds : Finds Step c tree turn.told found between
   pub answers : AnswersThose (λ number. AtNode at (λ node. MayActAt old node number)) found turn.said.items c
-  pub goes : DoubtsGo found turn.said.items new c later
+  pub goes : DoubtsGo (λ number. AtNode at (λ node. MayActAt old node number)) found turn.said.items new c later
   pub in_doubt : AreInDoubt latest new later
   pub came : HaveCome latest later.logs
 
@@ -139,7 +139,7 @@ pub record CallsGo {T : Type 0} (Step : T → Deed → T → Type 0) (latest : �
 module _ {G O S E T : Type 0} (g : register.Ghosts G) (o : owners.Ghosts O) (st : store.Ghosts S) (e : engine.Ghosts E T) (Step : T → Deed → T → Type 0) (nodes : Nodes G O S E T) (x : Disks) (letters : List Letter) (clocks : Clocks) (latest : ℕ) (at : Actor) (old : List Machine) (turn : Turn)
     (c middle : Course) (tree : T) (before : WereOpen c middle) (logs : middle.logs ≡ c.logs) (was : AreInDoubt latest old c) (numbers : AreNumbered latest nodes.machines.items) (apart : (n : ℕ) → OfNode nodes n AreApart) (up : clocks.down at ≡ false)
     (acts : ActThen old nodes.machines.items) (acted : (number : ℕ) → IsAnswered turn.said.items number → AtNode at (λ node. MayActAt old node number ⊎ OpenStill old nodes.machines.items node number))
-    (turned : TurnedUnder (λ session. AtNode at (λ node. IsUsed o nodes node session)) (λ number. MightNot at old number) Step (Stand g o st e nodes x letters clocks) middle tree turn) where
+    (turned : TurnedUnder (λ session. AtNode at (λ node. IsUsed o nodes node session)) (WasSent at old nodes.machines.items turn.said.items) Step (Stand g o st e nodes x letters clocks) middle tree turn) where
   abbrev new : List Machine
   new = nodes.machines.items
 
@@ -181,6 +181,7 @@ module _ {G O S E T : Type 0} (g : register.Ghosts G) (o : owners.Ghosts O) (st 
   -- The node that has it as its own writes the record.
   record IsWritten (session : ℕ) (doubt : Unacknowledged) (deed : Deed) : Type 0 where
     node : ℕ
+    it : at ≡ Node node
     machine : Machine
     there : slice_get new node ≡ Some machine
     session_is : session_at new node ≡ Some (Some session)
@@ -200,6 +201,7 @@ module _ {G O S E T : Type 0} (g : register.Ghosts G) (o : owners.Ghosts O) (st 
           (own_is clocks.down (o.own nodes.owners) n session (subst (λ (a : Actor). clocks.down a ≡ false) it up) used.0) row.1 row.2 in
           record {
             node = n;
+            it = it;
             machine = found.0;
             there = found.1;
             session_is = used.1;
@@ -245,6 +247,9 @@ module _ {G O S E T : Type 0} (g : register.Ghosts G) (o : owners.Ghosts O) (st 
 
     opens_it_there : OpensAt new is.node doubt.call
     opens_it_there = and_some (λ m. IsOpening m doubt.call) (slice_get new is.node) is.machine is.there (record { call = is.writes.call; is = is.writes.written; same = sym is.writes.number; gate = gate_sent })
+
+    opens_at_it : AtNode at (λ node. OpensAt new node doubt.call)
+    opens_at_it = subst (λ (who : Actor). AtNode who (λ node. OpensAt new node doubt.call)) (sym is.it) opens_it_there
 
     of_acting : IsOfActing new doubt deed
     of_acting = record {
@@ -360,20 +365,27 @@ module _ {G O S E T : Type 0} (g : register.Ghosts G) (o : owners.Ghosts O) (st 
       let wrong : None ≡ Some doubt = sym none ∙ is.is in
       cc
 
+  some_own : (session : ℕ) → turned.own ≡ Some session → turned.own ≡ None → ⊥
+  some_own session some none = let wrong : None ≡ Some session = sym none ∙ some in cc
+
   -- no session under which the node did something is dead
   own_lives : (session : ℕ) → (LivesIn (last middle.register.chain) session → ⊥) → turned.own ≢ Some session
   own_lives session dead mine = dead (subst (λ (own : Option ℕ). IfSome own (λ one. AtNode at (λ node. IsUsed o nodes node one) × LivesIn (last middle.register.chain) one)) mine turned.is_own).1
 
+  -- A call that is answered, or of which the gate may have been sent, though it might not act before, was in doubt.
+  was_doubted : (number : ℕ) → (turned.own ≡ None → ⊥) → (AtNode at (λ node. MayActAt old node number) → ⊥) → IsAnswered said number ⊎ AtNode at (λ node. OpensAt new node number) → (session : ℕ) × IsInDoubt c session number
+  was_doubted number somebody none touched = by turned.own refl (turned.opened number (record { might_not = none; touched = touched }))
+    where
+      by : (own : Option ℕ) → turned.own ≡ own → IfSome own (λ session. IsInDoubt middle session number) → (session : ℕ) × IsInDoubt c session number
+      by None nobody is = absurd (somebody nobody)
+      by (Some session) some is = (session, record { doubt = is.doubt; deed = is.deed; open_is = before session is.doubt is.deed is.open_is; call = is.call })
+
   answers_those : AnswersThose (λ number. AtNode at (λ node. MayActAt old node number)) found said c
   answers_those = record {
-    acted = λ number answered might. by number answered turned.own refl (turned.opened number might answered);
+    acted = λ number answered none. was_doubted number (λ nobody. nothing answered.one (subst (λ (l : List Said). Contains l answered.one) (turned.quiet nobody).1 answered.there)) none (inl answered);
     apart = λ number answered one. let its = was_found number one in
         unanswered its.session its.doubt its.deed (own_lives its.session its.dead) its.open_is (subst (IsAnswered said) (sym its.call) answered);
   }
-    where
-      by : (number : ℕ) → IsAnswered said number → (own : Option ℕ) → turned.own ≡ own → IfSome own (λ session. IsInDoubt middle session number) → (session : ℕ) × IsInDoubt c session number
-      by number answered None none is = absurd (nothing answered.one (subst (λ (l : List Said). Contains l answered.one) (turned.quiet none).1 answered.there))
-      by number answered (Some session) some is = (session, record { doubt = is.doubt; deed = is.deed; open_is = before session is.doubt is.deed is.open_is; call = is.call })
 
   -- ---- from the one course to the other
 
@@ -394,10 +406,10 @@ module _ {G O S E T : Type 0} (g : register.Ghosts G) (o : owners.Ghosts O) (st 
           (λ same. inr (inr (inr (ap (λ (p : Point). p.call) same ∙ is.same))))
           (Contains-push_cases earlier point is.one (subst (λ (l : List Point). Contains l is.one) told is.there))
 
-  doubts_go : DoubtsGo found said new c later
+  doubts_go : DoubtsGo (λ number. AtNode at (λ node. MayActAt old node number)) found said new c later
   doubts_go = record {
     doubted = λ session doubt deed is. ⊎_elim
-        (λ mine. inr (of_acting session doubt deed (its_own session doubt deed mine is)))
+        (λ mine. let its = its_own session doubt deed mine is in inr (of_acting session doubt deed its, λ none. was_doubted doubt.call (λ nobody. some_own session mine nobody) none (inr (opens_at_it session doubt deed its))))
         (λ other. let were = was_open session doubt deed other is in inl (were, unanswered session doubt deed other were, not_found session doubt deed is were))
         (same_own turned.own session);
     logged = λ slot one has. ⊎_elim

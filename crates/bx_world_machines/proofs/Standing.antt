@@ -35,7 +35,7 @@ use Rattle.bx_node_calls.specs.bx_nodes.proofs.Emptied.{emptied}
 use Rattle.bx_facts.specs.declared.owners.Owners as owners
 use Rattle.bx_post.specs.declared.packets.Letter.{Letter}
 use Rattle.bx_views.specs.declared.engine.Engine as engine
-use Rattle.bx_world_machines.specs.Answering.{Answered, AtNode, CallComes, MayActWith, MightNot, reading_in}
+use Rattle.bx_world_machines.specs.Answering.{Answered, AtNode, CallComes, MayActWith, WasSent, reading_in}
 use Rattle.bx_world_machines.specs.Acts.{MayActAt}
 use Rattle.bx_world_machines.specs.Doubts.{AreInDoubt, IsUsed}
 use Rattle.bx_world_machines.specs.Machines.{greater, is_up, up_without}
@@ -43,7 +43,7 @@ use Rattle.bx_world_machines.specs.Standing.{AreClocks, AreNodes, AreReady, IsRe
 use Rattle.bx_world_machines.specs.declared.machines.Machines.{Machines}
 use Rattle.bx_world_machines.proofs.Answering.{answered_low, numbers_then}
 use Rattle.bx_world_machines.proofs.Acts.{may_with, opens_with}
-use Rattle.bx_world_machines.proofs.Doubts.{WereOpen, goes_none, in_doubt_with, open_before}
+use Rattle.bx_world_machines.proofs.Doubts.{WereOpen, goes_as, goes_none, in_doubt_with, open_before}
 use Rattle.bx_world_machines.proofs.Emptied.{in_doubt_emptied}
 use Rattle.bx_world_machines.proofs.Goes.{goes_on}
 use Rattle.bx_world_machines.proofs.Known.{known_heard}
@@ -104,7 +104,7 @@ module _ {G O S E T : Type 0} (g : register.Ghosts G) (o : owners.Ghosts O) (st 
     -- it went on, told what a recovery found, and answered calls
     pub stands_heard : AreReady g o st e old → (at : Actor) (letters letters_then : List Letter) (x y : Disks) (tree : T) (turn : Turn) → Answered (reading_in input) at old.nodes.machines.items new.nodes.machines.items turn.said.items → (standing : Standing g o st e old letters x tree)
         → standing.clocks.down at ≡ false → ((n : ℕ) → OfNode new.nodes n AreApart)
-        → (known : GlobalState) → (heard : Hears known (λ later. TurnedUnder (λ session. AtNode at (λ node. IsUsed o new.nodes node session)) (MightNot at old.nodes.machines.items) (e.step old.nodes.engine) (Stand g o st e new.nodes y letters_then (with_reading standing.clocks input)) later tree turn) standing.course) → WereOpen standing.course heard.later
+        → (known : GlobalState) → (heard : Hears known (λ later. TurnedUnder (λ session. AtNode at (λ node. IsUsed o new.nodes node session)) (WasSent at old.nodes.machines.items new.nodes.machines.items turn.said.items) (e.step old.nodes.engine) (Stand g o st e new.nodes y letters_then (with_reading standing.clocks input)) later tree turn) standing.course) → WereOpen standing.course heard.later
         → new.state ≡ last heard.stands.turned.later.register.chain → StandsTurned g o st e (λ number. AtNode at (λ node. MayActAt old.nodes.machines.items node number)) old.nodes.engine standing.course tree turn new letters_then y
     stands_heard ready at letters letters_then x y tree turn answers standing is_up_then apart known heard before state =
         let on = goes_on g o st e (e.step old.nodes.engine) new.nodes y letters_then (with_reading standing.clocks input) old.latest at old.nodes.machines.items turn standing.course heard.later tree before heard.logs standing.doubts
@@ -135,11 +135,11 @@ module _ {G O S E T : Type 0} (g : register.Ghosts G) (o : owners.Ghosts O) (st 
     pub stands_learnt : AreReady g o st e old → (at : Actor) (letters letters_then : List Letter) (x y : Disks) (tree : T) (turn : Turn) → Answered (reading_in input) at old.nodes.machines.items new.nodes.machines.items turn.said.items → (standing : Standing g o st e old letters x tree)
         → standing.clocks.down at ≡ false → ((n : ℕ) → OfNode new.nodes n AreApart) → IsAllowed (last standing.course.register.chain)
         → ((past : RegisterPast) → g.keeps new.nodes.register y past → IsPlace past.chain (g.knows new.nodes.register at)) → new.state ≡ greater old.state (g.knows new.nodes.register at)
-        → Hears (g.knows new.nodes.register at) (λ later. TurnedUnder (λ session. AtNode at (λ node. IsUsed o new.nodes node session)) (MightNot at old.nodes.machines.items) (e.step old.nodes.engine) (Stand g o st e new.nodes y letters_then (with_reading standing.clocks input)) later tree turn) standing.course
+        → Hears (g.knows new.nodes.register at) (λ later. TurnedUnder (λ session. AtNode at (λ node. IsUsed o new.nodes node session)) (WasSent at old.nodes.machines.items new.nodes.machines.items turn.said.items) (e.step old.nodes.engine) (Stand g o st e new.nodes y letters_then (with_reading standing.clocks input)) later tree turn) standing.course
         → StandsTurned g o st e (λ number. AtNode at (λ node. MayActAt old.nodes.machines.items node number)) old.nodes.engine standing.course tree turn new letters_then y
     stands_learnt ready at letters letters_then x y tree turn answers standing is_up_then apart allowed places is heard =
         stands_heard ready at letters letters_then x y tree turn answers standing is_up_then apart (g.knows new.nodes.register at) heard (open_before standing.course heard.later allowed standing.stands.at.doubted heard.works heard.grows)
-        (is ∙ known_heard old.state (g.knows new.nodes.register at) (λ later. TurnedUnder (λ session. AtNode at (λ node. IsUsed o new.nodes node session)) (MightNot at old.nodes.machines.items) (e.step old.nodes.engine) (Stand g o st e new.nodes y letters_then (with_reading standing.clocks input)) later tree turn) standing.course heard heard.stands.turned.later.register.chain
+        (is ∙ known_heard old.state (g.knows new.nodes.register at) (λ later. TurnedUnder (λ session. AtNode at (λ node. IsUsed o new.nodes node session)) (WasSent at old.nodes.machines.items new.nodes.machines.items turn.said.items) (e.step old.nodes.engine) (Stand g o st e new.nodes y letters_then (with_reading standing.clocks input)) later tree turn) standing.course heard heard.stands.turned.later.register.chain
         heard.stands.turned.chain standing.known (places heard.stands.turned.later.register heard.stands.turned.stands.at.parts.register_keeps))
 
   module _ (at : Actor) (up : new.up.items ≡ up_without at old.up.items) (empties : Empties at old.nodes.machines.items new.nodes.machines.items) where
@@ -156,7 +156,7 @@ module _ {G O S E T : Type 0} (g : register.Ghosts G) (o : owners.Ghosts O) (st 
     -- it stopped
     pub stands_stopped : (letters : List Letter) (x y : Disks) (tree : T) → (standing : Standing g o st e old letters x tree)
         → (known : GlobalState) → (heard : Hears known (λ later. Stand g o st e new.nodes y letters (with_down (with_reading standing.clocks input) at) later tree) standing.course) → WereOpen standing.course heard.later → new.state ≡ last heard.later.register.chain
-        → StandsBehind g o st e standing.course None [] new letters y tree
+        → StandsBehind g o st e (λ number. ⊥) standing.course None [] new letters y tree
     stands_stopped letters x y tree standing known heard before state = record {
       stands = record {
         clocks = with_down (with_reading standing.clocks input) at;
@@ -173,7 +173,7 @@ module _ {G O S E T : Type 0} (g : register.Ghosts G) (o : owners.Ghosts O) (st 
 
     pub stopped_learnt : (letters : List Letter) (x y : Disks) (tree : T) → (standing : Standing g o st e old letters x tree)
         → IsAllowed (last standing.course.register.chain) → ((past : RegisterPast) → g.keeps new.nodes.register y past → IsPlace past.chain (g.knows new.nodes.register at)) → new.state ≡ greater old.state (g.knows new.nodes.register at)
-        → Hears (g.knows new.nodes.register at) (λ later. Stand g o st e new.nodes y letters (with_down (with_reading standing.clocks input) at) later tree) standing.course → StandsBehind g o st e standing.course None [] new letters y tree
+        → Hears (g.knows new.nodes.register at) (λ later. Stand g o st e new.nodes y letters (with_down (with_reading standing.clocks input) at) later tree) standing.course → StandsBehind g o st e (λ number. ⊥) standing.course None [] new letters y tree
     stopped_learnt letters x y tree standing allowed places is heard =
         stands_stopped letters x y tree standing (g.knows new.nodes.register at) heard (open_before standing.course heard.later allowed standing.stands.at.doubted heard.works heard.grows)
         (is ∙ known_heard old.state (g.knows new.nodes.register at) (λ later. Stand g o st e new.nodes y letters (with_down (with_reading standing.clocks input) at) later tree) standing.course heard heard.later.register.chain refl standing.known
@@ -235,7 +235,7 @@ module _ {G O S E T : Type 0} (g : register.Ghosts G) (o : owners.Ghosts O) (st 
   module _ (boots : new.boots ≡ old.boots) (same_count : new.count ≡ old.count) (devices : new.devices ≡ old.devices) (up : new.up.items ≡ old.up.items) (latest : new.latest ≡ call.number) (clock : new.clock ≡ max old.clock reading) where
     pub stands_called : (letters letters_then : List Letter) (x : Disks) (tree : T) (turn : Turn) → Answered (Some reading) (Node node) middle.machines.items new.nodes.machines.items turn.said.items → new.state ≡ old.state → (standing : Standing g o st e old letters x tree)
         → standing.clocks.down (Node node) ≡ false → ((n : ℕ) → OfNode new.nodes n AreApart)
-        → TurnedUnder (IsUsed o new.nodes node) (MightNot (Node node) middle.machines.items) (e.step old.nodes.engine) (Stand g o st e new.nodes x letters_then (with_reading standing.clocks (Tick reading))) standing.course tree turn → StandsTurned g o st e (MayActWith call node old.nodes.machines.items) old.nodes.engine standing.course tree turn new letters_then x
+        → TurnedUnder (IsUsed o new.nodes node) (WasSent (Node node) middle.machines.items new.nodes.machines.items turn.said.items) (e.step old.nodes.engine) (Stand g o st e new.nodes x letters_then (with_reading standing.clocks (Tick reading))) standing.course tree turn → StandsTurned g o st e (MayActWith call node old.nodes.machines.items) old.nodes.engine standing.course tree turn new letters_then x
     stands_called letters letters_then x tree turn answers state standing is_up_then apart under =
         let on = goes_on g o st e (e.step old.nodes.engine) new.nodes x letters_then (with_reading standing.clocks (Tick reading)) call.number (Node node) middle.machines.items turn standing.course standing.course tree
         (λ session doubt deed is. is) refl (in_doubt_with old.latest call.number old.nodes.machines.items middle.machines.items standing.course later comes_to.to_act comes_to.opening standing.doubts)
@@ -263,7 +263,7 @@ module _ {G O S E T : Type 0} (g : register.Ghosts G) (o : owners.Ghosts O) (st 
               doubts = subst (λ (n : ℕ). AreInDoubt n new.nodes.machines.items under.turned.later) (sym latest) on.in_doubt;
               known = state ∙ standing.known ∙ ap (λ (chain : Chain). last chain) (sym under.turned.chain);
             };
-            goes = on.goes;
+            goes = goes_as (MayActAt middle.machines.items node) (MayActWith call node old.nodes.machines.items) on.found turn.said.items new.nodes.machines.items standing.course under.turned.later (comes_to.to_act node) on.goes;
           };
         }
 
@@ -306,7 +306,7 @@ module _ {G O S E T : Type 0} (g : register.Ghosts G) (o : owners.Ghosts O) (st 
   }
 
   pub stands_turned : (letters letters_then : List Letter) (x : Disks) (tree : T) → new.state ≡ old.state → (standing : Standing g o st e old letters x tree) → standing.clocks.down (Node node) ≡ false → ((n : ℕ) → OfNode new.nodes n AreApart)
-      → TurnedUnder (IsUsed o new.nodes node) (MightNot (Node node) old.nodes.machines.items) (e.step old.nodes.engine) (Stand g o st e new.nodes x letters_then (with_reading standing.clocks (Tick reading))) standing.course tree turn
+      → TurnedUnder (IsUsed o new.nodes node) (WasSent (Node node) old.nodes.machines.items new.nodes.machines.items turn.said.items) (e.step old.nodes.engine) (Stand g o st e new.nodes x letters_then (with_reading standing.clocks (Tick reading))) standing.course tree turn
       → StandsTurned g o st e (λ number. MayActAt old.nodes.machines.items node number) old.nodes.engine standing.course tree turn new letters_then x
   stands_turned letters letters_then x tree state standing is_up_then apart under =
       stands_heard g o st e old new (Tick reading) boots count devices latest clock up ready (Node node) letters letters_then x x tree turn answers standing is_up_then apart old.state

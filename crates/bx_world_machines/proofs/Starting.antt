@@ -85,7 +85,7 @@ module _ {G O S E T : Type 0} (g : register.Ghosts G) (o : owners.Ghosts O) (st 
   -- it is up
   module _ (up : new.up.items ≡ old.up.items ++ who ∷ []) where
     pub stands_started : (letters letters_then : List Letter) (x y : Disks) (tree : T) → (standing : Standing g o st e old letters x tree)
-        → Starts (λ later. Stand g o st e new.nodes y letters_then (with_boot standing.clocks who (old.boots + 1) reading) later tree) standing.course → StandsBehind g o st e standing.course None [] new letters_then y tree
+        → Starts (λ later. Stand g o st e new.nodes y letters_then (with_boot standing.clocks who (old.boots + 1) reading) later tree) standing.course → StandsBehind g o st e (λ number. ⊥) standing.course None [] new letters_then y tree
     stands_started letters letters_then x y tree standing starts = record {
       stands = record {
         clocks = with_boot standing.clocks who (old.boots + 1) reading;
@@ -124,7 +124,7 @@ module _ {G O S E T : Type 0} (g : register.Ghosts G) (o : owners.Ghosts O) (st 
   -- it is down still
   module _ (up : new.up.items ≡ old.up.items) where
     pub stands_down : (letters : List Letter) (x y : Disks) (tree : T) → (standing : Standing g o st e old letters x tree)
-        → Starts (λ later. Stand g o st e new.nodes y letters (with_try standing.clocks (old.boots + 1) reading) later tree) standing.course → StandsBehind g o st e standing.course None [] new letters y tree
+        → Starts (λ later. Stand g o st e new.nodes y letters (with_try standing.clocks (old.boots + 1) reading) later tree) standing.course → StandsBehind g o st e (λ number. ⊥) standing.course None [] new letters y tree
     stands_down letters x y tree standing starts = record {
       stands = record {
         clocks = with_try standing.clocks (old.boots + 1) reading;

@@ -6,6 +6,7 @@ use Rattle.bx_facts.specs.declared.input.Input.{Input}
 use Rattle.bx_facts.specs.declared.input.Input.TheVariants.{Packet, Tick, Synced}
 use Rattle.bx_node_calls.specs.Turns.{acting_at}
 use Rattle.bx_node_calls.specs.Waits.{Waits}
+use Rattle.bx_node_calls.specs.bx_nodes.specs.declared.turns.Turn.{Turn}
 use Rattle.bx_node_steps.specs.Calls.{Acting, AreToOthers, CallOf, IsAnswered, acting_said, call_of}
 use Rattle.bx_node_steps.specs.declared.machine.Machine.{Machine}
 use Rattle.bx_node_tries.specs.Tries.{IsAnswerTo}
@@ -26,9 +27,14 @@ AtNode (Replica n) Says = ⊥
 AtNode (Server n) Says = ⊥
 AtNode (Member n) Says = ⊥
 
--- the call with a number may not act at it
-abbrev pub MightNot : Actor → List Machine → ℕ → Type 0
-MightNot at machines number = AtNode at (λ node. MayActAt machines node number) → ⊥
+-- a node had a turn; or nothing is told
+abbrev pub IsByNode : Actor → Turn → Type 0
+IsByNode at turn = AtNode at (λ node. Unit {0}) ⊎ (turn.told ≡ [])
+
+-- The call with a number is answered at a machine, or the gate of its record may be sent there then, though it might not act before.
+pub record WasSent (at : Actor) (old new : List Machine) (said : List Said) (number : ℕ) : Type 0 where
+  pub might_not : AtNode at (λ node. MayActAt old node number) → ⊥
+  pub touched : IsAnswered said number ⊎ AtNode at (λ node. OpensAt new node number)
 
 -- a call with this number may act at a node yet, where this one comes to it: it might before, or is the one
 abbrev pub MayActWith : Waiting → ℕ → List Machine → ℕ → Type 0

@@ -78,10 +78,10 @@ module _ {G O S E T : Type 0} (g : register.Ghosts G) (o : owners.Ghosts O) (st 
   abbrev pub StandsBy : Course → Machines G O S E T → List Letter → Disks → T → Type 0
   StandsBy c machines letters x tree = (standing : Standing machines letters x tree) × (standing.course ≡ c)
 
-  -- They stand behind a course, by one that goes on from it, where a call was found, or none, and these calls are answered.
-  pub record StandsBehind (c : Course) (found : Option Point) (said : List Said) (machines : Machines G O S E T) (letters : List Letter) (x : Disks) (tree : T) : Type 0 where
+  -- They stand behind a course, by one that goes on from it, where a call was found, or none, and these calls are answered. (`MayAct` says which calls might act.)
+  pub record StandsBehind (MayAct : ℕ → Type 0) (c : Course) (found : Option Point) (said : List Said) (machines : Machines G O S E T) (letters : List Letter) (x : Disks) (tree : T) : Type 0 where
     pub stands : Standing machines letters x tree
-    pub goes : DoubtsGo found said machines.nodes.machines.items c stands.course
+    pub goes : DoubtsGo MayAct found said machines.nodes.machines.items c stands.course
 
   -- Behind a turn of a node, or what is none: what is told leads to a tree, and the answers from there to one for which they stand. (`MayAct` says which calls might be answered.)
   pub record StandsTurned (MayAct : ℕ → Type 0) (engine_is : E) (c : Course) (tree : T) (turn : Turn) (machines : Machines G O S E T) (letters : List Letter) (x : Disks) : Type 0 where
@@ -91,4 +91,4 @@ module _ {G O S E T : Type 0} (g : register.Ghosts G) (o : owners.Ghosts O) (st 
     pub finds : Finds (e.step engine_is) c tree turn.told found between
     pub leads : LeadsBack (e.step engine_is) between (reverse turn.said.items) next
     pub answers : AnswersThose MayAct found turn.said.items c
-    pub stands : StandsBehind c found turn.said.items machines letters x next
+    pub stands : StandsBehind MayAct c found turn.said.items machines letters x next

@@ -17,7 +17,7 @@ ghost use Rattle.bx_node_calls.specs.bx_nodes.specs.Turns.{TurnedUnder};
 ghost use Rattle.bx_node_calls.specs.bx_nodes.specs.bx_world_volumes.specs.Left.{MayShow};
 ghost use Rattle.bx_post.specs.declared.packets.Letter.{Letter};
 ghost use Rattle.bx_world_machines.specs.Acts.{MayActAt};
-ghost use Rattle.bx_world_machines.specs.Answering.{Answered, AtNode, MightNot, reading_in};
+ghost use Rattle.bx_world_machines.specs.Answering.{Answered, AtNode, IsByNode, WasSent, reading_in};
 ghost use Rattle.bx_world_machines.specs.Doubts.{IsUsed};
 ghost use Rattle.bx_world_machines.specs.Machines.{greater, is_up, up_without};
 ghost use Rattle.bx_world_machines.specs.Standing.{AreNodes, IsReady, Standing, StandsBehind, StandsBy, StandsTurned};
@@ -51,10 +51,11 @@ impl<G: Register, O: Owners, S: Store, E: Engine> Machines<G, O, S, E> {
         ensures stands { (letters : List Letter) (tree : E.Tree) (c : Course) → R.tells rack.old → IsComing (letters ++ out.old) input.now → StandsBy G.Register O.Owners S.Store E.Engine c self.old (letters ++ out.old) (R.state rack.old) tree
             → IfOk result (λ turn. StandsTurned G.Register O.Owners S.Store E.Engine (λ number. AtNode at (λ node. MayActAt self.old.nodes.machines.items node number)) self.old.nodes.engine c tree turn self.new (letters ++ out.new) (R.state rack.new)) }
         ensures stopped { (letters : List Letter) (tree : E.Tree) (c : Course) → R.tells rack.old → IsComing (letters ++ out.old) input.now → StandsBy G.Register O.Owners S.Store E.Engine c self.old (letters ++ out.old) (R.state rack.old) tree
-            → IsErrOf result DiskFails → StandsBehind G.Register O.Owners S.Store E.Engine c None [] self.new (letters ++ out.old) (R.state rack.new) tree }
+            → IsErrOf result DiskFails → StandsBehind G.Register O.Owners S.Store E.Engine (λ number. ⊥) c None [] self.new (letters ++ out.old) (R.state rack.new) tree }
         ensures any_moment { (letters : List Letter) (tree : E.Tree) → R.tells rack.old → IsComing (letters ++ out.old) input.now → (standing : Standing G.Register O.Owners S.Store E.Engine self.old (letters ++ out.old) (R.state rack.old) tree)
             → LeavesOnly (R.moment rack.old) (R.moment rack.new) (R.left_since rack.old) (R.left_since rack.new) (MayShow (G.reads_as (G.made self.old.nodes.register) (R.state rack.old).sizes) (S.made self.old.nodes.store) (R.state rack.old).sizes standing.course) }
         ensures ready { (sizes : List ℕ) → IsReady G.Register O.Owners S.Store E.Engine self.old sizes → (IsErrOf result MemoryFails → ⊥) → IsReady G.Register O.Owners S.Store E.Engine self.new sizes }
+        ensures told { IfOk result (λ turn. IsByNode at turn) }
         ensures answers { IfOk result (λ turn. Answered (reading_in input.now) at self.old.nodes.machines.items self.new.nodes.machines.items turn.said.items) }
         ensures empties { IsErrOf result DiskFails → Empties at self.old.nodes.machines.items self.new.nodes.machines.items }
         ensures up { OnOk result (self.new.up.items ≡ self.old.up.items) }
@@ -116,13 +117,14 @@ fn hear<G: Register, O: Owners, S: Store, E: Engine, R: Rack>(
     requires time { IsTime (reading_in input.now) }
     ensures stands { (letters : List Letter) (clocks : Clocks) (c : Course) (tree : E.Tree) → R.tells rack.old → clocks.down at ≡ false → IsSteady clocks.greatest input.now → IsComing (letters ++ out.old) input.now
         → Stand G.Register O.Owners S.Store E.Engine nodes.old (R.state rack.old) (letters ++ out.old) clocks c tree
-        → IfOk result (λ turn. Hears (G.knows nodes.new.register at) (λ later. TurnedUnder (λ session. AtNode at (λ node. IsUsed O.Owners nodes.new node session)) (MightNot at nodes.old.machines.items) (E.step nodes.old.engine) (Stand G.Register O.Owners S.Store E.Engine nodes.new (R.state rack.new) (letters ++ out.new) (with_reading clocks input.now)) later tree turn) c) }
+        → IfOk result (λ turn. Hears (G.knows nodes.new.register at) (λ later. TurnedUnder (λ session. AtNode at (λ node. IsUsed O.Owners nodes.new node session)) (WasSent at nodes.old.machines.items nodes.new.machines.items turn.said.items) (E.step nodes.old.engine) (Stand G.Register O.Owners S.Store E.Engine nodes.new (R.state rack.new) (letters ++ out.new) (with_reading clocks input.now)) later tree turn) c) }
     ensures stopped { (letters : List Letter) (clocks : Clocks) (c : Course) (tree : E.Tree) → R.tells rack.old → clocks.down at ≡ false → IsSteady clocks.greatest input.now → IsComing (letters ++ out.old) input.now
         → Stand G.Register O.Owners S.Store E.Engine nodes.old (R.state rack.old) (letters ++ out.old) clocks c tree
         → IsErrOf result DiskFails → Hears (G.knows nodes.new.register at) (λ later. Stand G.Register O.Owners S.Store E.Engine nodes.new (R.state rack.new) (letters ++ out.old) (with_down (with_reading clocks input.now) at) later tree) c }
     ensures any_moment { (letters : List Letter) (clocks : Clocks) (c : Course) (tree : E.Tree) → R.tells rack.old → clocks.down at ≡ false → IsSteady clocks.greatest input.now → IsComing (letters ++ out.old) input.now
         → Stand G.Register O.Owners S.Store E.Engine nodes.old (R.state rack.old) (letters ++ out.old) clocks c tree
         → LeavesOnly (R.moment rack.old) (R.moment rack.new) (R.left_since rack.old) (R.left_since rack.new) (MayShow (G.reads_as (G.made nodes.old.register) (R.state rack.old).sizes) (S.made nodes.old.store) (R.state rack.old).sizes c) }
+    ensures told { IfOk result (λ turn. IsByNode at turn) }
     ensures answers { (latest : ℕ) → AreNumbered latest nodes.old.machines.items → IfOk result (λ turn. Answered (reading_in input.now) at nodes.old.machines.items nodes.new.machines.items turn.said.items) }
     ensures empties { IsErrOf result DiskFails → Empties at nodes.old.machines.items nodes.new.machines.items }
     ensures nodes { (IsErrOf result MemoryFails → ⊥) → AreNodes G.Register O.Owners S.Store E.Engine nodes.new }

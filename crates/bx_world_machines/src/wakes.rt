@@ -9,7 +9,7 @@ ghost use Rattle.bx_node_calls.specs.Waits.{AreNumbered};
 ghost use Rattle.bx_node_calls.specs.bx_nodes.specs.Standing.{Stand};
 ghost use Rattle.bx_node_calls.specs.bx_nodes.specs.Turns.{TurnedUnder};
 ghost use Rattle.bx_post.specs.declared.packets.Letter.{Letter};
-ghost use Rattle.bx_world_machines.specs.Answering.{Answered, MightNot, reading_in};
+ghost use Rattle.bx_world_machines.specs.Answering.{Answered, WasSent, reading_in};
 ghost use Rattle.bx_world_machines.specs.Doubts.{IsUsed};
 ghost use Rattle.bx_world_machines.specs.Standing.{AreNodes};
 ghost use Rattle.bx_world_standing.specs.Parts.{Clocks};
@@ -35,7 +35,7 @@ pub(crate) fn wake<G: Register, O: Owners, S: Store, E: Engine>(
     requires time { IsTime (reading_in input.now) }
     ensures stands { (x : Disks) (letters : List Letter) (clocks : Clocks) (c : Course) (tree : E.Tree) → clocks.down (Node node) ≡ false → IsSteady clocks.greatest input.now
         → Stand G.Register O.Owners S.Store E.Engine nodes.old x (letters ++ out.old) clocks c tree
-        → IfOk result (λ turn. TurnedUnder (IsUsed O.Owners nodes.new node) (MightNot (Node node) nodes.old.machines.items) (E.step nodes.old.engine) (Stand G.Register O.Owners S.Store E.Engine nodes.new x (letters ++ out.new) clocks) c tree turn) }
+        → IfOk result (λ turn. TurnedUnder (IsUsed O.Owners nodes.new node) (WasSent (Node node) nodes.old.machines.items nodes.new.machines.items turn.said.items) (E.step nodes.old.engine) (Stand G.Register O.Owners S.Store E.Engine nodes.new x (letters ++ out.new) clocks) c tree turn) }
     ensures answers { (latest : ℕ) → AreNumbered latest nodes.old.machines.items → IfOk result (λ turn. Answered (reading_in input.now) (Node node) nodes.old.machines.items nodes.new.machines.items turn.said.items) }
     ensures nodes { OnOk result (AreNodes G.Register O.Owners S.Store E.Engine nodes.new) }
     ensures parts { (nodes.new.register ≡ nodes.old.register) × (nodes.new.engine ≡ nodes.old.engine) × (S.made nodes.new.store ≡ S.made nodes.old.store) }
@@ -61,7 +61,7 @@ fn tick<G: Register, O: Owners, S: Store, E: Engine>(
     requires time { reading ≤ 4294967295999 }
     ensures stands { (x : Disks) (letters : List Letter) (clocks : Clocks) (c : Course) (tree : E.Tree) → clocks.down (Node node) ≡ false → clocks.greatest ≤ reading + 500
         → Stand G.Register O.Owners S.Store E.Engine nodes.old x (letters ++ out.old) clocks c tree
-        → IfOk result (λ turn. TurnedUnder (IsUsed O.Owners nodes.new node) (MightNot (Node node) nodes.old.machines.items) (E.step nodes.old.engine) (Stand G.Register O.Owners S.Store E.Engine nodes.new x (letters ++ out.new) clocks) c tree turn) }
+        → IfOk result (λ turn. TurnedUnder (IsUsed O.Owners nodes.new node) (WasSent (Node node) nodes.old.machines.items nodes.new.machines.items turn.said.items) (E.step nodes.old.engine) (Stand G.Register O.Owners S.Store E.Engine nodes.new x (letters ++ out.new) clocks) c tree turn) }
     ensures answers { (latest : ℕ) → AreNumbered latest nodes.old.machines.items → IfOk result (λ turn. Answered (Some reading) (Node node) nodes.old.machines.items nodes.new.machines.items turn.said.items) }
     ensures nodes { OnOk result (AreNodes G.Register O.Owners S.Store E.Engine nodes.new) }
     ensures parts { (nodes.new.register ≡ nodes.old.register) × (nodes.new.engine ≡ nodes.old.engine) × (S.made nodes.new.store ≡ S.made nodes.old.store) }
@@ -83,7 +83,7 @@ pub(crate) fn renew_and_turn<G: Register, O: Owners, S: Store, E: Engine>(
     requires time { reading ≤ 4294967295999 }
     ensures stands { (x : Disks) (letters : List Letter) (clocks : Clocks) (c : Course) (tree : E.Tree) → clocks.down (Node node) ≡ false → clocks.greatest ≤ reading + 500
         → Stand G.Register O.Owners S.Store E.Engine nodes.old x (letters ++ out.old) clocks c tree
-        → IfOk result (λ turn. TurnedUnder (IsUsed O.Owners nodes.new node) (MightNot (Node node) nodes.old.machines.items) (E.step nodes.old.engine) (Stand G.Register O.Owners S.Store E.Engine nodes.new x (letters ++ out.new) clocks) c tree turn) }
+        → IfOk result (λ turn. TurnedUnder (IsUsed O.Owners nodes.new node) (WasSent (Node node) nodes.old.machines.items nodes.new.machines.items turn.said.items) (E.step nodes.old.engine) (Stand G.Register O.Owners S.Store E.Engine nodes.new x (letters ++ out.new) clocks) c tree turn) }
     ensures answers { (latest : ℕ) → AreNumbered latest nodes.old.machines.items → IfOk result (λ turn. Answered (Some reading) (Node node) nodes.old.machines.items nodes.new.machines.items turn.said.items) }
     ensures nodes { OnOk result (AreNodes G.Register O.Owners S.Store E.Engine nodes.new) }
     ensures parts { (nodes.new.register ≡ nodes.old.register) × (nodes.new.engine ≡ nodes.old.engine) × (S.made nodes.new.store ≡ S.made nodes.old.store) }
@@ -105,7 +105,7 @@ fn turn<G: Register, O: Owners, S: Store, E: Engine>(
     requires time { reading ≤ 4294967295999 }
     ensures stands { (x : Disks) (letters : List Letter) (clocks : Clocks) (c : Course) (tree : E.Tree) → clocks.down (Node node) ≡ false → clocks.greatest ≤ reading + 500
         → Stand G.Register O.Owners S.Store E.Engine nodes.old x (letters ++ out.old) clocks c tree
-        → IfOk result (λ turn. TurnedUnder (IsUsed O.Owners nodes.new node) (MightNot (Node node) nodes.old.machines.items) (E.step nodes.old.engine) (Stand G.Register O.Owners S.Store E.Engine nodes.new x (letters ++ out.new) clocks) c tree turn) }
+        → IfOk result (λ turn. TurnedUnder (IsUsed O.Owners nodes.new node) (WasSent (Node node) nodes.old.machines.items nodes.new.machines.items turn.said.items) (E.step nodes.old.engine) (Stand G.Register O.Owners S.Store E.Engine nodes.new x (letters ++ out.new) clocks) c tree turn) }
     ensures answers { (latest : ℕ) → AreNumbered latest nodes.old.machines.items → IfOk result (λ turn. Answered (Some reading) (Node node) nodes.old.machines.items nodes.new.machines.items turn.said.items) }
     ensures nodes { OnOk result (AreNodes G.Register O.Owners S.Store E.Engine nodes.new) }
     ensures parts { (nodes.new.register ≡ nodes.old.register) × (nodes.new.engine ≡ nodes.old.engine) × (S.made nodes.new.store ≡ S.made nodes.old.store) }

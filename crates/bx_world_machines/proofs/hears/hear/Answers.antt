@@ -17,7 +17,7 @@ returns-in_ok-wake-in-Node-clause-stands g c = λ letters clocks course tree tel
     let input = c.args.input.now in
     let turned = c.in_ok-wake-in-Node.ensures.stands (g.R.Rack.state c.take.new.rack) letters (with_reading clocks input) heard.later tree (subst (λ who. clocks.down who ≡ false) c.in-Node.is up) (steady_then clocks.greatest input steady) heard.stands in
     let known = ap (λ (r : _). g.G.Register.knows r c.args.at) c.in_ok-wake-in-Node.ensures.parts.0 in
-    record { later = heard.later; grows = heard.grows; told = ⊎_elim (λ same. inl same) (λ is. inr (known ∙ is)) heard.told; logs = heard.logs; works = heard.works; stands = rw (sym c.take.ensures.engine) (whole_as _ _ _ _ _ _ _ heard.later tree _ (λ session used. rw c.in-Node.is used) (λ number might answered may. might (rw c.in-Node.is (subst (λ (m : _). MayActAt m.items c.in-Node.node number) (c.in_ok-take.ensures.machines (λ fault. absurd cc)) may))) (λ later next stood. stood) turned) }
+    record { later = heard.later; grows = heard.grows; told = ⊎_elim (λ same. inl same) (λ is. inr (known ∙ is)) heard.told; logs = heard.logs; works = heard.works; stands = rw (sym c.take.ensures.engine) (whole_as _ _ _ _ _ _ _ heard.later tree _ (λ session used. rw c.in-Node.is used) (λ number was. record { might_not = λ may. was.might_not (rw c.in-Node.is (subst (λ (m : _). MayActAt m.items c.in-Node.node number) (c.in_ok-take.ensures.machines (λ fault. absurd cc)) may)); touched = rw c.in-Node.is at was.touched }) (λ later next stood. stood) turned) }
 
 pub returns-in-Replica-clause-stands : goal.returns-in-Replica-clause-stands
 returns-in-Replica-clause-stands g c = λ letters clocks course tree tells up steady comes stands.

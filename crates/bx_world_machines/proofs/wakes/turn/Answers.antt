@@ -6,9 +6,9 @@ use Rattle.bx_node_calls.proofs.Turning.{turn_of}
 use Rattle.bx_node_calls.specs.bx_nodes.proofs.Leading.{whole_as}
 use Rattle.bx_node_calls.specs.bx_nodes.proofs.Machines.{both_ok, there_is}
 use Rattle.bx_node_calls.specs.bx_nodes.specs.Standing.{IsUnderOwn, OpensThere, Stand}
-use Rattle.bx_world_machines.specs.Answering.{MightNot}
+use Rattle.bx_world_machines.specs.Answering.{WasSent}
 use Rattle.bx_world_machines.specs.Doubts.{IsUsed}
-use Rattle.bx_world_machines.proofs.Used.{opens_there, used_then}
+use Rattle.bx_world_machines.proofs.Used.{used_then, was_sent}
 use Rattle.bx_world_machines.proofs.Answering.{turn_answers}
 use Rattle.bx_world_machines.proofs.Nodes.{nodes_turned}
 use Rattle.bx_world_machines.proofs.wakes.turn.Goals as goal
@@ -20,9 +20,9 @@ returns-clause-stands g c = λ x letters clocks course tree up steady stands.
     let new = c.turn.new.self in
     let Stands = Stand g.G.Register g.O.Owners g.S.Store g.E.Engine new x (letters ++ c.turn.new.out) clocks in
     if_ok_with _ _ _ c.turn.result
-    (λ turn both session. whole_as (IsUnderOwn g.O.Owners old c.args.node) (IsUsed g.O.Owners new c.args.node) (OpensThere old c.args.node) (MightNot (Node c.args.node) old.machines.items) (g.E.Engine.step old.engine) Stands Stands course tree turn
+    (λ turn both session. whole_as (IsUnderOwn g.O.Owners old c.args.node) (IsUsed g.O.Owners new c.args.node) (OpensThere old c.args.node) (WasSent (Node c.args.node) old.machines.items new.machines.items turn.said.items) (g.E.Engine.step old.engine) Stands Stands course tree turn
     (λ one is. used_then g.O.Owners c.args.node old new c.requires.there said.count session (said.own c.args.node).0 one is)
-    (opens_there c.args.reading c.args.node old new turn.said.items c.requires.there said.count both.1 (c.requires.nodes.apart c.args.node)) (λ later next stood. stood) both.0)
+    (was_sent c.args.reading c.args.node old new turn.said.items c.requires.there said.count both.1 (c.requires.nodes.apart c.args.node)) (λ later next stood. stood) both.0)
     (if_ok_and _ _ c.turn.result (said.stands x letters clocks course tree up steady stands) said.answers) said.session
 
 pub returns-clause-answers : goal.returns-clause-answers

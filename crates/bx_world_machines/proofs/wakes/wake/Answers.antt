@@ -4,7 +4,7 @@ use Rattle.bx_facts.specs.Inputs.{IsSteady}
 use Rattle.bx_node_calls.proofs.Coming.{numbered_on}
 use Rattle.bx_node_calls.specs.bx_nodes.proofs.Leading.{whole_as, whole_none}
 use Rattle.bx_node_calls.specs.bx_nodes.proofs.Machines.{if_ok_so}
-use Rattle.bx_world_machines.specs.Answering.{Answered, MightNot, reading_in}
+use Rattle.bx_world_machines.specs.Answering.{Answered, reading_in}
 use Rattle.bx_world_machines.proofs.Answering.{answered_behind, none_answered, wakes_renewed}
 use Rattle.bx_world_machines.proofs.Nodes.{nodes_renewed}
 use Rattle.bx_world_machines.proofs.wakes.wake.Goals as goal
@@ -16,7 +16,7 @@ returns-in-Packet-clause-stands g c = λ x letters clocks course tree up steady 
     let middle = c.renew.new.self in
     let wakes = wakes_renewed c.args.node old middle c.requires.there said.count said.others _ _ _ said.calls said.renews (c.requires.nodes.apart c.args.node) in
     rw (sym said.parts.3) (if_ok_so _ _ c.turn.result
-    (λ turn under. whole_as _ _ (MightNot (Node c.args.node) middle.machines.items) (MightNot (Node c.args.node) old.machines.items) _ _ _ course tree turn (λ session is. is) (λ number might answered may. might (wakes.acts.to_act c.args.node number may)) (λ later next stood. stood) under)
+    (λ turn under. whole_as _ _ _ _ _ _ _ course tree turn (λ session is. is) (λ number was. record { might_not = λ may. was.might_not (wakes.acts.to_act c.args.node number may); touched = was.touched }) (λ later next stood. stood) under)
     (c.turn.ensures.stands x letters clocks course tree up (subst (λ i. IsSteady clocks.greatest i) c.in-Packet.is steady) (said.stands x _ clocks course tree up stands).0))
 
 pub returns-in-Packet-clause-answers : goal.returns-in-Packet-clause-answers
@@ -37,7 +37,7 @@ returns-in-Tick-clause-stands g c = λ x letters clocks course tree up steady st
     let middle = c.renew.new.self in
     let wakes = wakes_renewed c.args.node old middle c.requires.there said.count said.others _ _ _ said.calls said.renews (c.requires.nodes.apart c.args.node) in
     rw (sym said.parts.3) (if_ok_so _ _ c.tick.result
-    (λ turn under. whole_as _ _ (MightNot (Node c.args.node) middle.machines.items) (MightNot (Node c.args.node) old.machines.items) _ _ _ course tree turn (λ session is. is) (λ number might answered may. might (wakes.acts.to_act c.args.node number may)) (λ later next stood. stood) under)
+    (λ turn under. whole_as _ _ _ _ _ _ _ course tree turn (λ session is. is) (λ number was. record { might_not = λ may. was.might_not (wakes.acts.to_act c.args.node number may); touched = was.touched }) (λ later next stood. stood) under)
     (c.tick.ensures.stands x letters clocks course tree up (subst (λ i. IsSteady clocks.greatest i) c.in-Tick.is steady) (said.stands x _ clocks course tree up stands).0))
 
 pub returns-in-Tick-clause-answers : goal.returns-in-Tick-clause-answers

@@ -36,7 +36,7 @@ returns-in_ok-learn-in-Err-Disk-clause-stopped g c = λ letters tree course tell
     let same = c.in_ok-learn-in-Err-Disk.ensures.same in
     let fails = c.in-Err-Disk.is ∙ ap Err c.in-Err-Disk.field-0-is in
     let heard = c.hear.ensures.stopped letters clocks standing.course tree tells up steady comes (rw c.read_with.ensures standing.stands) fails in
-    subst (λ (k : Course). StandsBehind g.G.Register g.O.Owners g.S.Store g.E.Engine k None [] c.learn-in-Err-Disk.new.self (letters ++ c.args.out.now) (g.R.Rack.state c.hear.new.rack) tree) by_it.1
+    subst (λ (k : Course). StandsBehind g.G.Register g.O.Owners g.S.Store g.E.Engine (λ number. ⊥) k None [] c.learn-in-Err-Disk.new.self (letters ++ c.args.out.now) (g.R.Rack.state c.hear.new.rack) tree) by_it.1
     (stopped_learnt g.G.Register g.O.Owners g.S.Store g.E.Engine old c.learn-in-Err-Disk.new.self c.args.input.now (rw (same, c.read_with.ensures) refl) (rw (same, c.read_with.ensures) refl) (rw (same, c.read_with.ensures) refl) (rw (same, c.read_with.ensures) refl) (rw (same, c.read_with.ensures) refl)
     c.args.at (rw (same, c.leave_out.ensures, c.read_with.ensures) refl) (rw same (rw c.read_with.ensures at (c.hear.ensures.empties fails))) (letters ++ c.args.out.now) (g.R.Rack.state c.args.rack.now) (g.R.Rack.state c.hear.new.rack) tree standing (g.met.G.Register.allowed old.nodes.register (g.R.Rack.state c.args.rack.now) standing.course.register (last standing.course.register.chain) standing.stands.at.parts.register_keeps (last_place standing.course.register.chain)) (λ past keeps. g.met.G.Register.places c.learn-in-Err-Disk.new.self.nodes.register (g.R.Rack.state c.hear.new.rack) past c.args.at keeps) (rw same (rw c.read_with.ensures at c.in_ok-learn-in-Err-Disk.ensures.state)) (rw same heard))
 

@@ -80,6 +80,7 @@ pub left_none : (machines : List Machine) → NoneWaits machines → AreLeft mac
 left_none machines none = record {
   waits = λ node call. (λ w. absurd (none node call w), λ there. absurd there);
   acting = λ node acts is. absurd (none node acts.call (acts_waits (slice_get machines node) acts is));
+  unpointed = λ node number may. refl;
 }
 
 -- ---- what is in doubt

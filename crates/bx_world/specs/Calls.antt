@@ -1,5 +1,6 @@
 -- What comes of a datagram that arrives at a node.
 use Rattle.std.specs.Prelude.{◌≡◌, ◌⊎◌, ℕ, ◌+◌, max, nat_le, true, false, List, length, slice_get, slice_set, None, Some}
+use Rattle.std.specs.FinSet as set
 use Rattle.std.specs.List.{list_any}
 use Rattle.bx_base.specs.declared.names.Actor.TheVariants.{Node}
 use Rattle.bx_cluster.specs.declared.outcome.Outcome.{Outcome}
@@ -8,20 +9,20 @@ use Rattle.bx_desk.specs.declared.desk.Asked.{Asked}
 use Rattle.bx_disk.specs.Disks.{Disks}
 use Rattle.bx_facts.specs.declared.register.Register as register
 use Rattle.bx_facts.specs.declared.store.Store as store
-use Rattle.bx_world_machines.specs.bx_node_calls.specs.Turns.{Rounded}
 use Rattle.bx_node_steps.specs.Calls.{IsAnswered}
-use Rattle.bx_node_tries.specs.declared.round.Said.{Said}
 use Rattle.bx_node_tries.specs.declared.round.Waiting.{Waiting}
 use Rattle.bx_facts.specs.declared.owners.Owners as owners
 use Rattle.bx_replies.specs.Answers.{IsApart, reply_of}
 use Rattle.bx_rpc.specs.Message.{is_message}
 use Rattle.bx_views.specs.declared.engine.Engine as engine
-use Rattle.bx_world.specs.Outcomes.{desks_said, nothing, outcome_said}
-use Rattle.bx_world.specs.World.{StandsBehind, StandsBy}
+use Rattle.bx_world.specs.Outcomes.{desks_said, lacking_behind, nothing, outcome_turned}
+use Rattle.bx_world.specs.World.{StandsBy, StandsTurned}
 use Rattle.bx_world.specs.declared.calls.Heard.{Heard}
 use Rattle.bx_world.specs.declared.calls.Heard.TheVariants.{New, Again, Passed}
 use Rattle.bx_world.specs.declared.world.World.{World}
-use Rattle.bx_world_machines.specs.Answering.{Answered, Called}
+use Rattle.bx_world_machines.specs.Acts.{MayActAt}
+use Rattle.bx_world_machines.specs.Answering.{Answered, Called, MayActWith}
+use Rattle.bx_world_machines.specs.bx_nodes.specs.declared.turns.Turn.{Turn}
 use Rattle.bx_world_standing.specs.Standing.{Course}
 
 -- ---- what it is to the node
@@ -61,15 +62,16 @@ asked_of call = record { call = call.number; client = call.client; bytes = call.
 -- ---- what comes of it
 
 module _ {G O S E T : Type 0} (g : register.Ghosts G) (o : owners.Ghosts O) (st : store.Ghosts S) (e : engine.Ghosts E T) where
-  -- The node had its turn, and answered calls, which are told and which its desk keeps.
+  -- The node had its turn: what it told and answered is told, and its desk keeps the answers.
   pub record Turns (reading node : ℕ) (old new : World G O S E T) (x : Disks) (outcome : Outcome) : Type 0 where
-    pub said : List Said
-    pub outcome_is : outcome ≡ outcome_said (Node node) said
-    pub answers : Answered (Some reading) (Node node) old.machines.nodes.machines.items new.machines.nodes.machines.items said
-    pub desks : new.desks.items ≡ desks_said (Node node) said old.desks.items
+    pub turn : Turn
+    pub outcome_is : outcome ≡ outcome_turned old.lacking (Node node) turn
+    pub answers : Answered (Some reading) (Node node) old.machines.nodes.machines.items new.machines.nodes.machines.items turn.said.items
+    pub desks : new.desks.items ≡ desks_said (Node node) turn.said.items old.desks.items
+    pub lacking : new.lacking ≡ lacking_behind outcome old.lacking
     pub latest : new.machines.latest ≡ old.machines.latest
     pub engine : new.machines.nodes.engine ≡ old.machines.nodes.engine
-    pub leads : (tree : T) (c : Course) → StandsBy g o st e c old x tree → Rounded e old.machines.nodes.engine (StandsBehind g o st e c said new x) tree said
+    pub leads : (tree : T) (c : Course) → StandsBy g o st e c old x tree → StandsTurned g o st e (λ number. MayActAt old.machines.nodes.machines.items node number) old.machines.nodes.engine c tree turn new x
 
   -- A call was taken, with the next number: it waits on the desk, and the node had its turn then, in which it is answered if it touches no block.
   pub record Takes (reading node client : ℕ) (bytes : List ℕ) (old new : World G O S E T) (x : Disks) (outcome : Outcome) : Type 0 where
@@ -79,14 +81,15 @@ module _ {G O S E T : Type 0} (g : register.Ghosts G) (o : owners.Ghosts O) (st 
     pub bytes_are : call.message ≡ bytes
     pub desk : AtDesk
     pub there : slice_get old.desks.items node ≡ Some desk
-    pub said : List Said
-    pub outcome_is : outcome ≡ record (outcome_said (Node node) said) { took = Some call.number }
-    pub answers : Called reading node call old.machines.nodes.machines.items new.machines.nodes.machines.items said
-    pub at_once : e.at_once old.machines.nodes.engine call.message → IsAnswered said call.number
-    pub desks : new.desks.items ≡ desks_said (Node node) said (slice_set old.desks.items node (with_call desk (asked_of call)))
+    pub turn : Turn
+    pub outcome_is : outcome ≡ record (outcome_turned (set.insert old.lacking call.number) (Node node) turn) { took = Some call.number }
+    pub answers : Called reading node call old.machines.nodes.machines.items new.machines.nodes.machines.items turn.said.items
+    pub at_once : e.at_once old.machines.nodes.engine call.message → IsAnswered turn.said.items call.number
+    pub lacking : new.lacking ≡ lacking_behind outcome old.lacking
+    pub desks : new.desks.items ≡ desks_said (Node node) turn.said.items (slice_set old.desks.items node (with_call desk (asked_of call)))
     pub latest : new.machines.latest ≡ call.number
     pub engine : new.machines.nodes.engine ≡ old.machines.nodes.engine
-    pub leads : (tree : T) (c : Course) → StandsBy g o st e c old x tree → Rounded e old.machines.nodes.engine (StandsBehind g o st e c said new x) tree said
+    pub leads : (tree : T) (c : Course) → StandsBy g o st e c old x tree → StandsTurned g o st e (MayActWith call node old.machines.nodes.machines.items) old.machines.nodes.engine c tree turn new x
 
   -- It isn't taken, and nothing is sent again: the node had its turn.
   pub record Passes (reading node client : ℕ) (bytes : List ℕ) (old new : World G O S E T) (x : Disks) (outcome : Outcome) : Type 0 where

@@ -1,5 +1,7 @@
 -- What comes of an event in which calls are answered, or a machine stops.
-use Rattle.std.specs.Prelude.{◌≡◌, ℕ, zero, suc, ◌<◌, List, [], ◌∷◌, ◌++◌, map, slice_get, slice_set, Option, None, Some}
+use Rattle.std.specs.Prelude.{◌≡◌, if◌then◌else◌, ℕ, zero, suc, ◌<◌, List, [], ◌∷◌, ◌++◌, map, slice_get, slice_set, Option, None, Some}
+use Rattle.std.specs.FinSet as set
+use Rattle.std.specs.Ordering.{nat_cmp}
 use Rattle.bx_base.specs.declared.names.Actor.{Actor}
 use Rattle.bx_base.specs.declared.names.Actor.TheVariants.{Node, Replica, Server, Member}
 use Rattle.bx_base.specs.declared.names.Point.{Point}
@@ -8,7 +10,9 @@ use Rattle.bx_cluster.specs.declared.outcome.ReplyOut.{ReplyOut}
 use Rattle.bx_desk.specs.Desks.{AtDesk, answered, empty_desk}
 use Rattle.bx_node_tries.specs.declared.round.Said.{Said}
 use Rattle.bx_post.specs.declared.packets.Letter.{Letter}
-use Rattle.bx_post.specs.Posts.{Posted, fresh}
+use Rattle.bx_post.specs.Posts.{fresh}
+use Rattle.bx_world.specs.declared.world.World.{World}
+use Rattle.bx_world_machines.specs.bx_nodes.specs.declared.turns.Turn.{Turn}
 
 abbrev pub nothing : Outcome
 nothing = record { took = None; points = []; replies = []; again = None; stopped = None }
@@ -23,19 +27,45 @@ point_said said = said.point
 abbrev pub reply_said : ℕ → Said → ReplyOut
 reply_said node said = record { call = said.point.call; node = node; client = said.client; bytes = said.reply }
 
--- only a node answers, one that has a desk
-abbrev pub IsBy : ℕ → Actor → List Said → Type 0
-IsBy desks (Node n) said = n < desks
-IsBy desks (Replica n) said = said ≡ []
-IsBy desks (Server n) said = said ≡ []
-IsBy desks (Member n) said = said ≡ []
+-- nothing is told or answered
+abbrev pub IsQuiet : Turn → Type 0
+IsQuiet turn = (turn.told ≡ []) × (turn.said.items ≡ [])
 
--- what is told of the answers of a machine
-abbrev pub outcome_said : Actor → List Said → Outcome
-outcome_said (Node n) said = record { took = None; points = map point_said said; replies = map (reply_said n) said; again = None; stopped = None }
-outcome_said (Replica n) said = nothing
-outcome_said (Server n) said = nothing
-outcome_said (Member n) said = nothing
+-- only a node has a turn, one that has a desk
+abbrev pub IsBy : ℕ → Actor → Turn → Type 0
+IsBy desks (Node n) turn = n < desks
+IsBy desks (Replica n) turn = IsQuiet turn
+IsBy desks (Server n) turn = IsQuiet turn
+IsBy desks (Member n) turn = IsQuiet turn
+
+-- ---- which points go out
+
+-- the calls that lack their points once these have gone out
+abbrev pub without : set.FinSet nat_cmp → List Point → set.FinSet nat_cmp
+without lacking [] = lacking
+without lacking (point ∷ points) = without (set.remove lacking point.call) points
+
+-- those of the points that are told which go out: of calls that lack theirs, the first of each
+abbrev pub passed : set.FinSet nat_cmp → List Point → List Point
+passed lacking [] = []
+passed lacking (point ∷ told) = if set.contains lacking point.call then point ∷ passed (set.remove lacking point.call) told else passed lacking told
+
+-- The calls that lack their points behind an event of which so much comes: one that was taken is among them, and none whose point goes out.
+abbrev pub with_taken : Option ℕ → set.FinSet nat_cmp → set.FinSet nat_cmp
+with_taken None lacking = lacking
+with_taken (Some call) lacking = set.insert lacking call
+
+abbrev pub lacking_behind : Outcome → set.FinSet nat_cmp → set.FinSet nat_cmp
+lacking_behind outcome lacking = without (with_taken outcome.took lacking) outcome.points
+
+-- ---- what is told
+
+-- what is told of the turn of a machine, where these calls lack their points
+abbrev pub outcome_turned : set.FinSet nat_cmp → Actor → Turn → Outcome
+outcome_turned lacking (Node n) turn = record { took = None; points = passed lacking turn.told ++ map point_said turn.said.items; replies = map (reply_said n) turn.said.items; again = None; stopped = None }
+outcome_turned lacking (Replica n) turn = nothing
+outcome_turned lacking (Server n) turn = nothing
+outcome_turned lacking (Member n) turn = nothing
 
 -- a desk once these calls are answered, and the desks of all nodes
 abbrev pub all_answered : AtDesk → List Said → AtDesk
@@ -67,16 +97,18 @@ desks_without (Replica n) desks = desks
 desks_without (Server n) desks = desks
 desks_without (Member n) desks = desks
 
--- An event ends at a machine that answered these calls and sends these letters; or at one that stopped, which sends none.
-pub record EndsSaid (at : Actor) (said : List Said) (out : List Letter) (old_post new_post : List Posted) (old_desks new_desks : List AtDesk) (outcome : Outcome) : Type 0 where
-  pub outcome_is : outcome ≡ outcome_said at said
-  pub post : new_post ≡ old_post ++ map fresh out
-  pub desks : new_desks ≡ desks_said at said old_desks
+-- An event ends at a machine that had a turn, or none, and sends these letters; or at one that stopped, which sends none.
+pub record EndsSaid {G O S E T : Type 0} (at : Actor) (turn : Turn) (out : List Letter) (old new : World G O S E T) (outcome : Outcome) : Type 0 where
+  pub outcome_is : outcome ≡ outcome_turned old.lacking at turn
+  pub post : new.post ≡ old.post ++ map fresh out
+  pub desks : new.desks.items ≡ desks_said at turn.said.items old.desks.items
+  pub lacking : new.lacking ≡ without old.lacking outcome.points
 
-pub record EndsStopped (at : Actor) (old_post new_post : List Posted) (old_desks new_desks : List AtDesk) (outcome : Outcome) : Type 0 where
+pub record EndsStopped {G O S E T : Type 0} (at : Actor) (old new : World G O S E T) (outcome : Outcome) : Type 0 where
   pub outcome_is : outcome ≡ stopped_at at
-  pub post : new_post ≡ old_post
-  pub desks : new_desks ≡ desks_without at old_desks
+  pub post : new.post ≡ old.post
+  pub desks : new.desks.items ≡ desks_without at old.desks.items
+  pub lacking : new.lacking ≡ old.lacking
 
 -- the desks of so many nodes, with nothing on them
 abbrev pub empty_desks : ℕ → List AtDesk

@@ -26,9 +26,10 @@ module _ {G O S E T : Type 0} (g : register.Ghosts G) (o : owners.Ghosts O) (st 
     pub outcome_is : outcome ≡ nothing
     pub empties : Empties who old.machines.nodes.machines.items new.machines.nodes.machines.items
     pub desks : new.desks.items ≡ old.desks.items
+    pub lacking : new.lacking ≡ old.lacking
     pub latest : new.machines.latest ≡ old.machines.latest
     pub engine : new.machines.nodes.engine ≡ old.machines.nodes.engine
-    pub stands : Tells → MayStartNext old who → (tree : T) (c : Course) → StandsBy g o st e c old x tree → StandsBehind g o st e c [] new y tree
+    pub stands : Tells → MayStartNext old who → (tree : T) (c : Course) → StandsBy g o st e c old x tree → StandsBehind g o st e c new y tree
 
   -- It started; or a disk failed, and it stays down.
   abbrev pub Restarts : Actor → World G O S E T → World G O S E T → Type 0 → Disks → Disks → Outcome → Type 0

@@ -1,5 +1,6 @@
 //! How a world begins.
 
+ghost use Rattle.std.specs.FinSet as set;
 ghost use Rattle.std.specs.Prelude.{◌≡◌, ℕ, [], IfOk, List, None};
 ghost use Rattle.bx_disk.specs.Disks.{Disks};
 ghost use Rattle.bx_world_machines.specs.bx_node_calls.specs.Waits.{NoneWaits};
@@ -11,6 +12,7 @@ ghost use Rattle.bx_world_standing.specs.Standing.{Course};
 
 use crate::world::World;
 use bx_base::OutOfMemory;
+use bx_cluster::Calls;
 use bx_desk::Desk;
 use bx_facts::{Owners, Post, Register, Store};
 use bx_views::Engine;
@@ -27,13 +29,14 @@ impl<G: Register, O: Owners, S: Store, E: Engine> World<G, O, S, E> {
         ensures led { (x : Disks) (tree : E.Tree) (c : Course) → standing.StandsBy G.Register O.Owners S.Store E.Engine c machines [] x tree → ((session : ℕ) → c.doubts session ≡ None) → NoneWaits machines.nodes.machines.items
             → IfOk result (λ world. Led G.Register O.Owners S.Store E.Engine world x tree []) }
         ensures ready { (sizes : List ℕ) → standing.IsReady G.Register O.Owners S.Store E.Engine machines sizes → IfOk result (λ world. IsReady G.Register O.Owners S.Store E.Engine world sizes) }
-        ensures begins { IfOk result (λ world. (world.machines ≡ machines) × (world.post ≡ []) × (world.desks.items ≡ empty_desks machines.count) × (world.events ≡ 0)) }
+        ensures begins { IfOk result (λ world. (world.machines ≡ machines) × (world.post ≡ []) × (world.desks.items ≡ empty_desks machines.count) × (world.lacking ≡ set.empty) × (world.events ≡ 0)) }
     {
         let desks = new_desks(alloc, machines.nodes())?;
         Ok(World {
             machines,
             post: Post::new(alloc),
             desks,
+            lacking: Calls::new(alloc),
             events: 0,
         })
     }

@@ -23,8 +23,8 @@ use bx_base::Actor;
 use bx_cluster::{EventError, Outcome};
 use bx_disk::Rack;
 use bx_facts::{FactError, Input, Outbox, Owners, Register, Store};
-use bx_node_tries::Said;
 use bx_views::Engine;
+use bx_world_machines::all_nodes::Turn;
 use std::alloc::Global;
 
 impl<G: Register, O: Owners, S: Store, E: Engine> World<G, O, S, E> {
@@ -131,20 +131,20 @@ impl<G: Register, O: Owners, S: Store, E: Engine> World<G, O, S, E> {
         &mut self,
         alloc: Global,
         at: Actor,
-        heard: Result<Vec<Said>, FactError>,
+        heard: Result<Turn, FactError>,
         out: Outbox,
     ) -> Result<Outcome, EventError>
-        requires by { IfOk heard (λ said. IsBy (length self.old.desks.items) at said.items) }
-        ensures said { IfOk heard (λ said. IfOk result (EndsSaid at said.items out self.old.post self.new.post self.old.desks.items self.new.desks.items)) }
-        ensures stopped { IsErrOf heard DiskFails → IfOk result (EndsStopped at self.old.post self.new.post self.old.desks.items self.new.desks.items) }
+        requires by { IfOk heard (IsBy (length self.old.desks.items) at) }
+        ensures said { IfOk heard (λ turn. IfOk result (EndsSaid at turn out self.old self.new)) }
+        ensures stopped { IsErrOf heard DiskFails → IfOk result (EndsStopped at self.old self.new) }
         ensures memory { IsErrOf heard MemoryFails → IsErr result }
         ensures error { IfErr result (λ error. error ≡ NoMemory) }
         ensures same { (self.new.machines ≡ self.old.machines) × (self.new.events ≡ self.old.events) }
     {
         match heard {
-            Ok(said) => {
+            Ok(turn) => {
                 self.post.send(alloc, out)?;
-                Ok(told(alloc, &mut self.desks, at, said)?)
+                Ok(told(alloc, &mut self.desks, &mut self.lacking, at, turn)?)
             }
             Err(FactError::Disk) => {
                 clear_at(&mut self.desks, at);

@@ -49,7 +49,7 @@ impl<G: Register, O: Owners, S: Store, E: Engine> World<G, O, S, E> {
     /// Drops the packets that aren't pending, and numbers the others from 1: none of those that are dropped arrives any more. It takes no memory.
     pub fn forget(&mut self)
         ensures shows { seen S.Store self.new ≡ record (seen S.Store self.old) { post = filter is_waiting (seen S.Store self.old).post } }
-        ensures stands { (x : Disks) (tree : E.Tree) (c : Course) → StandsBy G.Register O.Owners S.Store E.Engine c self.old x tree → StandsBehind G.Register O.Owners S.Store E.Engine c [] self.new x tree }
+        ensures stands { (x : Disks) (tree : E.Tree) (c : Course) → StandsBy G.Register O.Owners S.Store E.Engine c self.old x tree → StandsBehind G.Register O.Owners S.Store E.Engine c self.new x tree }
         ensures led { (x : Disks) (first : E.Tree) (parts : List Part) → Led G.Register O.Owners S.Store E.Engine self.old x first parts → Led G.Register O.Owners S.Store E.Engine self.new x first parts }
         ensures ready { (sizes : List ℕ) → IsReady G.Register O.Owners S.Store E.Engine self.old sizes → IsReady G.Register O.Owners S.Store E.Engine self.new sizes }
         ensures same { self.new ≡ record self.old { post = self.new.post } }

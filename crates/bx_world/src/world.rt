@@ -1,5 +1,6 @@
 //! The world.
 
+use bx_cluster::Calls;
 use bx_desk::Desk;
 use bx_facts::{Owners, Post, Register, Store};
 use bx_views::Engine;
@@ -12,6 +13,8 @@ pub struct World<G: Register, O: Owners, S: Store, E: Engine> {
     pub(crate) post: Post,
     /// By node.
     pub(crate) desks: Vec<Desk>,
+    /// The calls that came and lack their points, whether they wait or their nodes stopped.
+    pub(crate) lacking: Calls,
     /// How many events have started something: a call that came, a machine that started again.
     pub(crate) events: u64,
 }

@@ -97,13 +97,13 @@ module _ {G O S E T : Type 0} (g : register.Ghosts G) (o : owners.Ghosts O) (st 
 
     goes_then : (found : Option Point) (later : Course) → DoubtsGo MayAct found turn.said.items machines.nodes.machines.items c later → DoubtsGo (λ number. MayAct number ⊎ (one.point.call ≡ number)) found turn_then.said.items machines.nodes.machines.items c later
     goes_then found later goes = record {
-      doubted = λ session doubt deed open_is. ⊎_elim
-          (λ still. inl (still.0, (λ is. ⊎_elim
+      doubted = λ session doubt deed open_is. let both = goes.doubted session doubt deed open_is in (both.0, ⊎_elim
+          (λ still. inl (still.0, λ is. ⊎_elim
           still.1
           (λ same. let low = was.came session doubt deed still.0 in omega (arith, low, same, before))
-          (answered_or_last turn.said.items one doubt.call (subst (λ (l : List Said). IsAnswered l doubt.call) said is))), still.2))
+          (answered_or_last turn.said.items one doubt.call (subst (λ (l : List Said). IsAnswered l doubt.call) said is))))
           (λ acts. inr (acts.0, λ none. acts.1 (λ may. none (inl may))))
-          (goes.doubted session doubt deed open_is);
+          both.1);
       logged = λ slot logged has. ⊎_elim
           inl
           (λ newer_it. inr (⊎_elim inl (λ pointed. inr (⊎_elim

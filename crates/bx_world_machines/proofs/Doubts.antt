@@ -113,14 +113,14 @@ in_doubt_later latest number machines c later was = record {
 -- Nothing is answered or found, and the logs stay.
 pub goes_none : {MayAct : ℕ → Type 0} (machines : List Machine) (c later : Course) → WereOpen c later → later.logs ≡ c.logs → DoubtsGo MayAct None [] machines c later
 goes_none machines c later before logs = record {
-  doubted = λ session doubt deed is. inl (before session doubt deed is, (λ answered. nothing answered.one answered.there), λ none. none);
+  doubted = λ session doubt deed is. ((λ none. none), inl (before session doubt deed is, λ answered. nothing answered.one answered.there));
   logged = λ slot one has. inl (record { slot = slot; one = one; there = subst (λ (l : Logs). Contains (l slot) one) logs has; same = refl });
 }
 
 -- It goes on so where more might act.
 pub goes_as : (MayAct MayAct_then : ℕ → Type 0) (found : Option Point) (said : List Said) (machines : List Machine) (c later : Course) → ((number : ℕ) → MayAct number → MayAct_then number) → DoubtsGo MayAct found said machines c later → DoubtsGo MayAct_then found said machines c later
 goes_as MayAct MayAct_then found said machines c later more goes = record {
-  doubted = λ session doubt deed is. ⊎_elim inl (λ acts. inr (acts.0, λ none. acts.1 (λ may. none (more doubt.call may)))) (goes.doubted session doubt deed is);
+  doubted = λ session doubt deed is. let both = goes.doubted session doubt deed is in (both.0, ⊎_elim inl (λ acts. inr (acts.0, λ none. acts.1 (λ may. none (more doubt.call may)))) both.1);
   logged = goes.logged;
 }
 

@@ -372,6 +372,12 @@ module _ {G O S E T : Type 0} (g : register.Ghosts G) (o : owners.Ghosts O) (st 
   own_lives : (session : ℕ) → (LivesIn (last middle.register.chain) session → ⊥) → turned.own ≢ Some session
   own_lives session dead mine = dead (subst (λ (own : Option ℕ). IfSome own (λ one. AtNode at (λ node. IsUsed o nodes node one) × LivesIn (last middle.register.chain) one)) mine turned.is_own).1
 
+  -- nor is one whose record the node writes
+  own_found : (session : ℕ) (doubt : Unacknowledged) (deed : Deed) → turned.own ≡ Some session → IsWritten session doubt deed → IsFoundOf found doubt.call → ⊥
+  own_found session doubt deed mine writes one =
+      let its = was_found doubt.call one in
+      own_lives its.session its.dead (mine ∙ ap (λ (n : ℕ). Some n) (sym (one_of session its.session doubt its.doubt deed its.deed writes its.open_is its.call)))
+
   -- A call that is answered, or of which the gate may have been sent, though it might not act before, was in doubt.
   was_doubted : (number : ℕ) → (turned.own ≡ None → ⊥) → (AtNode at (λ node. MayActAt old node number) → ⊥) → IsAnswered said number ⊎ AtNode at (λ node. OpensAt new node number) → (session : ℕ) × IsInDoubt c session number
   was_doubted number somebody none touched = by turned.own refl (turned.opened number (record { might_not = none; touched = touched }))
@@ -409,8 +415,11 @@ module _ {G O S E T : Type 0} (g : register.Ghosts G) (o : owners.Ghosts O) (st 
   doubts_go : DoubtsGo (λ number. AtNode at (λ node. MayActAt old node number)) found said new c later
   doubts_go = record {
     doubted = λ session doubt deed is. ⊎_elim
-        (λ mine. let its = its_own session doubt deed mine is in inr (of_acting session doubt deed its, λ none. was_doubted doubt.call (λ nobody. some_own session mine nobody) none (inr (opens_at_it session doubt deed its))))
-        (λ other. let were = was_open session doubt deed other is in inl (were, unanswered session doubt deed other were, not_found session doubt deed is were))
+        (λ mine. let its = its_own session doubt deed mine is in (
+          (λ one. own_found session doubt deed mine its one),
+          inr (of_acting session doubt deed its, λ none. was_doubted doubt.call (λ nobody. some_own session mine nobody) none (inr (opens_at_it session doubt deed its))),
+        ))
+        (λ other. let were = was_open session doubt deed other is in (not_found session doubt deed is were, inl (were, unanswered session doubt deed other were)))
         (same_own turned.own session);
     logged = λ slot one has. ⊎_elim
         (λ there. inl (record { slot = slot; one = one; there = subst (λ (l : Logs). Contains (l slot) one) logs there; same = refl }))

@@ -73,10 +73,11 @@ IsOldOrPointed logs found said number = HadRecord logs number ⊎ ((number ≡ 0
 abbrev pub WasInDoubt : (ℕ → Type 0) → Course → ℕ → Type 0
 WasInDoubt MayAct c number = (MayAct number → ⊥) → (session : ℕ) × IsInDoubt c session number
 
--- From the one course to the other: a record whose gate may be open then is one whose gate might be before, and its call is neither answered nor found; or one that a node writes then, of a call that
--- might act or was in doubt. A record of a log is of a call that had one before, or is answered or found, or of none.
+-- From the one course to the other: a record whose gate may be open then is of no call that was found; it is one whose gate might be open before, and its call isn't answered; or one that a node writes
+-- then, of a call that might act or was in doubt. A record of a log is of a call that had one before, or is answered or found, or of none.
 pub record DoubtsGo (MayAct : ℕ → Type 0) (found : Option Point) (said : List Said) (machines : List Machine) (old new : Course) : Type 0 where
-  pub doubted : (session : ℕ) (doubt : Unacknowledged) (deed : Deed) → IsOpenIn new session doubt deed → (IsOpenIn old session doubt deed × (IsAnswered said doubt.call → ⊥) × (IsFoundOf found doubt.call → ⊥)) ⊎ (IsOfActing machines doubt deed × WasInDoubt MayAct old doubt.call)
+  pub doubted : (session : ℕ) (doubt : Unacknowledged) (deed : Deed) → IsOpenIn new session doubt deed
+      → (IsFoundOf found doubt.call → ⊥) × ((IsOpenIn old session doubt deed × (IsAnswered said doubt.call → ⊥)) ⊎ (IsOfActing machines doubt deed × WasInDoubt MayAct old doubt.call))
   pub logged : (slot : ℕ) (one : Logged) → Contains (new.logs slot) one → IsOldOrPointed old.logs found said one.head.call
 
 -- An answer is to a call that might act, or was in doubt; and to another than the one that was found.

@@ -99,8 +99,9 @@ module _ {G O S E T : Type 0} (g : register.Ghosts G) (o : owners.Ghosts O) (st 
     history = led.history;
     accounts = accounts;
     stands = behind.stands;
-    doubted = doubted_led g o st e world world x x first led.tree parts led part [] quiet behind accounts.pending (none_in _ _ _ _ _ _ _ accounts) left;
-    logged = logged_led g o st e world world x x first led.tree parts led part [] quiet behind accounts.pending (none_in _ _ _ _ _ _ _ accounts) left;
+    doubted = doubted_led g o st e world world x x first led.tree parts led part (λ number. ⊥) None [] quiet behind (λ number nobody. absurd nobody) accounts.pending (none_in _ _ _ _ _ _ _ accounts) left (nobody_answered world.machines.nodes.machines.items);
+    logged = logged_led g o st e world world x x first led.tree parts led part (λ number. ⊥) None [] quiet behind (λ number nobody. absurd nobody) accounts.pending (none_in _ _ _ _ _ _ _ accounts) left (nobody_answered world.machines.nodes.machines.items);
+    lacking = lacking_still parts part world.lacking refl led.lacking;
     counted = led.counted;
     desks = λ node desk there. desk_on parts None none_ends node desk refl (led.desks node desk there);
     left = left;
@@ -116,12 +117,13 @@ module _ {G O S E T : Type 0} (g : register.Ghosts G) (o : owners.Ghosts O) (st 
       left = record {
         waits = led.left.waits;
         acting = λ node acts is. let was = led.left.acting node acts is in (was.0, inr (refl, was.1));
+        unpointed = led.left.unpointed;
       }
 
-      quiet : IsPartOf world.machines.latest [] part
+      quiet : IsPartOf world.machines.latest None [] part
       quiet = part_quiet world.machines.latest part refl
 
-      behind : StandsBehind g o st e led.stands.course [] world x led.tree
+      behind : StandsBehind g o st e led.stands.course world x led.tree
       behind = behind_by g o st e led.stands.course world x led.tree (led.stands, refl)
 
   -- a machine that is down may start again, in the boot after all that there were

@@ -2,6 +2,8 @@ pub mod Beginning
 pub mod CallsThen
 pub mod Doubted
 pub mod Ending
+pub mod Founds
+pub mod Lacking
 pub mod Leading
 pub mod Letters
 pub mod Restarting

@@ -27,7 +27,9 @@ use Rattle.bx_world.specs.Led.{AreDesks, AreLeft, Led}
 use Rattle.bx_world.specs.Starting.{MayStartNext, Restarts, Starts}
 use Rattle.bx_world.specs.World.{StandsBehind}
 use Rattle.bx_world.specs.declared.world.World.{World}
-use Rattle.bx_world.proofs.Doubted.{doubted_led, logged_led, none_in, part_quiet}
+use Rattle.bx_world.proofs.Doubted.{doubted_led, logged_led, nobody_answered, none_in, part_quiet}
+use Rattle.bx_world.proofs.Lacking.{lacking_still}
+use Rattle.bx_cluster.specs.Lacking.{AreLacking}
 use Rattle.bx_world.proofs.Leading.{desk_on, desks_ended, ending, left_ended, left_started}
 use Rattle.bx_world.proofs.Leads.{patient}
 
@@ -52,14 +54,15 @@ module _ {G O S E T : Type 0} (g : register.Ghosts G) (o : owners.Ghosts O) (st 
     history = led.history;
     accounts = ended ends stops.engine;
     stands = behind.stands;
-    doubted = doubted_led g o st e old new x y first led.tree parts led (ending reading ends) [] (part_quiet old.machines.latest (ending reading ends) refl) behind (ended ends stops.engine).pending (none_in _ _ _ _ _ _ _ (ended ends stops.engine)) left;
-    logged = logged_led g o st e old new x y first led.tree parts led (ending reading ends) [] (part_quiet old.machines.latest (ending reading ends) refl) behind (ended ends stops.engine).pending (none_in _ _ _ _ _ _ _ (ended ends stops.engine)) left;
+    doubted = doubted_led g o st e old new x y first led.tree parts led (ending reading ends) (λ number. ⊥) None [] (part_quiet old.machines.latest (ending reading ends) refl) behind (λ number nobody. absurd nobody) (ended ends stops.engine).pending (none_in _ _ _ _ _ _ _ (ended ends stops.engine)) left (nobody_answered new.machines.nodes.machines.items);
+    logged = logged_led g o st e old new x y first led.tree parts led (ending reading ends) (λ number. ⊥) None [] (part_quiet old.machines.latest (ending reading ends) refl) behind (λ number nobody. absurd nobody) (ended ends stops.engine).pending (none_in _ _ _ _ _ _ _ (ended ends stops.engine)) left (nobody_answered new.machines.nodes.machines.items);
+    lacking = lacking_still parts (ending reading ends) new.lacking refl (subst (λ (l : _). AreLacking l parts) (sym stops.lacking) led.lacking);
     counted = stops.latest ∙ led.counted;
     desks = subst (λ (l : List AtDesk). AreDesks l (ending reading ends ∷ parts)) (sym stops.desks) (desks_ended at old.desks.items parts reading ends (λ node. is_so (ends_one at node)) led.desks);
     left = left;
   })
     where
-      behind : StandsBehind g o st e led.stands.course [] new y led.tree
+      behind : StandsBehind g o st e led.stands.course new y led.tree
       behind = stops.stands tells led.tree led.stands.course (led.stands, refl)
 
       ends : ℕ → Bool
@@ -80,14 +83,15 @@ module _ {G O S E T : Type 0} (g : register.Ghosts G) (o : owners.Ghosts O) (st 
       history = led.history;
       accounts = ended none_ends starts.engine;
       stands = behind.stands;
-      doubted = doubted_led g o st e old new x y first led.tree parts led (ending reading none_ends) [] (part_quiet old.machines.latest (ending reading none_ends) refl) behind (ended none_ends starts.engine).pending (none_in _ _ _ _ _ _ _ (ended none_ends starts.engine)) left;
-      logged = logged_led g o st e old new x y first led.tree parts led (ending reading none_ends) [] (part_quiet old.machines.latest (ending reading none_ends) refl) behind (ended none_ends starts.engine).pending (none_in _ _ _ _ _ _ _ (ended none_ends starts.engine)) left;
+      doubted = doubted_led g o st e old new x y first led.tree parts led (ending reading none_ends) (λ number. ⊥) None [] (part_quiet old.machines.latest (ending reading none_ends) refl) behind (λ number nobody. absurd nobody) (ended none_ends starts.engine).pending (none_in _ _ _ _ _ _ _ (ended none_ends starts.engine)) left (nobody_answered new.machines.nodes.machines.items);
+      logged = logged_led g o st e old new x y first led.tree parts led (ending reading none_ends) (λ number. ⊥) None [] (part_quiet old.machines.latest (ending reading none_ends) refl) behind (λ number nobody. absurd nobody) (ended none_ends starts.engine).pending (none_in _ _ _ _ _ _ _ (ended none_ends starts.engine)) left (nobody_answered new.machines.nodes.machines.items);
+    lacking = lacking_still parts (ending reading none_ends) new.lacking refl (subst (λ (l : _). AreLacking l parts) (sym starts.lacking) led.lacking);
       counted = starts.latest ∙ led.counted;
       desks = subst (λ (l : List AtDesk). AreDesks l (ending reading none_ends ∷ parts)) (sym starts.desks) (λ node desk there. desk_on parts reading none_ends node desk refl (led.desks node desk there));
       left = left;
     })
       where
-        behind : StandsBehind g o st e led.stands.course [] new y led.tree
+        behind : StandsBehind g o st e led.stands.course new y led.tree
         behind = starts.stands tells may led.tree led.stands.course (led.stands, refl)
 
         left : AreLeft new.machines.nodes.machines.items (ending reading none_ends ∷ parts)

@@ -1,5 +1,5 @@
 -- The answers of a node, as calls that are answered in one part of a run.
-use Rattle.std.proofs.Common.{◌≡◌, ◌≢◌, ◌∙◌, ⊎_elim, ℕ, Bool, true, false, List, [], ◌∷◌, ◌++◌, Contains, refl, sym, ap, subst, map, append_assoc}
+use Rattle.std.proofs.Common.{◌≡◌, ◌≢◌, ◌∙◌, ⊎_elim, ℕ, Bool, true, false, List, [], ◌∷◌, ◌++◌, Contains, Option, None, Some, refl, sym, ap, subst, map, append_assoc}
 use Rattle.std.specs.Prelude.{◌||◌, ◌==◌, reverse}
 use Rattle.std.specs.List.{AllByRecursion, list_any}
 use Rattle.std.proofs.lemmas.Bool.{eq-eqb, eqb-true}
@@ -11,6 +11,7 @@ use Rattle.bx_desk.proofs.Lists.{all_push, any_mapped, any_reversed}
 use Rattle.bx_desk.proofs.Serving.{desk_after}
 use Rattle.bx_facts.proofs.Lists.{behind, front, front_or_behind, nothing}
 use Rattle.bx_history.specs.Legal.{LeadsNewest}
+use Rattle.bx_history.proofs.OnePart.{found_lines, in_list}
 use Rattle.bx_history.proofs.Serving.{AreOfOthers, Served, acted_line, entry_by, is_among, reply_line, served}
 use Rattle.bx_node_steps.specs.Calls.{AreToOthers, IsAnswered, acting_said}
 use Rattle.bx_node_tries.specs.Tries.{LeadsBack}
@@ -129,6 +130,22 @@ lines_told node said took again =
     ∙ append_assoc (reverse again) (reverse replies) (reverse points ++ reverse took)
     ∙ ap (λ (l : List TraceLine). reverse again ++ (l ++ (reverse points ++ reverse took))) (lines_turned (λ (one : Said). Reply one.point.call one.reply) said ∙ replies_served node (reverse said))
     ∙ ap (λ (l : List TraceLine). reverse again ++ (map reply_line (served_back node said) ++ (l ++ reverse took))) (lines_turned (λ (one : Said). Acted one.point) said ∙ points_served node (reverse said))
+
+-- .. behind the point of a call that was found
+pub lines_with_found : (node : ℕ) (said : List Said) (took : List TraceLine) (found : Option Served) (points : List Point) → points ≡ map (λ (one : Served). one.point) (in_list found)
+    → reverse (took ++ (map (λ (point : Point). Acted point) (points ++ map point_said said) ++ (map steps.reply_line (map (reply_said node) said) ++ []))) ≡ served (served_back node said) (served_back node said) (found_lines found ++ reverse took)
+lines_with_found node said took found points is =
+    let rest : List TraceLine = map steps.reply_line (map (reply_said node) said) ++ [] in
+    let acted : List Point → List TraceLine = map (λ (point : Point). Acted point) in
+    ap (λ (l : List TraceLine). reverse (took ++ (l ++ rest))) (map-append (λ (point : Point). Acted point) points (map point_said said))
+    ∙ ap (λ (l : List TraceLine). reverse (took ++ l)) (append_assoc (acted points) (acted (map point_said said)) rest)
+    ∙ ap reverse (sym (append_assoc took (acted points) (acted (map point_said said) ++ rest)))
+    ∙ lines_told node said (took ++ acted points) []
+    ∙ ap (served (served_back node said) (served_back node said)) (reverse-append took (acted points) ∙ ap (λ (l : List TraceLine). l ++ reverse took) (ap (λ (ps : List Point). reverse (acted ps)) is ∙ by found))
+  where
+    by : (one : Option Served) → reverse (map (λ (point : Point). Acted point) (map (λ (o : Served). o.point) (in_list one))) ≡ found_lines one
+    by None = refl
+    by (Some one) = refl
 
 -- ---- the desk
 

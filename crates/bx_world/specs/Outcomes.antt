@@ -10,8 +10,7 @@ use Rattle.bx_cluster.specs.declared.outcome.ReplyOut.{ReplyOut}
 use Rattle.bx_desk.specs.Desks.{AtDesk, answered, empty_desk}
 use Rattle.bx_node_tries.specs.declared.round.Said.{Said}
 use Rattle.bx_post.specs.declared.packets.Letter.{Letter}
-use Rattle.bx_post.specs.Posts.{fresh}
-use Rattle.bx_world.specs.declared.world.World.{World}
+use Rattle.bx_post.specs.Posts.{Posted, fresh}
 use Rattle.bx_world_machines.specs.bx_nodes.specs.declared.turns.Turn.{Turn}
 
 abbrev pub nothing : Outcome
@@ -98,17 +97,17 @@ desks_without (Server n) desks = desks
 desks_without (Member n) desks = desks
 
 -- An event ends at a machine that had a turn, or none, and sends these letters; or at one that stopped, which sends none.
-pub record EndsSaid {G O S E T : Type 0} (at : Actor) (turn : Turn) (out : List Letter) (old new : World G O S E T) (outcome : Outcome) : Type 0 where
-  pub outcome_is : outcome ≡ outcome_turned old.lacking at turn
-  pub post : new.post ≡ old.post ++ map fresh out
-  pub desks : new.desks.items ≡ desks_said at turn.said.items old.desks.items
-  pub lacking : new.lacking ≡ without old.lacking outcome.points
+pub record EndsSaid (at : Actor) (turn : Turn) (out : List Letter) (old_post new_post : List Posted) (old_desks new_desks : List AtDesk) (old_lacking new_lacking : set.FinSet nat_cmp) (outcome : Outcome) : Type 0 where
+  pub outcome_is : outcome ≡ outcome_turned old_lacking at turn
+  pub post : new_post ≡ old_post ++ map fresh out
+  pub desks : new_desks ≡ desks_said at turn.said.items old_desks
+  pub lacking : new_lacking ≡ without old_lacking outcome.points
 
-pub record EndsStopped {G O S E T : Type 0} (at : Actor) (old new : World G O S E T) (outcome : Outcome) : Type 0 where
+pub record EndsStopped (at : Actor) (old_post new_post : List Posted) (old_desks new_desks : List AtDesk) (old_lacking new_lacking : set.FinSet nat_cmp) (outcome : Outcome) : Type 0 where
   pub outcome_is : outcome ≡ stopped_at at
-  pub post : new.post ≡ old.post
-  pub desks : new.desks.items ≡ desks_without at old.desks.items
-  pub lacking : new.lacking ≡ old.lacking
+  pub post : new_post ≡ old_post
+  pub desks : new_desks ≡ desks_without at old_desks
+  pub lacking : new_lacking ≡ old_lacking
 
 -- the desks of so many nodes, with nothing on them
 abbrev pub empty_desks : ℕ → List AtDesk

@@ -135,8 +135,8 @@ impl<G: Register, O: Owners, S: Store, E: Engine> World<G, O, S, E> {
         out: Outbox,
     ) -> Result<Outcome, EventError>
         requires by { IfOk heard (IsBy (length self.old.desks.items) at) }
-        ensures said { IfOk heard (λ turn. IfOk result (EndsSaid at turn out self.old self.new)) }
-        ensures stopped { IsErrOf heard DiskFails → IfOk result (EndsStopped at self.old self.new) }
+        ensures said { IfOk heard (λ turn. IfOk result (EndsSaid at turn out self.old.post self.new.post self.old.desks.items self.new.desks.items self.old.lacking self.new.lacking)) }
+        ensures stopped { IsErrOf heard DiskFails → IfOk result (EndsStopped at self.old.post self.new.post self.old.desks.items self.new.desks.items self.old.lacking self.new.lacking) }
         ensures memory { IsErrOf heard MemoryFails → IsErr result }
         ensures error { IfErr result (λ error. error ≡ NoMemory) }
         ensures same { (self.new.machines ≡ self.old.machines) × (self.new.events ≡ self.old.events) }

@@ -113,7 +113,7 @@ module _ (devices areas : ℕ) (Sure : ℕ → ℕ → List ℕ → Type 0) (Rea
 
 -- ---- a call that may act, or whose gate was sent, waits
 
-to_act_waits : (machine : Machine) (number : ℕ) → IsToAct machine number → (call : CallOf) × WaitsAt machine call × (call.number ≡ number)
+pub to_act_waits : (machine : Machine) (number : ℕ) → IsToAct machine number → (call : CallOf) × WaitsAt machine call × (call.number ≡ number)
 to_act_waits machine number (inl may) = (call_of may.one, inl (record { one = may.one; there = may.there; same = refl }), may.same)
 to_act_waits machine number (inr writes) = (call_of writes.call, inr (subst (λ (w : Option Waiting). IsThat w (call_of writes.call)) (sym writes.is) refl), writes.same)
 

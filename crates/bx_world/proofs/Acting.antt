@@ -28,7 +28,8 @@ use Rattle.bx_world.specs.Room.{LetRestart}
 use Rattle.bx_world.specs.Starting.{MayStartNext}
 use Rattle.bx_world.specs.World.{StandsBehind, seen}
 use Rattle.bx_world.specs.declared.world.World.{World}
-use Rattle.bx_world.proofs.Doubted.{IsPartOf, behind_by, doubted_led, logged_led, none_in, part_quiet}
+use Rattle.bx_world.proofs.Doubted.{IsPartOf, behind_by, doubted_led, logged_led, nobody_answered, none_in, part_quiet}
+use Rattle.bx_world.proofs.Lacking.{lacking_still}
 use Rattle.bx_world.proofs.Leading.{desk_on, ending}
 use Rattle.bx_world.proofs.Leads.{patient}
 use Rattle.bx_world_events.specs.Causes.{IsThere}

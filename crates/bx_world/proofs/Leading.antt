@@ -15,6 +15,7 @@ use Rattle.bx_world_machines.specs.bx_node_calls.specs.Turns.{acting_at, acting_
 use Rattle.bx_world_machines.specs.bx_node_calls.specs.Waits.{Waits}
 use Rattle.bx_node_steps.specs.Calls.{Acting, CallOf, WaitsAt, under_way}
 use Rattle.bx_node_steps.specs.declared.machine.Machine.{Machine}
+use Rattle.bx_world_machines.proofs.Emptied.{may_before}
 use Rattle.bx_world_machines.specs.bx_nodes.specs.Stopping.{Empties, HasNothing}
 use Rattle.bx_world_machines.specs.bx_nodes.proofs.Calling.{none_wait}
 use Rattle.bx_world_machines.specs.bx_nodes.proofs.Emptied.{emptied}
@@ -128,7 +129,11 @@ module _ (who : Actor) (old new : List Machine) (empties : Empties who old new) 
       (acts_in (slice_get new node) acts is) (λ one none a. none a)
 
 pub left_ended : (who : Actor) (old new : List Machine) (parts : List Part) (reading : Option ℕ) (ends : ℕ → Bool) → ((node : ℕ) → ends node ≡ ends_one who node) → Empties who old new → AreLeft old parts → AreLeft new (ending reading ends ∷ parts)
-left_ended who old new parts reading ends ends_so empties left = record { waits = waits; acting = acting }
+left_ended who old new parts reading ends ends_so empties left = record {
+  waits = waits;
+  acting = acting;
+  unpointed = λ node number may. left.unpointed node number (may_before who old new empties node number may);
+}
   where
     same : (node : ℕ) → ends_one who node ≡ false → slice_get new node ≡ slice_get old node
     same node is = empties.others node (ends_not who node is)
@@ -154,7 +159,11 @@ left_ended who old new parts reading ends ends_so empties left = record { waits 
 
 -- no call waited at it, and none does; all else is as it was
 pub left_started : (who : Actor) (old new : List Machine) (parts : List Part) (reading : Option ℕ) → ((node : ℕ) (call : CallOf) → who ≡ Node node → Waits old node call → ⊥) → Empties who old new → AreLeft old parts → AreLeft new (ending reading none_ends ∷ parts)
-left_started who old new parts reading quiet empties left = record { waits = waits; acting = acting }
+left_started who old new parts reading quiet empties left = record {
+  waits = waits;
+  acting = acting;
+  unpointed = λ node number may. left.unpointed node number (may_before who old new empties node number may);
+}
   where
     same : (node : ℕ) → ends_one who node ≡ false → slice_get new node ≡ slice_get old node
     same node is = empties.others node (ends_not who node is)

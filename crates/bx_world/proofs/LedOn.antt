@@ -1,6 +1,6 @@
 -- A world that is led goes on so where a machine hears something.
-use Rattle.std.proofs.Common.{◌≡◌, ◌≢◌, ◌∙◌, ⊎_elim, ℕ, ◌+◌, ◌≤◌, Bool, true, false, List, [], ◌∷◌, ◌++◌, length, Option, None, Some, IfSome, is_some, refl, sym, ap, subst, map, arith}
-use Rattle.std.specs.Prelude.{◌||◌, not, reverse, slice_get}
+use Rattle.std.proofs.Common.{◌≡◌, ◌≢◌, ◌∙◌, ⊎_elim, ℕ, zero, suc, ◌+◌, ◌≤◌, Bool, true, false, List, [], ◌∷◌, ◌++◌, length, Option, None, Some, IfSome, is_some, refl, sym, ap, subst, map, arith}
+use Rattle.std.specs.Prelude.{◌||◌, ◌&&◌, not, reverse, slice_get, slice_set}
 use Rattle.std.specs.FinSet as set
 use Rattle.std.specs.Ordering.{nat_cmp}
 use Rattle.std.proofs.lemmas.Bool.{false_from_ne_true}
@@ -46,7 +46,7 @@ use Rattle.bx_script.specs.declared.trace_line.TraceLine.TheVariants.{Acted}
 use Rattle.bx_views.specs.declared.engine.Engine as engine
 use Rattle.bx_world.specs.Going.{Says, Went}
 use Rattle.bx_world.specs.Led.{AreDesks, AreLeft, Led}
-use Rattle.bx_world.specs.Outcomes.{IsBy, IsQuiet, desks_said, lacking_behind, nothing, outcome_turned, passed, point_said, reply_said}
+use Rattle.bx_world.specs.Outcomes.{IsBy, IsQuiet, answered_all, desks_said, lacking_behind, nothing, outcome_turned, passed, point_said, reply_said, with_desk}
 use Rattle.bx_world.specs.World.{IsReady, StandsTurned}
 use Rattle.bx_world.specs.declared.world.World.{World}
 use Rattle.bx_world.proofs.Beginning.{acts_waits}
@@ -64,9 +64,30 @@ numbered_in made areas asked None ready acts is = absurd cc
 numbered_in made areas asked (Some machine) ready acts is = subst (λ (under : Option Acting). IfSome under (λ a. a.point.call ≡ a.call.number)) is (fits_numbered machine.cache.areas machine ready.ready.fits)
 
 -- a point that none has, behind that of another call
-clear_behind : (found : Option Served) (lines : List TraceLine) (number : ℕ) → is_found found number ≡ false → has_point lines number ≡ false → has_point (found_lines found ++ lines) number ≡ false
+pub clear_behind : (found : Option Served) (lines : List TraceLine) (number : ℕ) → is_found found number ≡ false → has_point lines number ≡ false → has_point (found_lines found ++ lines) number ≡ false
 clear_behind None lines number other none = none
 clear_behind (Some one) lines number other none = ap (λ (t : Bool). t || has_point lines number) other ∙ none
+
+-- ---- desks at which nothing is answered
+
+set_same : (desks : List AtDesk) (node : ℕ) (desk : AtDesk) → slice_get desks node ≡ Some desk → slice_set desks node desk ≡ desks
+set_same [] node desk is = refl
+set_same (one ∷ desks) zero desk is = ap (λ (d : AtDesk). d ∷ desks) (let same : one ≡ desk = cc in sym same)
+set_same (one ∷ desks) (suc node) desk is = ap (λ (l : List AtDesk). one ∷ l) (set_same desks node desk is)
+
+said_none : (desks : List AtDesk) (said : List Said) → said ≡ [] → desks_said (Node 0) said desks ≡ desks
+said_none desks said none = ap (λ (l : List Said). desks_said (Node 0) l desks) none ∙ by (slice_get desks 0) refl
+  where
+    by : (found : Option AtDesk) → slice_get desks 0 ≡ found → with_desk desks 0 (answered_all found []) ≡ desks
+    by None is = refl
+    by (Some desk) is = set_same desks 0 desk is
+
+-- where nothing is told or answered there are no lines
+nothing_told : (lacking : set.FinSet nat_cmp) (told : List Point) (said : List Said) → told ≡ [] → said ≡ []
+    → reverse (map (λ (point : Point). Acted point) (passed lacking told ++ map point_said said) ++ (map steps.reply_line (map (reply_said 0) said) ++ [])) ≡ []
+nothing_told lacking told said none silent =
+    ap (λ (l : List Point). reverse (map (λ (point : Point). Acted point) (passed lacking l ++ map point_said said) ++ (map steps.reply_line (map (reply_said 0) said) ++ []))) none
+    ∙ ap (λ (l : List Said). reverse (map (λ (point : Point). Acted point) (map point_said l) ++ (map steps.reply_line (map (reply_said 0) l) ++ []))) silent
 
 -- a record that is written has the number of its call
 abbrev pub AreNamed : List Machine → Type 0
@@ -154,7 +175,7 @@ module _ {G O S E T : Type 0} (g : register.Ghosts G) (o : owners.Ghosts O) (st 
           stands = turned.stands.stands;
           doubted = doubted_led g o st e old new x y first turned.next parts led part MayAct turned.found said is_part turned.stands unpointed accounts_now.pending (none_in _ _ _ _ _ _ _ accounts_now) left_now waits_on;
           logged = logged_led g o st e old new x y first turned.next parts led part MayAct turned.found said is_part turned.stands unpointed accounts_now.pending (none_in _ _ _ _ _ _ _ accounts_now) left_now waits_on;
-          lacking = lacking (_, history, accounts_now.fits);
+          lacking = lacking ((rules (e.at_once old.machines.nodes.engine)).kept, history, accounts_now.fits);
           counted = latest ∙ sym (counted_then (e.step old.machines.nodes.engine) (e.at_once old.machines.nodes.engine) first parts led.history led.tree led.accounts arrives reading taken served again node Waited written new.machines.nodes.machines.items said comes answers);
           desks = desks;
           left = left_now;
@@ -257,7 +278,7 @@ module _ {G O S E T : Type 0} (g : register.Ghosts G) (o : owners.Ghosts O) (st 
           subst (λ (l : List TraceLine). Led g o st e new y first (record { what = going arrives reading false; lines = l } ∷ parts)) (sym lines)
           (led_with MayAct turn turned arrives reading None None node (Waits old.machines.nodes.machines.items) (acting_at old.machines.nodes.machines.items) it answered (λ number may. led.left.unpointed node number may) clear (latest ∙ led.counted)
           (desks_told MayAct turn turned arrives reading None None node (Waits old.machines.nodes.machines.items) (acting_at old.machines.nodes.machines.items) it answered (λ number may. led.left.unpointed node number may) clear old.desks.items (desks_untaken arrives reading) desks)
-          (λ fits. lacking_then [] (outcome_turned old.lacking (Node node) turn) parts _ old.lacking new.lacking (sym lines) refl lacking fits led.lacking))
+          (λ fits. lacking_then [] (outcome_turned old.lacking (Node node) turn) parts (part_with (going arrives reading false) None (served MayAct turn turned) (served_back node turn.said.items) None) old.lacking new.lacking (sym lines) refl lacking fits led.lacking))
 
     -- ---- a machine heard something
 
@@ -280,11 +301,11 @@ module _ {G O S E T : Type 0} (g : register.Ghosts G) (o : owners.Ghosts O) (st 
               let it = comes_none MayAct turn turned unpointed None reading 0 refl refl in
               let clear = clear_then MayAct turn turned answers.acts.to_act in
               let lines = lines_are MayAct turn turned 0 [] old.lacking (passed_is MayAct turn turned old.lacking (λ number low. led.lacking number)) in
-              let none_told : reverse (map (λ (point : Point). Acted point) (passed old.lacking turn.told ++ map point_said turn.said.items) ++ (map steps.reply_line (map (reply_said 0) turn.said.items) ++ [])) ≡ [] = rw (quiet.0, quiet.1) refl in
+              let none_told = nothing_told old.lacking turn.told turn.said.items quiet.0 quiet.1 in
               subst (λ (l : List TraceLine). Led g o st e new y first (record { what = going None reading false; lines = l } ∷ parts)) (sym lines ∙ none_told)
               (led_with MayAct turn turned None reading None None 0 (Waits old.machines.nodes.machines.items) (acting_at old.machines.nodes.machines.items) it answered unpointed clear (says.latest ∙ led.counted)
-              (desks_told MayAct turn turned None reading None None 0 (Waits old.machines.nodes.machines.items) (acting_at old.machines.nodes.machines.items) it answered unpointed clear old.desks.items (desks_untaken None reading) (desks ∙ sym (said_none old.desks.items quiet.1)))
-              (λ fits. lacking_still parts _ new.lacking (sym lines ∙ none_told) (subst (λ (l : _). AreLacking l parts) (sym lacking) led.lacking)))
+              (desks_told MayAct turn turned None reading None None 0 (Waits old.machines.nodes.machines.items) (acting_at old.machines.nodes.machines.items) it answered unpointed clear old.desks.items (desks_untaken None reading) (desks ∙ sym (said_none old.desks.items turn.said.items quiet.1)))
+              (λ fits. lacking_still parts (part_with (going None reading false) None (served MayAct turn turned) (served_back 0 turn.said.items) None) new.lacking (sym lines ∙ none_told) (subst (λ (l : _). AreLacking l parts) (sym lacking) led.lacking)))
 
           by : (who : Actor) → IsBy (length old.desks.items) who turn → Answered reading who old.machines.nodes.machines.items new.machines.nodes.machines.items turn.said.items → new.desks.items ≡ desks_said who turn.said.items old.desks.items
               → new.lacking ≡ lacking_behind (outcome_turned old.lacking who turn) old.lacking

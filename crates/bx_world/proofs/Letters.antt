@@ -1,5 +1,5 @@
 -- Letters under way, as packets come and go.
-use Rattle.std.proofs.Common.{◌≡◌, ⊎_elim, ℕ, ◌+◌, Bool, true, false, List, [], ◌∷◌, ◌++◌, Contains, Some, filter, map, refl, ap, subst}
+use Rattle.std.proofs.Common.{◌≡◌, ⊎_elim, ℕ, ◌+◌, Bool, true, false, List, [], ◌∷◌, ◌++◌, Contains, None, Some, filter, map, refl, ap, subst}
 use Rattle.std.specs.Prelude.{◌==◌, if◌then◌else◌}
 use Rattle.bx_disk.specs.Disks.{Disks}
 use Rattle.bx_facts.proofs.Lists.{behind, front, front_or_behind}
@@ -59,14 +59,14 @@ letter_there first number (posted ∷ rest) packet is = by (first == number) (le
 
 -- Letters are lost, and all stands.
 pub stands_fewer : {G O S E T : Type 0} (g : register.Ghosts G) (o : owners.Ghosts O) (st : store.Ghosts S) (e : engine.Ghosts E T) → HandedLaws g o st → (machines : Machines G O S E T) (letters fewer : List Letter) (x : Disks) (tree : T)
-    → ((letter : Letter) → Contains fewer letter → Contains letters letter) → (standing : Standing g o st e machines letters x tree) → StandsBehind g o st e standing.course [] machines fewer x tree
+    → ((letter : Letter) → Contains fewer letter → Contains letters letter) → (standing : Standing g o st e machines letters x tree) → StandsBehind g o st e (λ number. ⊥) standing.course None [] machines fewer x tree
 stands_fewer g o st e laws machines letters fewer x tree among standing = let nodes = machines.nodes in record {
   stands = record {
     clocks = standing.clocks;
     course = lettered standing.course fewer;
     are_clocks = standing.are_clocks;
     stands = lost g o st (e.stands nodes.engine) (e.step nodes.engine) laws nodes.register nodes.owners nodes.store x letters fewer standing.clocks (seen nodes.machines.items) standing.course tree standing.stands among;
-    told = standing.told;
+    came = standing.came;
     doubts = record { came = standing.doubts.came; over = standing.doubts.over; opening = standing.doubts.opening; once = standing.doubts.once };
     known = standing.known;
   };

@@ -85,7 +85,7 @@ module _ {G O S E T : Type 0} (g : register.Ghosts G) (o : owners.Ghosts O) (st 
       stands = behind.stands;
       doubted = doubted_led g o st e old new x y first led.tree parts led (ending reading none_ends) (λ number. ⊥) None [] (part_quiet old.machines.latest (ending reading none_ends) refl) behind (λ number nobody. absurd nobody) (ended none_ends starts.engine).pending (none_in _ _ _ _ _ _ _ (ended none_ends starts.engine)) left (nobody_answered new.machines.nodes.machines.items);
       logged = logged_led g o st e old new x y first led.tree parts led (ending reading none_ends) (λ number. ⊥) None [] (part_quiet old.machines.latest (ending reading none_ends) refl) behind (λ number nobody. absurd nobody) (ended none_ends starts.engine).pending (none_in _ _ _ _ _ _ _ (ended none_ends starts.engine)) left (nobody_answered new.machines.nodes.machines.items);
-    lacking = lacking_still parts (ending reading none_ends) new.lacking refl (subst (λ (l : _). AreLacking l parts) (sym starts.lacking) led.lacking);
+      lacking = lacking_still parts (ending reading none_ends) new.lacking refl (subst (λ (l : _). AreLacking l parts) (sym starts.lacking) led.lacking);
       counted = starts.latest ∙ led.counted;
       desks = subst (λ (l : List AtDesk). AreDesks l (ending reading none_ends ∷ parts)) (sym starts.desks) (λ node desk there. desk_on parts reading none_ends node desk refl (led.desks node desk there));
       left = left;

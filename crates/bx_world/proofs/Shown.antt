@@ -28,7 +28,7 @@ module _ {G O S E T : Type 0} (g : register.Ghosts G) (o : owners.Ghosts O) (st 
     course = standing.course;
     are_clocks = standing.are_clocks;
     stands = subst (λ (l : List Letter). Stand g o st e machines.nodes x l standing.clocks standing.course tree) (sym (ap (λ (l : List Letter). letters ++ l) empty ∙ append-nil letters)) standing.stands;
-    told = standing.told;
+    came = standing.came;
     doubts = standing.doubts;
     known = standing.known;
   }

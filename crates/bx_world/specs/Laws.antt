@@ -107,6 +107,7 @@ module _ {G O S E T : Type 0} (g : register.Ghosts G) (o : owners.Ghosts O) (st 
       stands = machines_on g o st e laws world.machines (letters_in world.post) x led.tree led.stands y on;
       doubted = led.doubted;
       logged = led.logged;
+      lacking = led.lacking;
       counted = led.counted;
       desks = led.desks;
       left = led.left;

@@ -1,4 +1,6 @@
 use Rattle.std.proofs.Common.{◌∙◌, [], length, refl, sym, ap, subst, arith}
+use Rattle.std.specs.FinSet as set
+use Rattle.std.specs.Ordering.{nat_cmp}
 use Rattle.bx_cluster.specs.Runs.{StepOf}
 use Rattle.bx_facts.specs.Chains.{last}
 use Rattle.bx_world.specs.Doubts.{AreOfTaken}
@@ -16,6 +18,7 @@ returns-clause-led g c = λ x tree course standing undoubted none.
       stands = by_it.0;
       doubted = subst (λ (k : Course). AreOfTaken [] (last k.register.chain).sessions k.slots k.doubts) (sym by_it.1) (doubted_none (last course.register.chain).sessions course.slots course.doubts undoubted);
       logged = λ slot one has. refl;
+      lacking = λ number. ap (λ (s : set.FinSet nat_cmp). set.contains s number) c.new-2.ensures ∙ set.contains-empty nat_cmp number;
       counted = c.requires.first;
       desks = rw (c.in_ok-desks.ensures, c.nodes.ensures) (desks_none c.args.machines.count);
       left = left_none c.args.machines.nodes.machines.items none;

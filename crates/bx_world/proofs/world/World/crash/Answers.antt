@@ -5,7 +5,8 @@ use Rattle.bx_history.specs.Along.{ends_one}
 use Rattle.bx_history.proofs.OnePart.{some_ended}
 use Rattle.bx_cluster.specs.Runs.{StepOf, rules}
 use Rattle.bx_world.specs.World.{letters_in}
-use Rattle.bx_world.proofs.Doubted.{doubted_led, logged_led, none_in, part_quiet}
+use Rattle.bx_world.proofs.Doubted.{doubted_led, logged_led, nobody_answered, none_in, part_quiet}
+use Rattle.bx_world.proofs.Lacking.{lacking_still}
 use Rattle.bx_world.proofs.Ending.{without_length}
 use Rattle.bx_world.proofs.Leading.{desks_ended, ending, left_ended}
 use Rattle.bx_world.proofs.Leads.{patient}
@@ -54,8 +55,9 @@ returns-clause-led g c = λ x first parts led.
       history = led.history;
       accounts = rw said.same.6 accounts;
       stands = behind.stands;
-      doubted = doubted_led g.G.Register g.O.Owners g.S.Store g.E.Engine old then_world x x first led.tree parts led part [] quiet behind accounts.pending (none_in _ _ _ _ _ _ _ accounts) left;
-      logged = logged_led g.G.Register g.O.Owners g.S.Store g.E.Engine old then_world x x first led.tree parts led part [] quiet behind accounts.pending (none_in _ _ _ _ _ _ _ accounts) left;
+      doubted = doubted_led g.G.Register g.O.Owners g.S.Store g.E.Engine old then_world x x first led.tree parts led part (λ number. ⊥) None [] quiet behind (λ number nobody. absurd nobody) accounts.pending (none_in _ _ _ _ _ _ _ accounts) left (nobody_answered new.nodes.machines.items);
+      logged = logged_led g.G.Register g.O.Owners g.S.Store g.E.Engine old then_world x x first led.tree parts led part (λ number. ⊥) None [] quiet behind (λ number nobody. absurd nobody) accounts.pending (none_in _ _ _ _ _ _ _ accounts) left (nobody_answered new.nodes.machines.items);
+      lacking = lacking_still parts part old.lacking refl led.lacking;
       counted = said.same.5 ∙ led.counted;
       desks = rw c.clear_at.ensures (desks_ended who old.desks.items parts None (ends_one who) (λ node. refl) led.desks);
       left = left;

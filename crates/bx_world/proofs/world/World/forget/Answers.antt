@@ -1,4 +1,4 @@
-use Rattle.std.proofs.Common.{[], refl, sym, ap, subst, filter}
+use Rattle.std.proofs.Common.{[], None, refl, sym, ap, subst, filter}
 use Rattle.bx_world_machines.specs.bx_nodes.specs.bx_node_events.proofs.Registered.{HandedLaws}
 use Rattle.bx_post.specs.Posts.{is_waiting}
 use Rattle.bx_world.specs.World.{letters_in}
@@ -27,8 +27,8 @@ returns-clause-stands g c = λ x tree course standing.
       stores_elsewhere = g.met.S.Store.elsewhere;
       stores_lose = g.met.S.Store.loses;
     } in
-    subst (λ letters. machines.StandsBehind g.G.Register g.O.Owners g.S.Store g.E.Engine course [] self.machines letters x tree) (sym (ap letters_in c.forget.ensures))
-    (subst (λ (k : Course). machines.StandsBehind g.G.Register g.O.Owners g.S.Store g.E.Engine k [] self.machines (letters_in (filter is_waiting self.post)) x tree) standing.1
+    subst (λ letters. machines.StandsBehind g.G.Register g.O.Owners g.S.Store g.E.Engine (λ number. ⊥) course None [] self.machines letters x tree) (sym (ap letters_in c.forget.ensures))
+    (subst (λ (k : Course). machines.StandsBehind g.G.Register g.O.Owners g.S.Store g.E.Engine (λ number. ⊥) k None [] self.machines (letters_in (filter is_waiting self.post)) x tree) standing.1
     (stands_fewer g.G.Register g.O.Owners g.S.Store g.E.Engine laws self.machines (letters_in self.post) (letters_in (filter is_waiting self.post)) x tree (letters_fewer self.post) standing.0))
 
 pub returns-clause-led : goal.returns-clause-led
@@ -39,6 +39,7 @@ returns-clause-led g c = λ x first parts led. let behind = returns-clause-stand
   stands = behind.stands;
   doubted = doubted_same parts c.args.self.now.machines.nodes.machines.items led.stands.course behind.stands.course behind.goes led.left led.accounts.pending behind.stands.doubts.once led.doubted;
   logged = logged_same parts c.args.self.now.machines.nodes.machines.items led.stands.course behind.stands.course behind.goes (none_in _ _ _ _ _ _ _ led.accounts) led.logged;
+  lacking = led.lacking;
   counted = led.counted;
   desks = led.desks;
   left = led.left;

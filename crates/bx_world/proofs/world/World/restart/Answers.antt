@@ -1,4 +1,4 @@
-use Rattle.std.proofs.Common.{◌≡◌, ◌∙◌, ◌++◌, List, [], Some, inl, inr, length, Err, refl, sym, ap, subst, arith}
+use Rattle.std.proofs.Common.{◌≡◌, ◌∙◌, ◌++◌, List, [], None, Some, inl, inr, length, Err, refl, sym, ap, subst, arith}
 use Rattle.std.specs.Prelude.{false, not}
 use Rattle.std.proofs.lemmas.List.{append-nil}
 use Rattle.bx_base.specs.declared.names.Actor.{Actor}
@@ -37,11 +37,12 @@ returns-in-Ok-clause-restarts g c =
       outcome_is = c.nothing.ensures;
       empties = said.empties;
       desks = refl;
+      lacking = refl;
       latest = said.same.3;
       engine = said.same.4;
       stands = λ tells may_start tree course standing.
           let none : letters_in old.post ++ c.new-out.result ≡ letters_in old.post = ap (λ (l : List Letter). letters_in old.post ++ l) c.new-out.ensures ∙ append-nil (letters_in old.post) in
-          subst (λ (l : List Letter). machines.StandsBehind g.G.Register g.O.Owners g.S.Store g.E.Engine course [] c.restart.new.self l (g.R.Rack.state c.restart.new.rack) tree)
+          subst (λ (l : List Letter). machines.StandsBehind g.G.Register g.O.Owners g.S.Store g.E.Engine (λ number. ⊥) course None [] c.restart.new.self l (g.R.Rack.state c.restart.new.rack) tree)
           (sym (ap letters_in c.in_ok-send-in-Ok.ensures.ok ∙ letters_sent old.post c.restart.new.out))
           (c.in-Ok.ensures.stands (letters_in old.post) tree course tells may_start
           (subst (λ (l : List Letter). machines.StandsBy g.G.Register g.O.Owners g.S.Store g.E.Engine course old.machines l (g.R.Rack.state c.args.rack.now) tree) (sym none) standing));
@@ -81,11 +82,12 @@ returns-in-Err-Disk-clause-restarts g c =
       outcome_is = c.stopped.ensures;
       empties = said.empties;
       desks = c.clear_at.ensures;
+      lacking = refl;
       latest = said.same.3;
       engine = said.same.4;
       stands = λ tells tree course standing.
           let none : letters_in old.post ++ c.new-out.result ≡ letters_in old.post = ap (λ (l : List Letter). letters_in old.post ++ l) c.new-out.ensures ∙ append-nil (letters_in old.post) in
-          subst (λ (l : List Letter). machines.StandsBehind g.G.Register g.O.Owners g.S.Store g.E.Engine course [] c.restart.new.self l (g.R.Rack.state c.restart.new.rack) tree) none
+          subst (λ (l : List Letter). machines.StandsBehind g.G.Register g.O.Owners g.S.Store g.E.Engine (λ number. ⊥) course None [] c.restart.new.self l (g.R.Rack.state c.restart.new.rack) tree) none
           (said.failed (letters_in old.post) tree course tells
           (subst (λ (l : List Letter). machines.StandsBy g.G.Register g.O.Owners g.S.Store g.E.Engine course old.machines l (g.R.Rack.state c.args.rack.now) tree) (sym none) standing) fails);
     })

@@ -19,6 +19,7 @@ returns-clause-led g c = λ x first parts led. let by_it = returns-clause-stands
   stands = by_it.0;
   doubted = subst (λ (k : Course). AreOfTaken parts (last k.register.chain).sessions k.slots k.doubts) (sym by_it.1) led.doubted;
   logged = subst (λ (k : Course). HavePoints parts k.logs) (sym by_it.1) led.logged;
+  lacking = led.lacking;
   counted = led.counted;
   desks = led.desks;
   left = led.left;

@@ -16,7 +16,7 @@ use Rattle.bx_world.specs.Calls.{Turns}
 use Rattle.bx_world.specs.Outcomes.{EndsSaid}
 use Rattle.bx_world.specs.World.{IsReady, StandsBy, StandsTurned, letters_in}
 use Rattle.bx_world.specs.declared.world.World.{World}
-use Rattle.bx_world.proofs.Ending.{lacking_turned, ready_said}
+use Rattle.bx_world.proofs.Ending.{lacking_turned, ready_said, without_turned}
 use Rattle.bx_world.proofs.Letters.{letters_sent}
 use Rattle.bx_world_machines.specs.Acts.{MayActAt}
 use Rattle.bx_world_machines.specs.Answering.{Answered}
@@ -45,7 +45,7 @@ module _ {G O S E T : Type 0} (g : register.Ghosts G) (o : owners.Ghosts O) (st 
       outcome_is = ends.outcome_is;
       answers = subst (λ (m : Machines G O S E T). Answered (Some reading) (Node node) old.machines.nodes.machines.items m.nodes.machines.items turn.said.items) (sym same) answers;
       desks = ends.desks;
-      lacking = lacking_turned old.lacking old.lacking new.lacking (Node node) turn outcome ends.outcome_is ends.lacking;
+      lacking = lacking_turned old.lacking old.lacking new.lacking (Node node) turn outcome ends.outcome_is (without_turned old.lacking new.lacking (Node node) turn outcome ends.outcome_is ends.lacking);
       latest = ap (λ (m : Machines G O S E T). m.latest) same ∙ latest;
       engine = ap (λ (m : Machines G O S E T). m.nodes.engine) same ∙ engine;
       leads = λ tree c. leads_then x (λ number. MayActAt old.machines.nodes.machines.items node number) turn box out ends.post empty tree c (leads tree c);

@@ -23,7 +23,7 @@ use Rattle.bx_post.specs.declared.packets.Letter.{Letter}
 use Rattle.bx_post.specs.Posts.{Posted, fresh}
 use Rattle.bx_views.specs.declared.engine.Engine as engine
 use Rattle.bx_world.specs.Going.{Says, Stops}
-use Rattle.bx_world.specs.Outcomes.{EndsSaid, EndsStopped, IsBy, answered_all, desks_said, desks_without, emptied, lacking_behind, outcome_turned, with_desk, with_taken, without}
+use Rattle.bx_world.specs.Outcomes.{EndsSaid, EndsStopped, IsBy, answered_all, desks_said, desks_without, emptied, lacking_behind, lacking_said, outcome_turned, passed, point_said, with_desk, with_taken, without}
 use Rattle.bx_world.specs.World.{IsReady, letters_in, seen}
 use Rattle.bx_world.specs.declared.world.World.{World}
 use Rattle.bx_world.proofs.Letters.{letters_sent}
@@ -108,6 +108,20 @@ none_taken lacking (Replica n) turn = refl
 none_taken lacking (Server n) turn = refl
 none_taken lacking (Member n) turn = refl
 
+without_both : (lacking : set.FinSet nat_cmp) (points more : List Point) → without lacking (points ++ more) ≡ without (without lacking points) more
+without_both lacking [] more = refl
+without_both lacking (point ∷ points) more = without_both (set.remove lacking point.call) points more
+
+-- those of which points go out lack them no more
+pub without_turned : (lacking then : set.FinSet nat_cmp) (at : Actor) (turn : Turn) (outcome : Outcome) → outcome ≡ outcome_turned lacking at turn → then ≡ lacking_said at turn lacking → then ≡ without lacking outcome.points
+without_turned lacking then at turn outcome is same = same ∙ by at ∙ ap (λ (o : Outcome). without lacking o.points) (sym is)
+  where
+    by : (who : Actor) → lacking_said who turn lacking ≡ without lacking (outcome_turned lacking who turn).points
+    by (Node n) = sym (without_both lacking (passed lacking turn.told) (map point_said turn.said.items))
+    by (Replica n) = refl
+    by (Server n) = refl
+    by (Member n) = refl
+
 -- so the calls that lack their points behind it are those before but for those whose points go out
 pub lacking_turned : (before lacking then : set.FinSet nat_cmp) (at : Actor) (turn : Turn) (outcome : Outcome) → outcome ≡ outcome_turned before at turn → then ≡ without lacking outcome.points → then ≡ lacking_behind outcome lacking
 lacking_turned before lacking then at turn outcome is same = same ∙ ap (λ (took : Option ℕ). without (with_taken took lacking) outcome.points) (sym (ap (λ (o : Outcome). o.took) is ∙ none_taken before at turn))
@@ -146,7 +160,7 @@ module _ {G O S E T : Type 0} (g : register.Ghosts G) (o : owners.Ghosts O) (st 
       outcome_is = ends.outcome_is;
       answers = subst (λ (m : Machines G O S E T). Answered reading at old.machines.nodes.machines.items m.nodes.machines.items turn.said.items) (sym same) answers;
       desks = ends.desks;
-      lacking = lacking_turned old.lacking old.lacking new.lacking at turn outcome ends.outcome_is ends.lacking;
+      lacking = lacking_turned old.lacking old.lacking new.lacking at turn outcome ends.outcome_is (without_turned old.lacking new.lacking at turn outcome ends.outcome_is ends.lacking);
       latest = ap (λ (m : Machines G O S E T). m.latest) same ∙ latest;
       engine = ap (λ (m : Machines G O S E T). m.nodes.engine) same ∙ engine;
       leads = λ tells tree c standing.

@@ -13,4 +13,4 @@ pub record IsToldSoFar (node : ℕ) (gone : List Point) (said : List Said) (firs
   pub points_are : points ++ map point_said rest ≡ gone ++ map point_said said
   pub replies_are : replies ++ map (reply_said node) rest ≡ map (reply_said node) said
   pub desk_is : all_answered desk rest ≡ all_answered first said
-  pub lacking_is : lacking ≡ without lacked points
+  pub lacking_is : without lacking (map point_said rest) ≡ without (without lacked gone) (map point_said said)

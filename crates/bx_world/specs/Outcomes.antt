@@ -66,6 +66,13 @@ outcome_turned lacking (Replica n) turn = nothing
 outcome_turned lacking (Server n) turn = nothing
 outcome_turned lacking (Member n) turn = nothing
 
+-- the calls that lack their points then: those of which a point goes out, and those that are answered, don't
+abbrev pub lacking_said : Actor → Turn → set.FinSet nat_cmp → set.FinSet nat_cmp
+lacking_said (Node n) turn lacking = without (without lacking (passed lacking turn.told)) (map point_said turn.said.items)
+lacking_said (Replica n) turn lacking = lacking
+lacking_said (Server n) turn lacking = lacking
+lacking_said (Member n) turn lacking = lacking
+
 -- a desk once these calls are answered, and the desks of all nodes
 abbrev pub all_answered : AtDesk → List Said → AtDesk
 all_answered desk [] = desk
@@ -101,7 +108,7 @@ pub record EndsSaid (at : Actor) (turn : Turn) (out : List Letter) (old_post new
   pub outcome_is : outcome ≡ outcome_turned old_lacking at turn
   pub post : new_post ≡ old_post ++ map fresh out
   pub desks : new_desks ≡ desks_said at turn.said.items old_desks
-  pub lacking : new_lacking ≡ without old_lacking outcome.points
+  pub lacking : new_lacking ≡ lacking_said at turn old_lacking
 
 pub record EndsStopped (at : Actor) (old_post new_post : List Posted) (old_desks new_desks : List AtDesk) (old_lacking new_lacking : set.FinSet nat_cmp) (outcome : Outcome) : Type 0 where
   pub outcome_is : outcome ≡ stopped_at at

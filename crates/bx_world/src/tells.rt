@@ -1,7 +1,7 @@
 //! What comes of an event is told.
 
 ghost use Rattle.std.specs.Prelude.{◌≡◌, ◌<◌, ◌++◌, None, map, length, IfOk, OnOk};
-ghost use Rattle.bx_world.specs.Outcomes.{IsBy, all_answered, desks_said, desks_without, nothing, outcome_turned, passed, point_said, reply_said, stopped_at, without};
+ghost use Rattle.bx_world.specs.Outcomes.{IsBy, all_answered, desks_said, desks_without, lacking_said, nothing, outcome_turned, passed, point_said, reply_said, stopped_at, without};
 
 use bx_base::{Actor, List, OutOfMemory, Point, Raw};
 use bx_cluster::{Calls, Outcome, ReplyOut};
@@ -54,7 +54,7 @@ pub(crate) fn told(
     requires by { IsBy (length desks.old.items) at turn }
     ensures outcome { IfOk result (λ outcome. outcome ≡ outcome_turned lacking.old at turn) }
     ensures desks { OnOk result (desks.new.items ≡ desks_said at turn.said.items desks.old.items) }
-    ensures lacking { IfOk result (λ outcome. lacking.new ≡ without lacking.old outcome.points) }
+    ensures lacking { OnOk result (lacking.new ≡ lacking_said at turn lacking.old) }
 {
     match at {
         Actor::Node(node) => told_by(alloc, &mut desks[node as usize], lacking, node, turn),
@@ -74,7 +74,7 @@ fn told_by(
     ensures replies { IfOk result (λ outcome. outcome.replies ≡ map (reply_said node) turn.said.items) }
     ensures alone { IfOk result (λ outcome. (outcome.took ≡ None) × (outcome.again ≡ None) × (outcome.stopped ≡ None)) }
     ensures desk { OnOk result (desk.new ≡ all_answered desk.old turn.said.items) }
-    ensures lacking { IfOk result (λ outcome. lacking.new ≡ without lacking.old outcome.points) }
+    ensures lacking { OnOk result (lacking.new ≡ without (without lacking.old (passed lacking.old turn.told)) (map point_said turn.said.items)) }
 {
     let mut points: Vec<Point> = Vec::new(alloc);
     let mut replies: Vec<ReplyOut> = Vec::new(alloc);

@@ -2,7 +2,8 @@ use Rattle.std.proofs.Common.{◌≡◌, ◌∙◌, ◌≤◌, ◌++◌, Contain
 use Rattle.std.specs.Prelude.{IsSomeAnd, true}
 use Rattle.std.specs.Option.{option_copied}
 use Rattle.std.proofs.lemmas.List.{append-nil}
-use Rattle.bx_world_machines.specs.bx_node_calls.proofs.Found.{if_ok_with}
+use Rattle.bx_world_machines.specs.Answering.{IsByNode}
+use Rattle.bx_world_machines.specs.bx_node_calls.proofs.Found.{if_ok_both, if_ok_with}
 use Rattle.bx_world_machines.specs.bx_nodes.proofs.Machines.{if_ok_so}
 use Rattle.bx_world_machines.specs.bx_nodes.specs.bx_node_events.proofs.Registered.{HandedLaws}
 use Rattle.bx_post.specs.declared.packets.Letter.{Letter}
@@ -25,9 +26,9 @@ end-requires g c =
     let found : packet_from 1 c.args.number old.post ≡ Some c.in-Some.packet.now = sym c.packet.ensures ∙ ap option_copied c.in-Some.is in
     let up = subst (λ f. IsSomeAnd f (λ packet. is_up old.machines.up.items packet.to ≡ true)) found c.requires.up in
     record {
-      by = if_ok_so _ _ c.hear-heard.result
-          (λ said is. said_by (Some c.args.reading) at old.machines.nodes.machines.items c.hear-heard.new.self.nodes.machines.items said.items _ _ _ (ready.machines.are_ready.there at up) ready.desks is)
-          c.hear-heard.ensures.answers;
+      by = if_ok_both _ (IsByNode at) _ c.hear-heard.result
+          (λ turn is told. said_by (Some c.args.reading) at old.machines.nodes.machines.items c.hear-heard.new.self.nodes.machines.items turn _ _ _ (ready.machines.are_ready.there at up) ready.desks told is)
+          c.hear-heard.ensures.answers c.hear-heard.ensures.told;
     }
 
 pub returns-clause-shows : goal.returns-clause-shows
@@ -40,7 +41,7 @@ returns-clause-shows g c =
     let at = c.in-Some.packet.now.to in
     let event = Deliver c.args.reading c.args.number in
     ended c.hear-heard.result c.end.result _ _ _ c.end.ensures.said c.end.ensures.stopped c.end.ensures.memory
-    (λ items is outcome ends. shows_said g.G.Register g.O.Owners g.S.Store g.E.Engine old new heard same at c.settle.new.self items.items _ outcome ends event c.settle.ensures refl (at_ok _ c.hear-heard.result items said.up is) said.clock said.same.1 said.same.2)
+    (λ turn is outcome ends. shows_said g.G.Register g.O.Owners g.S.Store g.E.Engine old new heard same at c.settle.new.self turn _ outcome ends event c.settle.ensures refl (at_ok _ c.hear-heard.result turn said.up is) said.clock said.same.1 said.same.2)
     (λ fails outcome ends. shows_stopped g.G.Register g.O.Owners g.S.Store g.E.Engine old new heard same at c.settle.new.self outcome ends event c.settle.ensures refl (said.down fails) said.clock said.same.1 said.same.2)
 
 pub returns-clause-ready : goal.returns-clause-ready
@@ -53,7 +54,7 @@ returns-clause-ready g c = λ sizes is_ready.
     let at = c.in-Some.packet.now.to in
     let less : heard.latest ≤ new.events = rw (said.same.3, c.end.ensures.same.1) is_ready.counted in
     ended c.hear-heard.result c.end.result _ _ _ c.end.ensures.said c.end.ensures.stopped c.end.ensures.memory
-    (λ items is outcome ends. ready_said g.G.Register g.O.Owners g.S.Store g.E.Engine old new heard same at c.settle.new.self items.items _ outcome ends sizes (said.ready sizes is_ready.machines (λ fails. absurd (let wrong = sym is ∙ fails in cc))) said.same.1 is_ready.desks less)
+    (λ turn is outcome ends. ready_said g.G.Register g.O.Owners g.S.Store g.E.Engine old new heard same at c.settle.new.self turn _ outcome ends sizes (said.ready sizes is_ready.machines (λ fails. absurd (let wrong = sym is ∙ fails in cc))) said.same.1 is_ready.desks less)
     (λ fails outcome ends. ready_stopped g.G.Register g.O.Owners g.S.Store g.E.Engine old new heard same at c.settle.new.self outcome ends sizes (said.ready sizes is_ready.machines (λ other. absurd (let wrong = sym fails ∙ other in cc))) said.same.1 is_ready.desks less)
 
 pub returns-clause-went : goal.returns-clause-went
@@ -74,11 +75,11 @@ returns-clause-went g c =
     let comes : Contains (letters_in old.post ++ c.new-out.result) (letter_of packet) = subst (λ l. Contains l (letter_of packet)) (sym (ap (λ l. letters_in old.post ++ l) c.new-out.ensures ∙ append-nil (letters_in old.post))) (letter_there 1 c.args.number old.post packet found) in
     subst (λ f. IsSomeAnd f (λ packet. IfOk c.end.result (Went g.G.Register g.O.Owners g.S.Store g.E.Engine (Some c.args.reading) packet.to old new (g.R.Rack.tells c.args.rack.now) x y))) (sym found)
     (ended c.hear-heard.result c.end.result _ _ _ c.end.ensures.said c.end.ensures.stopped c.end.ensures.memory
-    (λ items is outcome ends.
-    let answers = at_ok _ c.hear-heard.result items said.answers is in
-    inl (says_then g.G.Register g.O.Owners g.S.Store g.E.Engine old new heard same at c.settle.new.self items.items _ outcome ends (Some c.args.reading) (g.R.Rack.tells c.args.rack.now) x y c.new-out.result
-    (said_by (Some c.args.reading) at old.machines.nodes.machines.items heard.nodes.machines.items items.items _ _ _ (ready.machines.are_ready.there at up) ready.desks answers)
-    letters c.new-out.ensures answers said.same.3 said.same.4 (λ tells tree course standing. at_ok _ c.hear-heard.result items (said.stands (letters_in old.post) tree course tells comes standing) is)))
+    (λ turn is outcome ends.
+    let answers = at_ok _ c.hear-heard.result turn said.answers is in
+    inl (says_then g.G.Register g.O.Owners g.S.Store g.E.Engine old new heard same at c.settle.new.self turn _ outcome ends (Some c.args.reading) (g.R.Rack.tells c.args.rack.now) x y c.new-out.result
+    (said_by (Some c.args.reading) at old.machines.nodes.machines.items heard.nodes.machines.items turn _ _ _ (ready.machines.are_ready.there at up) ready.desks (at_ok _ c.hear-heard.result turn said.told is) answers)
+    letters c.new-out.ensures answers said.same.3 said.same.4 (λ tells tree course standing. at_ok _ c.hear-heard.result turn (said.stands (letters_in old.post) tree course tells comes standing) is)))
     (λ fails outcome ends.
     inr (stops_then g.G.Register g.O.Owners g.S.Store g.E.Engine old new heard same at c.settle.new.self outcome ends (g.R.Rack.tells c.args.rack.now) x y c.new-out.result letters c.new-out.ensures (said.empties fails) said.same.3 said.same.4
     (λ tells tree course standing. said.stopped (letters_in old.post) tree course tells comes standing fails))))

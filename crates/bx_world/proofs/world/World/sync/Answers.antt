@@ -1,5 +1,6 @@
 use Rattle.std.proofs.Common.{◌≤◌, ◌∙◌, None, refl, sym, inl, inr, ap}
-use Rattle.bx_world_machines.specs.bx_node_calls.proofs.Found.{if_ok_with}
+use Rattle.bx_world_machines.specs.Answering.{IsByNode}
+use Rattle.bx_world_machines.specs.bx_node_calls.proofs.Found.{if_ok_both, if_ok_with}
 use Rattle.bx_world_machines.specs.bx_nodes.proofs.Machines.{if_ok_so}
 use Rattle.bx_world_machines.specs.bx_nodes.specs.bx_node_events.proofs.Registered.{HandedLaws}
 use Rattle.bx_world.specs.World.{letters_in}
@@ -14,9 +15,9 @@ end-requires g c =
     let old = c.args.self.now in
     let ready = c.requires.ready in
     record {
-      by = if_ok_so _ _ c.hear-heard.result
-          (λ said is. said_by None c.args.at old.machines.nodes.machines.items c.hear-heard.new.self.nodes.machines.items said.items _ _ _ (ready.machines.are_ready.there c.args.at c.requires.up) ready.desks is)
-          c.hear-heard.ensures.answers;
+      by = if_ok_both _ (IsByNode c.args.at) _ c.hear-heard.result
+          (λ turn is told. said_by None c.args.at old.machines.nodes.machines.items c.hear-heard.new.self.nodes.machines.items turn _ _ _ (ready.machines.are_ready.there c.args.at c.requires.up) ready.desks told is)
+          c.hear-heard.ensures.answers c.hear-heard.ensures.told;
     }
 
 pub returns-clause-shows : goal.returns-clause-shows
@@ -27,7 +28,7 @@ returns-clause-shows g c =
     let said = c.hear-heard.ensures in
     let same = c.end.ensures.same.0 in
     ended c.hear-heard.result c.end.result _ _ _ c.end.ensures.said c.end.ensures.stopped c.end.ensures.memory
-    (λ items is outcome ends. shows_said g.G.Register g.O.Owners g.S.Store g.E.Engine old new heard same c.args.at old.post items.items _ outcome ends (Sync c.args.at) refl refl (at_ok _ c.hear-heard.result items said.up is) said.clock said.same.1 said.same.2)
+    (λ turn is outcome ends. shows_said g.G.Register g.O.Owners g.S.Store g.E.Engine old new heard same c.args.at old.post turn _ outcome ends (Sync c.args.at) refl refl (at_ok _ c.hear-heard.result turn said.up is) said.clock said.same.1 said.same.2)
     (λ fails outcome ends. shows_stopped g.G.Register g.O.Owners g.S.Store g.E.Engine old new heard same c.args.at old.post outcome ends (Sync c.args.at) refl refl (said.down fails) said.clock said.same.1 said.same.2)
 
 pub returns-clause-ready : goal.returns-clause-ready
@@ -39,7 +40,7 @@ returns-clause-ready g c = λ sizes is_ready.
     let same = c.end.ensures.same.0 in
     let less : heard.latest ≤ new.events = rw (said.same.3, c.end.ensures.same.1) is_ready.counted in
     ended c.hear-heard.result c.end.result _ _ _ c.end.ensures.said c.end.ensures.stopped c.end.ensures.memory
-    (λ items is outcome ends. ready_said g.G.Register g.O.Owners g.S.Store g.E.Engine old new heard same c.args.at old.post items.items _ outcome ends sizes (said.ready sizes is_ready.machines (λ fails. absurd (let wrong = sym is ∙ fails in cc))) said.same.1 is_ready.desks less)
+    (λ turn is outcome ends. ready_said g.G.Register g.O.Owners g.S.Store g.E.Engine old new heard same c.args.at old.post turn _ outcome ends sizes (said.ready sizes is_ready.machines (λ fails. absurd (let wrong = sym is ∙ fails in cc))) said.same.1 is_ready.desks less)
     (λ fails outcome ends. ready_stopped g.G.Register g.O.Owners g.S.Store g.E.Engine old new heard same c.args.at old.post outcome ends sizes (said.ready sizes is_ready.machines (λ other. absurd (let wrong = sym fails ∙ other in cc))) said.same.1 is_ready.desks less)
 
 pub returns-clause-went : goal.returns-clause-went
@@ -53,11 +54,11 @@ returns-clause-went g c =
     let x = g.R.Rack.state c.args.rack.now in
     let y = g.R.Rack.state c.hear-heard.new.rack in
     ended c.hear-heard.result c.end.result _ _ _ c.end.ensures.said c.end.ensures.stopped c.end.ensures.memory
-    (λ items is outcome ends.
-    let answers = at_ok _ c.hear-heard.result items said.answers is in
-    inl (says_then g.G.Register g.O.Owners g.S.Store g.E.Engine old new heard same c.args.at old.post items.items _ outcome ends None (g.R.Rack.tells c.args.rack.now) x y c.new-out.result
-    (said_by None c.args.at old.machines.nodes.machines.items heard.nodes.machines.items items.items _ _ _ (ready.machines.are_ready.there c.args.at c.requires.up) ready.desks answers)
-    refl c.new-out.ensures answers said.same.3 said.same.4 (λ tells tree course standing. at_ok _ c.hear-heard.result items (said.stands (letters_in old.post) tree course tells tt standing) is)))
+    (λ turn is outcome ends.
+    let answers = at_ok _ c.hear-heard.result turn said.answers is in
+    inl (says_then g.G.Register g.O.Owners g.S.Store g.E.Engine old new heard same c.args.at old.post turn _ outcome ends None (g.R.Rack.tells c.args.rack.now) x y c.new-out.result
+    (said_by None c.args.at old.machines.nodes.machines.items heard.nodes.machines.items turn _ _ _ (ready.machines.are_ready.there c.args.at c.requires.up) ready.desks (at_ok _ c.hear-heard.result turn said.told is) answers)
+    refl c.new-out.ensures answers said.same.3 said.same.4 (λ tells tree course standing. at_ok _ c.hear-heard.result turn (said.stands (letters_in old.post) tree course tells tt standing) is)))
     (λ fails outcome ends.
     inr (stops_then g.G.Register g.O.Owners g.S.Store g.E.Engine old new heard same c.args.at old.post outcome ends (g.R.Rack.tells c.args.rack.now) x y c.new-out.result refl c.new-out.ensures (said.empties fails) said.same.3 said.same.4
     (λ tells tree course standing. said.stopped (letters_in old.post) tree course tells tt standing fails)))

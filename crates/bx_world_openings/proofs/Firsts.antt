@@ -8,7 +8,7 @@ use Rattle.bx_cluster_parts.specs.Made.{made_by}
 use Rattle.bx_facts.proofs.Lists.{nothing}
 use Rattle.bx_facts.specs.Writes.{store_room}
 use Rattle.bx_format.specs.Formats.{HasSizes}
-use Rattle.bx_closings.specs.bx_world.specs.bx_node_calls.specs.Waits.{AreTold, NoneWaits}
+use Rattle.bx_closings.specs.bx_world.specs.bx_node_calls.specs.Waits.{HaveCome, NoneWaits}
 use Rattle.bx_node_steps.specs.Calls.{AreApart, CallOf, WaitsAt}
 use Rattle.bx_node_steps.specs.declared.machine.Machine.{Machine}
 use Rattle.bx_closings.specs.bx_world.specs.bx_nodes.specs.Opening.{IsFirst}
@@ -45,8 +45,8 @@ pub are_apart : (devices areas : ℕ) (found : Option Machine) → IfSome found 
 are_apart devices areas None is = tt
 are_apart devices areas (Some machine) is = is.apart
 
-pub none_told : (all : List Machine) → AreTold 0 all no_logs
-none_told all = record { came = λ slot one has. absurd (nothing one has); none = λ slot one node call has waits. absurd (nothing one has) }
+pub none_came : HaveCome 0 no_logs
+none_came = record { came = λ slot one has. absurd (nothing one has) }
 
 -- ---- sizes
 

@@ -43,4 +43,4 @@ returns-clause-room g c = record {
 }
 
 pub returns-clause-events : goal.returns-clause-events
-returns-clause-events g c = c.in_ok-world.ensures.begins.3
+returns-clause-events g c = c.in_ok-world.ensures.begins.4

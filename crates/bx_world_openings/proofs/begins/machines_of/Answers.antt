@@ -7,7 +7,7 @@ use Rattle.bx_node_steps.specs.Seen.{seen}
 use Rattle.bx_closings.specs.bx_world.specs.bx_nodes.specs.bx_world_stays.proofs.Begins.{opening_course}
 use Rattle.bx_places.specs.Places.{IsVolume}
 use Rattle.bx_truth.specs.Opening.{opening_truth}
-use Rattle.bx_world_openings.proofs.Firsts.{are_apart, has_nothing, member_long, none_logged, none_told, none_wait, replica_long}
+use Rattle.bx_world_openings.proofs.Firsts.{are_apart, has_nothing, member_long, none_came, none_logged, none_wait, replica_long}
 use Rattle.bx_world_openings.proofs.begins.machines_of.Goals as goal
 
 pub returns-clause-stands : goal.returns-clause-stands
@@ -20,7 +20,7 @@ returns-clause-stands c = λ x held new rests.
     let began = laws.stands x s held opening_truth tree (seen c.in_ok-machines.machines.items) none_logged new (rw c.requires.made.0 rests) laws.opening c.in_ok-machines.ensures.seen in
     let course = opening_course s held none_logged opening_truth in (
       course,
-      c.in_ok-all.ensures.stands [] x course tree (rw (parts.0, parts.1, parts.2, parts.3, c.new-nodes.ensures.machines) began) (none_told c.new-nodes.result.machines.items) (λ session. refl) c.requires.state,
+      c.in_ok-all.ensures.stands [] x course tree (rw (parts.0, parts.1, parts.2, parts.3, c.new-nodes.ensures.machines) began) none_came (λ session. refl) c.requires.state,
       λ session. refl,
     )
 

@@ -25,7 +25,7 @@ first_is x y xs ys e = cc
 -- a text begins with one line
 one_first : (text : List ℕ) (a b : Line) (a_rest b_rest : List ℕ) → HasPlace true a → HasPlace true b → BeginsWith text (spelling a) a_rest → BeginsWith text (spelling b) b_rest → a ≡ b
 one_first text a b a_rest b_rest a_place b_place a_begins b_begins =
-    spelling_injective a b a_place.0.0 b_place.0.0
+    spelling_injective a b a_place.0 b_place.0
     (first_is (spelling a) (spelling b) (lines_of a_rest) (lines_of b_rest) (sym (lines_of-begins text (spelling a) a_rest a_begins) ∙ lines_of-begins text (spelling b) b_rest b_begins))
 
 module _ (volume nodes devices areas : ℕ) where

@@ -151,8 +151,8 @@ module _ {C R : Type 0} (seen_of : C → Seen) (led_of : C → Disks → Tree �
       headed = omega arith;
       are_done = done_weaker Was Now goes_on (line ∷ done) (allowed, reached.are_done);
       shows = record {
-        nodes = laws.nodes old.held done line (seen_of old.cluster) (seen_of new.cluster) is_done.goes.steps place.0.1 is_done.goes.is reached.shows.nodes;
-        devices = many.devices ∙ reached.shows.devices ∙ sym (devices_same line done place.0.1);
+        nodes = laws.nodes old.held done line (seen_of old.cluster) (seen_of new.cluster) is_done.goes.steps place.1 is_done.goes.is reached.shows.nodes;
+        devices = many.devices ∙ reached.shows.devices ∙ sym (devices_same line done place.1);
         clock = is_done.clock ∙ ap (greatest_reading (reading_of line)) reached.shows.clock;
         down = λ who there is. laws.least old.held line (seen_of old.cluster) (seen_of new.cluster) is_done.goes.steps who (is_down_after done who) is_done.goes.is
             (there_before _ _ who many there) (λ was. reached.shows.down who (there_before _ _ who many there) was) is;

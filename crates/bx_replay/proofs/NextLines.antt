@@ -22,7 +22,7 @@ refused_too_long text most number e long =
       found.1,
       ap lines_of long.parts ∙ found.2,
       inr (λ value place same.
-          let short = short_spelling value place.0.0 in
+          let short = short_spelling value place.0 in
           let len : length found.0 ≡ length (spelling value) = ap length same in
           let longer = long.longer in
           omega (arith, found.3)),

@@ -9,7 +9,7 @@ use Rattle.bx_opens.specs.bx_cluster.specs.Steps.{greatest_reading}
 use Rattle.bx_schedule.specs.Placing.{is_down_after, nodes_after}
 use Rattle.bx_script.specs.Schedule.{HasPlace, reading_of}
 use Rattle.bx_script.specs.declared.line.Line.{Line}
-use Rattle.bx_script.specs.declared.line.Line.TheVariants.{Heading, Call, Tick, Deliver, Next, Sync, Hold, Free, Drop, Crash, CrashAll, Restart, RestartAll, Blank}
+use Rattle.bx_script.specs.declared.line.Line.TheVariants.{Heading, Call, Tick, Deliver, Next, Sync, Hold, Free, Drop, Crash, Restart, Blank}
 use Rattle.bx_stops.specs.declared.stop.Reason.{Reason}
 use Rattle.bx_stops.specs.declared.stop.Reason.TheVariants.{Grammar, NoMachine, ClockBack, NoPacket, Up, Down, NothingToSync, StillNeeded}
 

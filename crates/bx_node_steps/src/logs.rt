@@ -30,7 +30,7 @@ impl Machine {
         ensures { IfOk result (λ step. LogGoes self.old self.new step.runs step.said) }
     {
         match self.stage {
-            Stage::Idle => Ok(LogStep {
+            Stage::Idle | Stage::Recovers(_) => Ok(LogStep {
                 runs: None,
                 said: None,
             }),

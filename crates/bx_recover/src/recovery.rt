@@ -106,6 +106,14 @@ impl Recovery {
         }
     }
 
+    /// Whether the run of its records was read.
+    pub fn has_run(&self) -> bool {
+        match self.stage {
+            Stage::Begins | Stage::Gates | Stage::Settles(_) | Stage::Bodies(_) => false,
+            Stage::Told | Stage::Homes | Stage::Closes | Stage::Shuts | Stage::Closed => true,
+        }
+    }
+
     /// The gates came: they are written back.
     fn take_gates(&mut self, bytes: &[u8]) -> Result<Move, OutOfMemory>
         requires { self.old.stage ≡ stages.Gates }

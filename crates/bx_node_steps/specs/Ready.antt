@@ -13,6 +13,7 @@ abbrev pub FitsFetch : ℕ → Option Asked → Fetch → Type 0
 FitsFetch areas asked fetches.Nothing = asked ≡ None
 FitsFetch areas asked (fetches.Block block mode) = IsBlock areas block × IsSome asked
 FitsFetch areas asked fetches.Dropped = IsSome asked
+FitsFetch areas asked fetches.Recovery = IsSome asked
 
 -- A node may use its parts, whatever its session: its cache is of the volume that the store is made for, and so is its engine, with so many areas; its log has a
 -- slot, on that slot's device, and room for what it does, which goes with what it is for; and what it reads fits what it asked the store for.

@@ -112,7 +112,7 @@ impl Machine {
         ensures session { result.session ≡ None }
         ensures cache { result.cache ≡ record { devices = devices; areas = areas; kept = []; hinted = [] } }
         ensures log { result.log ≡ closed_log 0 0 }
-        ensures idle { (result.stage ≡ Idle) × (result.fetch ≡ Nothing) }
+        ensures idle { (result.stage ≡ Idle) × (result.fetch ≡ Nothing) × (result.finished.items ≡ []) }
         ensures calls { (result.calls.items ≡ []) × (result.mark ≡ None) }
         ensures tidy { (result.ticks ≡ 0) × (result.tidy ≡ None) }
     {

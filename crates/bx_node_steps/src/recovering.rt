@@ -1,5 +1,11 @@
 //! The recovery of the log of a session that is dead.
 
+ghost use Rattle.std.specs.Prelude.{◌≡◌, ◌<◌, Option, IfOk, OnErr, OnOk, option_map};
+ghost use Rattle.std.specs.Option.{option_copied};
+ghost use Rattle.bx_node_steps.specs.Recoveries.{EndsRecovery, RecoversOn, begun, gone_in, is_claimed, is_one_of, read_of, recovery_in, to_claim, to_close, to_recover};
+ghost use Rattle.bx_node_steps.specs.declared.machine.Recovering.{Recovering};
+ghost use Rattle.bx_node_steps.specs.declared.machine.Stage.TheVariants as stages;
+
 use crate::machine::{Fetch, Machine, Recovering, Stage};
 use bx_base::{OutOfMemory, Raw};
 use bx_recover::{Move, Recovery};
@@ -8,7 +14,9 @@ use std::alloc::Global;
 
 impl Machine {
     /// The session whose log it recovers, where it does.
-    pub fn recovers(&self) -> Option<u64> {
+    pub fn recovers(&self) -> Option<u64>
+        ensures { result ≡ gone_in self.now.stage }
+    {
         match &self.stage {
             Stage::Recovers(recovering) => Some(recovering.gone),
             Stage::Idle | Stage::Records(_) | Stage::Homes | Stage::Closes => None,
@@ -16,15 +24,25 @@ impl Machine {
     }
 
     /// The session whose log it recovers, once the run of that log was read.
-    pub fn has_read(&self) -> Option<u64> {
+    pub fn has_read(&self) -> Option<u64>
+        ensures { result ≡ read_of (recovery_in self.now.stage) }
+    {
         match &self.stage {
-            Stage::Recovers(recovering) if recovering.recovery.has_run() => Some(recovering.gone),
-            _ => None,
+            Stage::Recovers(recovering) => {
+                if recovering.recovery.has_run() {
+                    return Some(recovering.gone);
+                }
+                None
+            }
+            Stage::Idle | Stage::Records(_) | Stage::Homes | Stage::Closes => None,
         }
     }
 
-    /// Begins to recover the log of a session, by its row. It takes no memory.
-    pub fn begin_recovery(&mut self, alloc: Global, row: SessionRow) {
+    /// Begins to recover the log of a session, by its row, where its own log rests. It takes no memory.
+    pub fn begin_recovery(&mut self, alloc: Global, row: SessionRow)
+        requires slot { row.slot < 8 }
+        ensures { self.new ≡ begun self.old row }
+    {
         let (devices, areas) = self.cache.volume();
         self.stage = Stage::Recovers(Recovering {
             gone: row.number,
@@ -37,7 +55,11 @@ impl Machine {
         &mut self,
         arrived: Option<&Raw>,
         done: bool,
-    ) -> Result<Move, OutOfMemory> {
+    ) -> Result<Move, OutOfMemory>
+        requires recovers { (recovering : Recovering) × (self.old.stage ≡ stages.Recovers recovering) }
+        ensures steps { IfOk result (RecoversOn (option_copied arrived) done self.old self.new) }
+        ensures spends { OnErr result (self.new ≡ self.old) }
+    {
         let Stage::Recovers(recovering) = &mut self.stage else {
             unreachable!();
         };
@@ -51,47 +73,68 @@ impl Machine {
         Ok(said)
     }
 
-    /// Ends its recovery, all of whose gates are closed: it never recovers that log again under this session. Where memory runs out, nothing changes.
-    pub fn end_recovery(&mut self, gone: u64) -> Result<(), OutOfMemory> {
+    /// Ends its recovery, all of whose gates are closed, and says which session's log it was of: it never recovers that again under its own session. Where memory runs out, nothing changes.
+    pub fn end_recovery(&mut self) -> Result<u64, OutOfMemory>
+        requires recovers { (recovering : Recovering) × (self.old.stage ≡ stages.Recovers recovering) }
+        ensures ends { IfOk result (EndsRecovery self.old self.new) }
+        ensures spends { OnErr result (self.new ≡ self.old) }
+    {
+        let Stage::Recovers(recovering) = &self.stage else {
+            unreachable!();
+        };
+        let gone = recovering.gone;
         self.finished.push(gone)?;
         self.stage = Stage::Idle;
-        Ok(())
-    }
-
-    /// Whether it finished the recovery of a session's log.
-    fn has_finished(&self, session: u64) -> bool {
-        self.finished.iter().any(|one| *one == session)
+        Ok(gone)
     }
 
     /// The first of these rows that is dead, that a session claimed, and whose log isn't recovered yet.
-    pub fn to_recover(&self, rows: &[SessionRow], own: u64) -> Option<SessionRow> {
-        let (first, rest) = rows.split_first()?;
-        if is_claimed(first, own) && !self.has_finished(first.number) {
-            return Some(*first);
+    pub fn to_recover(&self, rows: &[SessionRow], own: u64) -> Option<SessionRow>
+        ensures { result ≡ to_recover own self.now.finished.items rows.now }
+    {
+        for row in rows {
+            if is_claimed(row, own) && !self.has_finished(row.number) {
+                return Some(*row);
+            }
         }
-        self.to_recover(rest, own)
+        None
     }
 
-    /// The first of these rows that is dead, that a session claimed, and whose recovery is finished.
-    pub fn to_close(&self, rows: &[SessionRow], own: u64) -> Option<u64> {
-        let (first, rest) = rows.split_first()?;
-        if is_claimed(first, own) && self.has_finished(first.number) {
-            return Some(first.number);
+    /// The first of the sessions with these rows that is dead, that a session claimed, and whose recovery is finished: it is to be closed.
+    pub fn to_close(&self, rows: &[SessionRow], own: u64) -> Option<u64>
+        ensures { result ≡ option_map (λ row. row.number) (to_close own self.now.finished.items rows.now) }
+    {
+        for row in rows {
+            if is_claimed(row, own) && self.has_finished(row.number) {
+                return Some(row.number);
+            }
         }
-        self.to_close(rest, own)
+        None
+    }
+
+    /// Whether it finished the recovery of a session's log.
+    fn has_finished(&self, session: u64) -> bool
+        ensures { result ≡ is_one_of self.now.finished.items session }
+    {
+        self.finished.iter().any(|one| *one == session)
     }
 }
 
-/// Whether a row is dead, and this session claimed it.
-fn is_claimed(row: &SessionRow, own: u64) -> bool {
+/// Whether a row is of a session that is dead, and this one claimed it.
+fn is_claimed(row: &SessionRow, own: u64) -> bool
+    ensures { result ≡ is_claimed own row.now }
+{
     row.dead == 1 && row.by == own
 }
 
-/// The first of these rows that is dead and that no session claimed which lives by all rows.
-pub fn to_claim(rows: &[SessionRow], all: &[SessionRow]) -> Option<u64> {
-    let (first, rest) = rows.split_first()?;
-    if first.dead == 1 && !is_live(all, first.by) {
-        return Some(first.number);
+/// The first of the sessions with these rows that is dead, and that none has claimed which lives: it is to be claimed.
+pub fn to_claim(rows: &[SessionRow]) -> Option<u64>
+    ensures { result ≡ option_map (λ row. row.number) (to_claim rows.now) }
+{
+    for row in rows {
+        if row.dead == 1 && !is_live(rows, row.by) {
+            return Some(row.number);
+        }
     }
-    to_claim(rest, all)
+    None
 }

@@ -79,11 +79,7 @@ impl<G: Register, O: Owners, S: Store, E: Engine> Nodes<G, O, S, E> {
         session: u64,
         out: &mut Outbox,
     ) -> Result<(), OutOfMemory> {
-        let place = node as usize;
-        let Some(gone) = self.machines[place].recovers() else {
-            return Ok(());
-        };
-        self.machines[place].end_recovery(gone)?;
+        let gone = self.machines[node as usize].end_recovery()?;
         self.propose(
             node,
             Some(Change::Close {
@@ -117,7 +113,7 @@ impl<G: Register, O: Owners, S: Store, E: Engine> Nodes<G, O, S, E> {
         if machine.recovers().is_some() || machine.to_recover(rows, own).is_some() {
             return None;
         }
-        let dead = to_claim(rows, rows)?;
+        let dead = to_claim(rows)?;
         Some(Change::Claim { dead, by: own })
     }
 

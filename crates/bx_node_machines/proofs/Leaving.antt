@@ -70,11 +70,13 @@ module _ (devices areas : ℕ) (Touches : ℕ → ℕ → Type 0) (Sure Sure_the
     away is.5,
   )
   work_stays words.Closes is = (is.0, is.1, leaves.of_slot.slots ∙ is.2, leaves.writing (writes machine.log machine.log.work).1 (may.of_log is.2) is.3, leaves.of_slot.doubts ∙ is.4, is.5)
+  work_stays (words.Recovers gone view) is = absurd is
 
   fetch_stays : (fetch : Fetch) → IsFetching devices areas Reads old node session fetch → IsFetching devices areas Reads_then new node session fetch
   fetch_stays words.Nothing none = leaves.none_asked none
   fetch_stays (words.Block block mode) is = leaves.reads block mode is
   fetch_stays words.Dropped is = is
+  fetch_stays words.OfLog is = is
 
   pub about_stays : IsAbout devices areas Sure Reads old node session slot machine → IsAbout devices areas Sure_then Reads_then new node session slot machine
   about_stays is = record {

@@ -28,6 +28,7 @@ module _ (devices areas : ℕ) (Reads Reads_then : ℕ → List ℕ → Type 0) 
     asked = ⊎_elim (λ none. inl (asked ∙ none)) (λ some. inr (asked ∙ some.0, λ i few. on block is.is is.unlogged i few some.0 (some.1 i few))) is.asked;
   }
   fetching words.Dropped holds unlogged unwritten on is = is
+  fetching words.OfLog holds unlogged unwritten on is = is
 
 module _ (devices areas : ℕ) (Touches : ℕ → ℕ → Type 0) (Sure Sure_then : ℕ → ℕ → List ℕ → Type 0) (Reads Reads_then : ℕ → List ℕ → Type 0) (old new : Scene) (node session slot : ℕ)
     (of_slot : LeavesSlot old new session slot)

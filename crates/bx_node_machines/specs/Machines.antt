@@ -5,6 +5,7 @@ use Rattle.bx_base.specs.declared.names.Point.{Point}
 use Rattle.bx_disk.specs.Disks.{Image}
 use Rattle.bx_facts.specs.Holds.{Holds}
 use Rattle.bx_facts.specs.Writes.{Asked, Sent, WritesIn}
+use Rattle.bx_recover.specs.Recovering.{RecoveryView}
 use Rattle.bx_places.specs.Places.{IsBlock, block_place, log_device}
 use Rattle.bx_records.specs.Drafts.{Block as Content, Changed, block_in}
 use Rattle.bx_records.specs.declared.runs.Run.{Run}
@@ -18,7 +19,8 @@ use Rattle.bx_rows.specs.Words.{row_in}
 use Rattle.bx_views.specs.Truths.{Held, Hints}
 use Rattle.bx_node_views.specs.bx_volume.specs.Overlay.{Logs, IsUnlogged}
 use Rattle.bx_node_views.specs.bx_volume.specs.Records.{newest_in}
-use Rattle.bx_node_views.specs.bx_world_logs.specs.Logs.{OfLog, Slot, begins, idle}
+use Rattle.bx_node_views.specs.bx_world_logs.specs.Logs as world_logs
+use Rattle.bx_node_views.specs.bx_world_logs.specs.Logs.{Slot, begins, idle}
 use Rattle.bx_world_views.specs.Views.{Act, Allows, Unacknowledged, OfCall, OfTidy}
 
 -- ---- a node
@@ -39,21 +41,23 @@ abbrev pub act_of : Option Replying → Point → Act
 act_of None point = OfTidy
 act_of (Some call) point = OfCall (record { client = call.client; call = call.call; moment = point.moment; spare = point.spare; made = point.made; reply = call.reply })
 
--- What a node's log is for: nothing; a record of these blocks, of a call or of none; the blocks of its records go home; it is closed.
+-- What a node's log is for: nothing; a record of these blocks, of a call or of none; the blocks of its records go home; it is closed; nothing, while the node recovers the log of a session that is gone.
 pub data Stage : Type 0 where
   Idle : Stage
   Records : Option Replying → List Changed → Stage
   Homes : Stage
   Closes : Stage
+  Recovers : ℕ → RecoveryView → Stage
 
--- What a node reads: nothing; a block, to hold it so; or one that it has let go meanwhile, so that what comes counts for nothing.
+-- What a node reads: nothing; a block, to hold it so; one that it has let go meanwhile, so that what comes counts for nothing; or what its recovery of a log asked for.
 pub data Fetch : Type 0 where
   Nothing : Fetch
   Block : ℕ → Mode → Fetch
   Dropped : Fetch
+  OfLog : Fetch
 
 -- A node: under which session it has what it has; what its cache shows, which blocks there were committed and aren't home yet, and hints of other
--- blocks; its log, and what that is for; what it reads.
+-- blocks; its log, and what that is for; what it reads; the sessions whose logs it recovered and closed.
 pub record MachineView : Type 0 where
   pub session : Option ℕ
   pub held : Held
@@ -62,6 +66,7 @@ pub record MachineView : Type 0 where
   pub log : LogView
   pub stage : Stage
   pub fetch : Fetch
+  pub finished : List ℕ
 
 abbrev pub is_one : Option ℕ → Option ℕ → Bool
 is_one None other = false
@@ -156,6 +161,7 @@ abbrev pub IsUnseen : Held → Fetch → Type 0
 IsUnseen held Nothing = Unit {0}
 IsUnseen held (Block block mode) = (way : Mode) → held block way ≡ None
 IsUnseen held Dropped = Unit {0}
+IsUnseen held OfLog = Unit {0}
 
 module _ (devices areas : ℕ) where
   -- The read of a block: its session holds it so, and neither a log nor a record under way has it. It may not have been asked for yet; else each answer
@@ -172,17 +178,19 @@ module _ (devices areas : ℕ) where
   IsFetching Reads s node session Nothing = s.asked node ≡ None
   IsFetching Reads s node session (Block block mode) = IsFetched Reads s node session block mode
   IsFetching Reads s node session Dropped = Unit {0}
+  IsFetching Reads s node session OfLog = ⊥
 
   -- What its log does, by what it is for; where it rests it has no records. (`Sure` says of a sector of a device that it stands so, surely.)
   module _ (Sure : ℕ → ℕ → List ℕ → Type 0) (s : Scene) (node session slot : ℕ) (machine : MachineView) where
     abbrev pub IsAtWork : Stage → Type 0
     IsAtWork Idle = (machine.log.work ≡ works.Idle) × ((s.slots slot).activity ≡ idle) × (s.logs slot ≡ []) × (s.out node ≡ None) × (s.doubts session ≡ None) × AreAway s.logs slot machine
-    IsAtWork (Records call draft) = IsOfRecord machine.log.work × (machine.log.out ≡ true) × ((s.slots slot).activity ≡ OfLog machine.log.work)
+    IsAtWork (Records call draft) = IsOfRecord machine.log.work × (machine.log.out ≡ true) × ((s.slots slot).activity ≡ world_logs.OfLog machine.log.work)
         × IsWriting Sure session (writes machine.log machine.log.work).1 (s.out node) s.sent × IsSomeAnd (s.doubts session) (IsDoubtIn machine.log.work call draft) × AreAway s.logs slot machine
     IsAtWork Homes = (machine.log.work ≡ works.Idle) × ((s.slots slot).activity ≡ idle) × (0 < length (s.logs slot))
         × ((runs : List Run) × AreItsHomes devices areas s.logs slot runs × IsWriting Sure session runs (s.out node) s.sent) × (s.doubts session ≡ None) × AreAway s.logs slot machine
-    IsAtWork Closes = IsOfClosing machine.log.work × (machine.log.out ≡ true) × ((s.slots slot).activity ≡ OfLog machine.log.work)
+    IsAtWork Closes = IsOfClosing machine.log.work × (machine.log.out ≡ true) × ((s.slots slot).activity ≡ world_logs.OfLog machine.log.work)
         × IsWriting Sure session (writes machine.log machine.log.work).1 (s.out node) s.sent × (s.doubts session ≡ None) × ((at : ℕ) → machine.away at ≡ None)
+    IsAtWork (Recovers gone view) = ⊥
 
   -- The node has its session's log, and what it is about.
   pub record IsAbout (Sure : ℕ → ℕ → List ℕ → Type 0) (Reads : ℕ → List ℕ → Type 0) (s : Scene) (node session slot : ℕ) (machine : MachineView) : Type 0 where

@@ -23,13 +23,19 @@ is_claimed own row = (row.dead == 1) && (row.by == own)
 abbrev pub is_one_of : List ℕ → ℕ → Bool
 is_one_of sessions session = list_any (λ one. one == session) sessions
 
--- the first row of a session that this one claimed, and whose recovery it didn't finish
-abbrev pub to_recover : ℕ → List ℕ → List SessionRow → Option SessionRow
-to_recover own finished rows = find (λ row. is_claimed own row && not (is_one_of finished row.number)) rows
+-- whether a row is of a session that this one claimed, and whose recovery it didn't finish, and the first such row
+abbrev pub is_to_recover : ℕ → List ℕ → SessionRow → Bool
+is_to_recover own finished row = is_claimed own row && not (is_one_of finished row.number)
 
--- the first row of one whose recovery it finished
+abbrev pub to_recover : ℕ → List ℕ → List SessionRow → Option SessionRow
+to_recover own finished rows = find (is_to_recover own finished) rows
+
+-- whether it is of one whose recovery it finished, and the first such row
+abbrev pub is_to_close : ℕ → List ℕ → SessionRow → Bool
+is_to_close own finished row = is_claimed own row && is_one_of finished row.number
+
 abbrev pub to_close : ℕ → List ℕ → List SessionRow → Option SessionRow
-to_close own finished rows = find (λ row. is_claimed own row && is_one_of finished row.number) rows
+to_close own finished rows = find (is_to_close own finished) rows
 
 abbrev pub is_row_alive : Option SessionRow → Bool
 is_row_alive None = false
@@ -39,9 +45,12 @@ is_row_alive (Some row) = row.dead == 0
 abbrev pub lives_in : List SessionRow → ℕ → Bool
 lives_in rows session = is_row_alive (row_in rows session)
 
--- the first row of a session that is dead, and that none claimed which lives
+-- whether one of these rows is of a session that is dead, and that none claimed which lives, and the first such row
+abbrev pub is_to_claim : List SessionRow → SessionRow → Bool
+is_to_claim rows row = (row.dead == 1) && not (lives_in rows row.by)
+
 abbrev pub to_claim : List SessionRow → Option SessionRow
-to_claim rows = find (λ row. (row.dead == 1) && not (lives_in rows row.by)) rows
+to_claim rows = find (is_to_claim rows) rows
 
 -- ---- what a node recovers
 

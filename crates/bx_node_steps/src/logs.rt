@@ -30,7 +30,11 @@ impl Machine {
         ensures { IfOk result (λ step. LogGoes self.old self.new step.runs step.said) }
     {
         match self.stage {
-            Stage::Idle | Stage::Recovers(_) => Ok(LogStep {
+            Stage::Idle => Ok(LogStep {
+                runs: None,
+                said: None,
+            }),
+            Stage::Recovers(_) => Ok(LogStep {
                 runs: None,
                 said: None,
             }),

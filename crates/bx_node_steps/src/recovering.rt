@@ -1,15 +1,15 @@
 //! The recovery of the log of a session that is dead.
 
-ghost use Rattle.std.specs.Prelude.{◌≡◌, ◌<◌, Option, IfOk, OnErr, OnOk, option_map};
+ghost use Rattle.std.specs.Prelude.{◌≡◌, ◌<◌, IfOk, OnErr};
 ghost use Rattle.std.specs.Option.{option_copied};
-ghost use Rattle.bx_node_steps.specs.Recoveries.{EndsRecovery, RecoversOn, begun, gone_in, is_claimed, is_one_of, read_of, recovery_in, to_claim, to_close, to_recover};
+ghost use Rattle.bx_node_steps.specs.Recoveries.{EndsRecovery, RecoversOn, begun, gone_in, is_claimed, is_one_of, is_to_claim, is_to_close, is_to_recover, lives_in, read_of, recovery_in, to_claim, to_close, to_recover};
 ghost use Rattle.bx_node_steps.specs.declared.machine.Recovering.{Recovering};
 ghost use Rattle.bx_node_steps.specs.declared.machine.Stage.TheVariants as stages;
 
 use crate::machine::{Fetch, Machine, Recovering, Stage};
 use bx_base::{OutOfMemory, Raw};
 use bx_recover::{Move, Recovery};
-use bx_rows::{SessionRow, is_live};
+use bx_rows::{SessionRow, find_row};
 use std::alloc::Global;
 
 impl Machine {
@@ -57,7 +57,7 @@ impl Machine {
         done: bool,
     ) -> Result<Move, OutOfMemory>
         requires recovers { (recovering : Recovering) × (self.old.stage ≡ stages.Recovers recovering) }
-        ensures steps { IfOk result (RecoversOn (option_copied arrived) done self.old self.new) }
+        ensures steps { IfOk result (RecoversOn (option_copied arrived.entry) done self.old self.new) }
         ensures spends { OnErr result (self.new ≡ self.old) }
     {
         let Stage::Recovers(recovering) = &mut self.stage else {
@@ -77,7 +77,7 @@ impl Machine {
     pub fn end_recovery(&mut self) -> Result<u64, OutOfMemory>
         requires recovers { (recovering : Recovering) × (self.old.stage ≡ stages.Recovers recovering) }
         ensures ends { IfOk result (EndsRecovery self.old self.new) }
-        ensures spends { OnErr result (self.new ≡ self.old) }
+        ensures spends { OnErr result ((self.new ≡ record self.old { finished = self.new.finished }) × (self.new.finished.items ≡ self.old.finished.items)) }
     {
         let Stage::Recovers(recovering) = &self.stage else {
             unreachable!();
@@ -93,23 +93,37 @@ impl Machine {
         ensures { result ≡ to_recover own self.now.finished.items rows.now }
     {
         for row in rows {
-            if is_claimed(row, own) && !self.has_finished(row.number) {
+            if self.is_to_recover(row, own) {
                 return Some(*row);
             }
         }
         None
     }
 
-    /// The first of the sessions with these rows that is dead, that a session claimed, and whose recovery is finished: it is to be closed.
-    pub fn to_close(&self, rows: &[SessionRow], own: u64) -> Option<u64>
-        ensures { result ≡ option_map (λ row. row.number) (to_close own self.now.finished.items rows.now) }
+    /// The first of these rows that is dead, that a session claimed, and whose log is recovered: the session of that is to be closed.
+    pub fn to_close(&self, rows: &[SessionRow], own: u64) -> Option<SessionRow>
+        ensures { result ≡ to_close own self.now.finished.items rows.now }
     {
         for row in rows {
-            if is_claimed(row, own) && self.has_finished(row.number) {
-                return Some(row.number);
+            if self.is_to_close(row, own) {
+                return Some(*row);
             }
         }
         None
+    }
+
+    /// Whether a row is of a session that is dead, that this one claimed, and whose log isn't recovered yet.
+    fn is_to_recover(&self, row: &SessionRow, own: u64) -> bool
+        ensures { result ≡ is_to_recover own self.now.finished.items row.now }
+    {
+        is_claimed(row, own) && !self.has_finished(row.number)
+    }
+
+    /// Whether a row is of a session that is dead, that this one claimed, and whose log is recovered.
+    fn is_to_close(&self, row: &SessionRow, own: u64) -> bool
+        ensures { result ≡ is_to_close own self.now.finished.items row.now }
+    {
+        is_claimed(row, own) && self.has_finished(row.number)
     }
 
     /// Whether it finished the recovery of a session's log.
@@ -127,14 +141,31 @@ fn is_claimed(row: &SessionRow, own: u64) -> bool
     row.dead == 1 && row.by == own
 }
 
-/// The first of the sessions with these rows that is dead, and that none has claimed which lives: it is to be claimed.
-pub fn to_claim(rows: &[SessionRow]) -> Option<u64>
-    ensures { result ≡ option_map (λ row. row.number) (to_claim rows.now) }
+/// The first of these rows that is dead, and that no session claimed which lives: that is to be claimed.
+pub fn to_claim(rows: &[SessionRow]) -> Option<SessionRow>
+    ensures { result ≡ to_claim rows.now }
 {
     for row in rows {
-        if row.dead == 1 && !is_live(rows, row.by) {
-            return Some(row.number);
+        if is_to_claim(rows, row) {
+            return Some(*row);
         }
     }
     None
+}
+
+/// Whether one of these rows is dead, and no session claimed it which lives.
+fn is_to_claim(rows: &[SessionRow], row: &SessionRow) -> bool
+    ensures { result ≡ is_to_claim rows.now row.now }
+{
+    row.dead == 1 && !is_alive(rows, row.by)
+}
+
+/// Whether a session has a row among these that isn't dead.
+fn is_alive(rows: &[SessionRow], session: u64) -> bool
+    ensures { result ≡ lives_in rows.now session }
+{
+    match find_row(rows, session) {
+        Some(row) => row.dead == 0,
+        None => false,
+    }
 }

@@ -107,14 +107,20 @@ impl<G: Register, O: Owners, S: Store, E: Engine> Nodes<G, O, S, E> {
             return None;
         }
         let rows = self.register.known(Actor::Node(node)).sessions.items();
-        if let Some(dead) = machine.to_close(rows, own) {
-            return Some(Change::Close { dead, by: own });
+        if let Some(row) = machine.to_close(rows, own) {
+            return Some(Change::Close {
+                dead: row.number,
+                by: own,
+            });
         }
         if machine.recovers().is_some() || machine.to_recover(rows, own).is_some() {
             return None;
         }
-        let dead = to_claim(rows)?;
-        Some(Change::Claim { dead, by: own })
+        let row = to_claim(rows)?;
+        Some(Change::Claim {
+            dead: row.number,
+            by: own,
+        })
     }
 
     /// Offers a change of a node to the register.

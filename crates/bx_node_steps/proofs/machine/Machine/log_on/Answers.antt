@@ -1,5 +1,5 @@
 use Rattle.std.proofs.Common.{refl}
-use Rattle.bx_node_steps.specs.Logging.{Rests}
+use Rattle.bx_node_steps.specs.Logging.{Rests, RestsMeanwhile}
 use Rattle.bx_node_steps.proofs.machine.Machine.log_on.Goals as goal
 
 pub returns-in-Idle : goal.returns-in-Idle

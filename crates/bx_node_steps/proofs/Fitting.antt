@@ -237,7 +237,7 @@ module _ (made : Made) (areas : ℕ) (asked : Option Asked) (old new : Machine) 
       room = let none = (fits_as stages.Idle idle).1 in omega (arith, none);
       fits = (tt, refl, begins.logged.blocks, numbered, (fits_as stages.Idle idle).1);
       fetch = is.fetch;
-    recovers = tt;
+      recovers = tt;
     })
 
 -- ---- what else leaves a node ready

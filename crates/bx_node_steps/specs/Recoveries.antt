@@ -1,5 +1,5 @@
 -- The recovery of the log of a session that is dead: which rows of sessions ask a node for what, and what its steps make of the node.
-use Rattle.std.specs.Prelude.{◌≡◌, ℕ, ◌==◌, ◌&&◌, ◌++◌, Bool, false, true, not, List, [], ◌∷◌, find, Option, Some, None, option_map}
+use Rattle.std.specs.Prelude.{◌≡◌, ℕ, ◌==◌, ◌&&◌, ◌++◌, Bool, false, true, not, List, [], ◌∷◌, find, is_some, Option, Some, None, option_map}
 use Rattle.std.specs.List.{list_any}
 use Rattle.bx_node_steps.specs.declared.machine.Fetch.{Fetch}
 use Rattle.bx_node_steps.specs.declared.machine.Fetch.TheVariants as fetches
@@ -82,16 +82,16 @@ abbrev pub begun : Machine → SessionRow → Machine
 begun machine row = record machine { stage = stages.Recovers (record { gone = row.number; recovery = first_recovery row.slot machine.cache.devices machine.cache.areas }) }
 
 -- what is read once an answer came or none, and the recovery asked for this or told it
-abbrev pub fetch_left : Option (List ℕ) → Fetch → Fetch
-fetch_left None fetch = fetch
-fetch_left (Some bytes) fetch = fetches.Nothing
+abbrev pub fetch_left : Bool → Fetch → Fetch
+fetch_left false fetch = fetch
+fetch_left true fetch = fetches.Nothing
 
-abbrev pub fetch_then : Option (List ℕ) → Move → Fetch → Fetch
-fetch_then arrived (moves.Write runs) fetch = fetch_left arrived fetch
-fetch_then arrived (moves.Read device place sectors) fetch = fetches.Recovery
-fetch_then arrived (moves.Acked points) fetch = fetch_left arrived fetch
-fetch_then arrived moves.Closed fetch = fetch_left arrived fetch
-fetch_then arrived moves.Wait fetch = fetch_left arrived fetch
+abbrev pub fetch_then : Bool → Move → Fetch → Fetch
+fetch_then came (moves.Write runs) fetch = fetch_left came fetch
+fetch_then came (moves.Read device place sectors) fetch = fetches.Recovery
+fetch_then came (moves.Acked points) fetch = fetch_left came fetch
+fetch_then came moves.Closed fetch = fetch_left came fetch
+fetch_then came moves.Wait fetch = fetch_left came fetch
 
 -- A recovery takes one step, by what came of its read and by whether its write is done, and asks for something or tells something. All else of the node stays as it is.
 pub record RecoversOn (arrived : Option (List ℕ)) (done : Bool) (old new : Machine) (said : Move) : Type 0 where
@@ -99,7 +99,7 @@ pub record RecoversOn (arrived : Option (List ℕ)) (done : Bool) (old new : Mac
   pub is : old.stage ≡ stages.Recovers was
   pub view : RecoveryView
   pub steps : Steps was.recovery arrived done view said
-  pub only : new ≡ record old { stage = stages.Recovers (record was { recovery = view }); fetch = fetch_then arrived said old.fetch }
+  pub only : new ≡ record old { stage = stages.Recovers (record was { recovery = view }); fetch = fetch_then (is_some arrived) said old.fetch }
 
 -- A recovery ends: it is kept that it was finished, and the log rests.
 pub record EndsRecovery (old new : Machine) (gone : ℕ) : Type 0 where

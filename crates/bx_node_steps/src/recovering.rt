@@ -2,7 +2,7 @@
 
 ghost use Rattle.std.specs.Prelude.{◌≡◌, ◌<◌, IfOk, OnErr};
 ghost use Rattle.std.specs.Option.{option_copied};
-ghost use Rattle.bx_node_steps.specs.Recoveries.{EndsRecovery, RecoversOn, begun, gone_in, is_claimed, is_one_of, is_to_claim, is_to_close, is_to_recover, lives_in, read_of, recovery_in, to_claim, to_close, to_recover};
+ghost use Rattle.bx_node_steps.specs.Recoveries.{EndsRecovery, RecoversOn, begun, fetch_then, gone_in, is_claimed, is_one_of, is_to_claim, is_to_close, is_to_recover, lives_in, read_of, recovery_in, to_claim, to_close, to_recover};
 ghost use Rattle.bx_node_steps.specs.declared.machine.Recovering.{Recovering};
 ghost use Rattle.bx_node_steps.specs.declared.machine.Stage.TheVariants as stages;
 
@@ -11,6 +11,7 @@ use bx_base::{OutOfMemory, Raw};
 use bx_recover::{Move, Recovery};
 use bx_rows::{SessionRow, find_row};
 use std::alloc::Global;
+use std::mem;
 
 impl Machine {
     /// The session whose log it recovers, where it does.
@@ -60,17 +61,29 @@ impl Machine {
         ensures steps { IfOk result (RecoversOn (option_copied arrived.entry) done self.old self.new) }
         ensures spends { OnErr result (self.new ≡ self.old) }
     {
-        let Stage::Recovers(recovering) = &mut self.stage else {
+        let stage = mem::replace(&mut self.stage, Stage::Idle);
+        let Stage::Recovers(mut recovering) = stage else {
             unreachable!();
         };
-        let said = recovering.recovery.next(arrived, done)?;
-        if arrived.is_some() {
-            self.fetch = Fetch::Nothing;
-        }
-        if let Move::Read(_, _, _) = said {
-            self.fetch = Fetch::Recovery;
-        }
+        let said = recovering.recovery.next(arrived, done);
+        self.stage = Stage::Recovers(recovering);
+        let said = said?;
+        self.note_read(arrived.is_some(), &said);
         Ok(said)
+    }
+
+    /// Notes what it reads once an answer came or none, and its recovery asked for something or told something.
+    fn note_read(&mut self, came: bool, said: &Move)
+        ensures { self.new ≡ record self.old { fetch = fetch_then came said.now self.old.fetch } }
+    {
+        match said {
+            Move::Read(_, _, _) => self.fetch = Fetch::Recovery,
+            Move::Write(_) | Move::Acked(_) | Move::Closed | Move::Wait => {
+                if came {
+                    self.fetch = Fetch::Nothing;
+                }
+            }
+        }
     }
 
     /// Ends its recovery, all of whose gates are closed, and says which session's log it was of: it never recovers that again under its own session. Where memory runs out, nothing changes.

@@ -1,5 +1,5 @@
 -- The machine of a node that is down may be any that has nothing: the nodes stand.
-use Rattle.std.proofs.Common.{◌≡◌, ◌≢◌, ◌∙◌, ⊎_elim, ℕ, ◌<◌, Bool, true, false, List, eqb, Option, Some, None, refl, sym, ap, subst, arith}
+use Rattle.std.proofs.Common.{◌≡◌, ◌≢◌, ◌∙◌, ⊎_elim, inl, ℕ, ◌<◌, Bool, true, false, List, eqb, Option, Some, None, refl, sym, ap, subst, arith}
 use Rattle.std.specs.Prelude.{slice_get}
 use Rattle.std.proofs.lemmas.Bool.Decides.{nat_tests}
 use Rattle.bx_base.specs.declared.names.Actor.TheVariants.{Node}
@@ -10,6 +10,7 @@ use Rattle.bx_facts.specs.Chains.{last}
 use Rattle.bx_node_machines.specs.Machines.{AreAbout, MachineView, Scene, is_under}
 use Rattle.bx_node_machines.specs.Nodes.{IsOfNode, NodesStand, hinted, known_of, scene_of, shown}
 use Rattle.bx_node_machines.proofs.Leaving.{all_same}
+use Rattle.bx_node_machines.proofs.Ongoing.{recover_on, same_active}
 use Rattle.bx_node_machines.proofs.Showing.{shown_at}
 use Rattle.bx_facts.specs.declared.owners.Owners as owners
 use Rattle.bx_post.specs.declared.packets.Letter.{Letter}
@@ -61,6 +62,16 @@ module _ {G O S T : Type 0} (g : register.Ghosts G) (o : owners.Ghosts O) (st : 
         (λ session own lives. absurd (not_it node session own refl))
         (subst (λ (h : Hints). Stands c.truth h tree) (sym (ap hinted then_there ∙ hints)) stands.at.volume.is);
     about = about_then;
+    recovering = recover_on (st.made store_is).devices (st.made store_is).areas Sure Sure (st.will_read store_is x c.store) (st.will_read store_is x c.store) c.register.chain c.register.chain (λ n. c.store.told.knew (Node n)) (λ n. c.store.told.knew (Node n))
+        c.register.proposed c.register.proposed Before Then stands.recovering
+        (λ other its one row active. inl (same_active Before other its one row (record {
+          there = sym (others other (not_it other its active.own)) ∙ active.there;
+          marked = active.marked;
+          own = active.own;
+          is_row = active.is_row;
+          lives = active.lives;
+        })))
+        (λ gone has. has) (λ other its one before row was gone slot stage records active had ended goes. goes);
     single = stands.single;
     told = stands.told;
     given = λ other session one has marked. by other session one has marked (eqb other node) refl;

@@ -70,7 +70,7 @@ module _ (devices areas : ℕ) (Touches : ℕ → ℕ → Type 0) (Sure Sure_the
     away is.5,
   )
   work_stays words.Closes is = (is.0, is.1, leaves.of_slot.slots ∙ is.2, leaves.writing (writes machine.log machine.log.work).1 (may.of_log is.2) is.3, leaves.of_slot.doubts ∙ is.4, is.5)
-  work_stays (words.Recovers gone view) is = absurd is
+  work_stays (words.Recovers gone recovery) is = (is.0, leaves.of_slot.slots ∙ is.1, leaves.of_slot.logs ∙ is.2, leaves.of_slot.doubts ∙ is.3, away is.4)
 
   fetch_stays : (fetch : Fetch) → IsFetching devices areas Reads old node session fetch → IsFetching devices areas Reads_then new node session fetch
   fetch_stays words.Nothing none = leaves.none_asked none

@@ -2,6 +2,7 @@ pub mod Downing
 pub mod Growing
 pub mod Hearing
 pub mod Leaving
+pub mod Ongoing
 pub mod Owning
 pub mod Renewed
 pub mod Sending

@@ -1,5 +1,5 @@
 -- A node takes up a session that is new to it, and forgets what it had under another: the nodes stand.
-use Rattle.std.proofs.Common.{◌≡◌, ◌≢◌, ◌⊎◌, ◌∙◌, inr, ℕ, ◌<◌, Bool, true, false, List, eqb, Option, Some, None, refl, sym, ap, subst, arith}
+use Rattle.std.proofs.Common.{◌≡◌, ◌≢◌, ◌⊎◌, ◌∙◌, inl, inr, ℕ, ◌<◌, Bool, true, false, List, [], eqb, Option, Some, None, refl, sym, ap, subst, arith}
 use Rattle.std.specs.Prelude.{◌==◌, ◌&&◌, if◌then◌else◌, slice_get, length}
 use Rattle.std.proofs.lemmas.Bool.Decides.{nat_tests}
 use Rattle.bx_base.specs.declared.names.Actor.TheVariants.{Node}
@@ -12,6 +12,8 @@ use Rattle.bx_node_machines.specs.Machines as words
 use Rattle.bx_node_machines.specs.Machines.{AreAbout, Fetch, IsAbout, IsAtWork, IsFetching, IsFresh, IsUnseen, MachineView, Scene, Stage, is_one, is_under}
 use Rattle.bx_node_machines.specs.Nodes.{IsOfNode, NodesStand, hinted, known_of, nothing_held, scene_of, shown}
 use Rattle.bx_node_machines.proofs.Leaving.{LeavesSlot, all_same, fresh_stays}
+use Rattle.bx_node_machines.specs.Recoveries.{IsActive, RecoversNone, SuitsStage}
+use Rattle.bx_node_machines.proofs.Ongoing.{HasNone, WasActive, recover_on, same_active}
 use Rattle.bx_node_machines.proofs.Showing.{shown_at}
 use Rattle.bx_facts.specs.declared.owners.Owners as owners
 use Rattle.bx_places.specs.Places.{log_device}
@@ -34,6 +36,7 @@ pub record IsNew (devices slot : ℕ) (machine : MachineView) : Type 0 where
   pub log : machine.log ≡ closed_log slot (log_device slot devices)
   pub stage : machine.stage ≡ words.Idle
   pub fetch : machine.fetch ≡ words.Nothing
+  pub finished : machine.finished ≡ []
 
 -- A node that took a fresh session up is about nothing.
 pub new_about : (devices areas : ℕ) (Sure : ℕ → ℕ → List ℕ → Type 0) (Reads : ℕ → List ℕ → Type 0) (s : Scene) (node session slot : ℕ) (machine : MachineView)
@@ -158,11 +161,36 @@ module _ {G O S T : Type 0} (g : register.Ghosts G) (o : owners.Ghosts O) (st : 
         (ap (λ (own : Option ℕ). is_one before.session own) own_here ∙ not_mine) (takes ∙ sym own_here)
         (λ session row own has lives. is_new session row (sym own_here ∙ own) has lives)
         (λ other session own own_too. stands.single node other session own own_too);
+    recovering = recover_on (st.made store_is).devices (st.made store_is).areas (SureOf g o st Stands Step register_is owners_are store_is x (known_of g o st Stands Step register_is owners_are store_is x letters clocks machines) c) (SureOf g o st Stands Step register_is owners_are store_is x (known_of g o st Stands Step register_is owners_are store_is x letters clocks machines) c) (st.will_read store_is x c.store) (st.will_read store_is x c.store) c.register.chain c.register.chain (λ n. c.store.told.knew (Node n)) (λ n. c.store.told.knew (Node n))
+        c.register.proposed c.register.proposed (scene_of g o st Stands Step register_is owners_are store_is x clocks.down machines c) (scene_of g o st Stands Step register_is owners_are store_is x clocks.down later c) stands.recovering
+        (λ other session its row active. was_active other session its row active (eqb other node) refl)
+        (λ gone has. has) (λ other session its one row was gone slot stage records active had ended goes. goes);
     single = stands.single;
     told = stands.told;
     given = λ other session its has marked. given_then other session its (eqb other node) refl has marked;
   }
     where
+      one_is : (a b : MachineView) → Some a ≡ Some b → a ≡ b
+      one_is a b e = cc
+
+      own_now : own_up clocks.down (o.own owners_are) node ≡ o.own owners_are node
+      own_now = ap (λ (b : Bool). if b then None else o.own owners_are node) up
+
+      -- the one that took up a new session has no recovery; each other is as it was
+      was_active : (other session : ℕ) (its : MachineView) (row : SessionRow) → IsActive (scene_of g o st Stands Step register_is owners_are store_is x clocks.down later c) other session its row → (b : Bool) → eqb other node ≡ b → WasActive (scene_of g o st Stands Step register_is owners_are store_is x clocks.down machines c) other session its ⊎ HasNone its
+      was_active other session its row active true is =
+          let e : other ≡ node = grind (arith, nat_tests, is) in
+          let f : machine ≡ its = one_is machine its (sym then_there ∙ ap (λ (n : ℕ). slice_get later n) (sym e) ∙ active.there) in
+          let new = is_new session row (sym own_now ∙ ap (λ (n : ℕ). own_up clocks.down (o.own owners_are) n) (sym e) ∙ active.own) active.is_row active.lives in
+          inr (subst (λ (m : MachineView). HasNone m) f (record {
+            stage = subst (λ (stage : Stage). RecoversNone stage) (sym new.stage) tt;
+            finished = new.finished;
+            suits = subst (λ (fetch : Fetch). SuitsStage machine.stage fetch) (sym new.fetch) tt;
+          }))
+      was_active other session its row active false differ =
+          let ne : other ≢ node = λ e. grind (arith, nat_tests, differ, e) in
+          inl (same_active (scene_of g o st Stands Step register_is owners_are store_is x clocks.down machines c) other session its row (record { there = sym (others other ne) ∙ active.there; marked = active.marked; own = active.own; is_row = active.is_row; lives = active.lives }))
+
       given_then : (other session : ℕ) (its : MachineView) → (b : Bool) → eqb other node ≡ b → slice_get later other ≡ Some its → its.session ≡ Some session → session < (last c.register.chain).next_session
       given_then other session its true is has marked =
           let e : other ≡ node = grind (arith, nat_tests, is) in

@@ -96,6 +96,7 @@ module _ {G O S T : Type 0} (g : register.Ghosts G) (o : owners.Ghosts O) (st : 
   answered letters clocks machines c tree next all stands = record {
     at = answered_at (known_of g o st Stands Step register_is owners_are store_is x letters clocks machines) c tree next all stands.at;
     about = stands.about;
+    recovering = stands.recovering;
     single = stands.single;
     told = stands.told;
     given = stands.given;

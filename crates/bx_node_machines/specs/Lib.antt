@@ -1,3 +1,5 @@
 pub mod Machines
 pub mod Nodes
+pub mod Recoveries
+pub mod Recovering
 pub mod Stopping

@@ -9,6 +9,7 @@ use Rattle.bx_recover.specs.Recovering.{RecoveryView}
 use Rattle.bx_places.specs.Places.{IsBlock, block_place, log_device}
 use Rattle.bx_records.specs.Drafts.{Block as Content, Changed, block_in}
 use Rattle.bx_records.specs.declared.runs.Run.{Run}
+use Rattle.bx_recover.specs.Recovering.{RecoveryView}
 use Rattle.bx_node_views.specs.bx_redo.specs.Homes.{AreItsHomes}
 use Rattle.bx_node_views.specs.bx_redo.specs.Steps.{writes}
 use Rattle.bx_node_views.specs.bx_redo.specs.View.{LogView}
@@ -41,7 +42,8 @@ abbrev pub act_of : Option Replying → Point → Act
 act_of None point = OfTidy
 act_of (Some call) point = OfCall (record { client = call.client; call = call.call; moment = point.moment; spare = point.spare; made = point.made; reply = call.reply })
 
--- What a node's log is for: nothing; a record of these blocks, of a call or of none; the blocks of its records go home; it is closed; nothing, while the node recovers the log of a session that is gone.
+-- What a node's log is for: nothing; a record of these blocks, of a call or of none; the blocks of its records go home; it is closed. Or it rests while its
+-- node recovers the log of a session that is gone, as far as this.
 pub data Stage : Type 0 where
   Idle : Stage
   Records : Option Replying → List Changed → Stage
@@ -49,7 +51,7 @@ pub data Stage : Type 0 where
   Closes : Stage
   Recovers : ℕ → RecoveryView → Stage
 
--- What a node reads: nothing; a block, to hold it so; one that it has let go meanwhile, so that what comes counts for nothing; or what its recovery of a log asked for.
+-- What a node reads: nothing; a block, to hold it so; one that it has let go meanwhile, so that what comes counts for nothing; or what a recovery asked for.
 pub data Fetch : Type 0 where
   Nothing : Fetch
   Block : ℕ → Mode → Fetch
@@ -57,7 +59,7 @@ pub data Fetch : Type 0 where
   OfLog : Fetch
 
 -- A node: under which session it has what it has; what its cache shows, which blocks there were committed and aren't home yet, and hints of other
--- blocks; its log, and what that is for; what it reads; the sessions whose logs it recovered and closed.
+-- blocks; its log, and what that is for; what it reads; the sessions whose logs it has recovered.
 pub record MachineView : Type 0 where
   pub session : Option ℕ
   pub held : Held
@@ -178,9 +180,9 @@ module _ (devices areas : ℕ) where
   IsFetching Reads s node session Nothing = s.asked node ≡ None
   IsFetching Reads s node session (Block block mode) = IsFetched Reads s node session block mode
   IsFetching Reads s node session Dropped = Unit {0}
-  IsFetching Reads s node session OfLog = ⊥
+  IsFetching Reads s node session OfLog = Unit {0}
 
-  -- What its log does, by what it is for; where it rests it has no records. (`Sure` says of a sector of a device that it stands so, surely.)
+  -- What its log does, by what it is for; where it rests it has no records, and where it rests for a recovery the node's write is that one's. (`Sure` says of a sector of a device that it stands so, surely.)
   module _ (Sure : ℕ → ℕ → List ℕ → Type 0) (s : Scene) (node session slot : ℕ) (machine : MachineView) where
     abbrev pub IsAtWork : Stage → Type 0
     IsAtWork Idle = (machine.log.work ≡ works.Idle) × ((s.slots slot).activity ≡ idle) × (s.logs slot ≡ []) × (s.out node ≡ None) × (s.doubts session ≡ None) × AreAway s.logs slot machine
@@ -190,7 +192,7 @@ module _ (devices areas : ℕ) where
         × ((runs : List Run) × AreItsHomes devices areas s.logs slot runs × IsWriting Sure session runs (s.out node) s.sent) × (s.doubts session ≡ None) × AreAway s.logs slot machine
     IsAtWork Closes = IsOfClosing machine.log.work × (machine.log.out ≡ true) × ((s.slots slot).activity ≡ world_logs.OfLog machine.log.work)
         × IsWriting Sure session (writes machine.log machine.log.work).1 (s.out node) s.sent × (s.doubts session ≡ None) × ((at : ℕ) → machine.away at ≡ None)
-    IsAtWork (Recovers gone view) = ⊥
+    IsAtWork (Recovers gone recovery) = (machine.log.work ≡ works.Idle) × ((s.slots slot).activity ≡ idle) × (s.logs slot ≡ []) × (s.doubts session ≡ None) × AreAway s.logs slot machine
 
   -- The node has its session's log, and what it is about.
   pub record IsAbout (Sure : ℕ → ℕ → List ℕ → Type 0) (Reads : ℕ → List ℕ → Type 0) (s : Scene) (node session slot : ℕ) (machine : MachineView) : Type 0 where

@@ -7,6 +7,7 @@ use Rattle.bx_facts.specs.declared.register.Register as register
 use Rattle.bx_facts.specs.declared.store.Store as store
 use Rattle.bx_facts.specs.Chains.{last}
 use Rattle.bx_node_machines.specs.Machines.{AreAbout, MachineView, Scene, is_one}
+use Rattle.bx_node_machines.specs.Recoveries.{AreRecovering}
 use Rattle.bx_facts.specs.declared.owners.Owners as owners
 use Rattle.bx_post.specs.declared.packets.Letter.{Letter}
 use Rattle.bx_views.specs.Attempts.{Deed}
@@ -53,11 +54,13 @@ module _ {G O S T : Type 0} (g : register.Ghosts G) (o : owners.Ghosts O) (st : 
     doubts = c.doubts;
   }
 
-  -- The cluster stands, with what the nodes' caches show; each node is about what its session has under way; no session is the own one of two nodes that are up; each that has one
+  -- The cluster stands, with what the nodes' caches show; each node is about what its session has under way, and recovers what it recovers; no session is the own one of two nodes that are up; each that has one
   -- was handed what its register knows; and under a session that wasn't given out yet no node has anything.
   pub record NodesStand (letters : List Letter) (clocks : Clocks) (machines : List MachineView) (c : Course) (tree : T) : Type 0 where
     pub at : StandsAt g o st Stands Step register_is owners_are store_is x (known_of letters clocks machines) c tree
     pub about : AreAbout (st.made store_is).devices (st.made store_is).areas (SureOf g o st Stands Step register_is owners_are store_is x (known_of letters clocks machines) c) (st.will_read store_is x c.store) (IsOfNode o.by_boot clocks) (scene_of clocks.down machines c)
+    pub recovering : AreRecovering (st.made store_is).devices (st.made store_is).areas (SureOf g o st Stands Step register_is owners_are store_is x (known_of letters clocks machines) c) (st.will_read store_is x c.store)
+        c.register.chain (λ node. c.store.told.knew (Node node)) c.register.proposed (scene_of clocks.down machines c)
     pub single : (node other session : ℕ) → own_up clocks.down (o.own owners_are) node ≡ Some session → own_up clocks.down (o.own owners_are) other ≡ Some session → other ≡ node
     pub told : (node session : ℕ) → own_up clocks.down (o.own owners_are) node ≡ Some session → (g.knows register_is (Node node)).index ≤ c.store.told.knew (Node node)
     pub given : (node session : ℕ) (machine : MachineView) → slice_get machines node ≡ Some machine → machine.session ≡ Some session → session < (last c.register.chain).next_session

@@ -15,23 +15,23 @@ use Rattle.bx_places.specs.Places.{body_place, gate_place}
 use Rattle.bx_records.specs.declared.runs.Run.{Run}
 use Rattle.bx_recover.specs.Done.{HasDone, RecoveryStep, WasRead}
 use Rattle.bx_recover.specs.HomesOf.{home_runs}
+use Rattle.bx_recover.specs.Recovering.{RecoveryView}
 use Rattle.bx_recover.specs.declared.moves.Move.{Move}
 use Rattle.bx_recover.specs.declared.moves.Move.TheVariants.{Read}
 use Rattle.bx_recover.specs.declared.stage.Stage.{Stage}
 use Rattle.bx_recover.specs.declared.stage.Stage.TheVariants.{Begins, Gates, Settles, Bodies, Told, Homes, Closes, Shuts, Closed}
-use Rattle.bx_node_recovers.proofs.Read.{recovery_of}
-use Rattle.bx_redo.specs.Homes.{AreItsHomes}
-use Rattle.bx_redo.specs.Steps.{one_run, writes}
-use Rattle.bx_redo.specs.declared.work.Work.{Work}
-use Rattle.bx_redo.specs.declared.work.Work.TheVariants as works
+use Rattle.bx_node_views.specs.bx_redo.specs.Homes.{AreItsHomes}
+use Rattle.bx_node_views.specs.bx_redo.specs.Steps.{one_run, writes}
+use Rattle.bx_node_views.specs.bx_redo.specs.declared.work.Work.{Work}
+use Rattle.bx_node_views.specs.bx_redo.specs.declared.work.Work.TheVariants as works
 use Rattle.bx_views.specs.Attempts.{Deed}
 use Rattle.bx_views.specs.Truths.{Hints, Truth}
-use Rattle.bx_volume.specs.Overlay.{Logs, filled_of}
-use Rattle.bx_volume.specs.Records.{Logged, gate_of}
-use Rattle.bx_world_chains.specs.Entitled.{IsEntitled}
-use Rattle.bx_world_logs.specs.Logs.{Found, OfLog, Slot, opens, view_of, writes_in}
-use Rattle.bx_world_standing.specs.Closings.{IsClosed}
-use Rattle.bx_world_standing.specs.Standing.{Course, Known, SureOf}
+use Rattle.bx_node_views.specs.bx_volume.specs.Overlay.{Logs, filled_of}
+use Rattle.bx_node_views.specs.bx_volume.specs.Records.{Logged, gate_of}
+use Rattle.bx_node_views.specs.bx_world_chains.specs.Entitled.{IsEntitled}
+use Rattle.bx_node_views.specs.bx_world_logs.specs.Logs.{Found, OfLog, Slot, opens, view_of, writes_in}
+use Rattle.bx_node_views.specs.bx_world_standing.specs.Closings.{IsClosed}
+use Rattle.bx_node_views.specs.bx_world_standing.specs.Standing.{Course, Known, SureOf}
 
 -- What a recovery goes with: its node's write and read that are out, the writes that members may take, a content of the devices, and logs with what is under way in their slots.
 pub record Around : Type 0 where
@@ -41,6 +41,10 @@ pub record Around : Type 0 where
   pub before : Image
   pub logs : Logs
   pub slots : ℕ → Slot
+
+-- a recovery of a slot that has read these records
+abbrev pub recovery_of : ℕ → ℕ → ℕ → Stage → List Logged → RecoveryView
+recovery_of slot devices areas stage records = record { slot = slot; devices = devices; areas = areas; stage = stage; records = records }
 
 -- ---- what was read
 

@@ -5,7 +5,6 @@ use Rattle.bx_base.specs.declared.names.Point.{Point}
 use Rattle.bx_disk.specs.Disks.{Image}
 use Rattle.bx_facts.specs.Holds.{Holds}
 use Rattle.bx_facts.specs.Writes.{Asked, Sent, WritesIn}
-use Rattle.bx_recover.specs.Recovering.{RecoveryView}
 use Rattle.bx_places.specs.Places.{IsBlock, block_place, log_device}
 use Rattle.bx_records.specs.Drafts.{Block as Content, Changed, block_in}
 use Rattle.bx_records.specs.declared.runs.Run.{Run}

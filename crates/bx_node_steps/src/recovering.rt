@@ -52,11 +52,7 @@ impl Machine {
     }
 
     /// Goes on with its recovery, by the bytes that a read brought and by whether its write is acknowledged. Where memory runs out, nothing changes.
-    pub fn recover_on(
-        &mut self,
-        arrived: Option<&Raw>,
-        done: bool,
-    ) -> Result<Move, OutOfMemory>
+    pub fn recover_on(&mut self, arrived: Option<&Raw>, done: bool) -> Result<Move, OutOfMemory>
         requires recovers { (recovering : Recovering) × (self.old.stage ≡ stages.Recovers recovering) }
         ensures steps { IfOk result (RecoversOn (option_copied arrived.entry) done self.old self.new) }
         ensures spends { OnErr result (self.new ≡ self.old) }

@@ -57,19 +57,36 @@ impl<G: Register, O: Owners, S: Store, E: Engine> Nodes<G, O, S, E> {
         let said = self.machines[node as usize].recover_on(arrived.as_ref(), done)?;
         let found = self.found(node, &said);
         self.say_read(node);
-        match said {
-            Move::Write(runs) => self.store.write(node, &runs, lease.until, out)?,
-            Move::Read(device, place, sectors) => {
-                self.store.read(node, device, place, sectors, out)?
-            }
-            Move::Acked(_) => {
-                // Behind the points come the homes, at once.
-                let _none = self.step_recovery(node, lease, out)?;
-            }
-            Move::Closed => self.end_recovery(node, lease.session, out)?,
-            Move::Wait => {}
-        }
+        self.follow(node, lease, said, out)?;
         Ok(found)
+    }
+
+    /// Sends what the recovery of a node asks for. Behind the points that it tells come the homes of the blocks, at once.
+    fn follow(
+        &mut self,
+        node: u32,
+        lease: Lease,
+        said: Move,
+        out: &mut Outbox,
+    ) -> Result<(), OutOfMemory> {
+        match said {
+            Move::Write(runs) => self.store.write(node, &runs, lease.until, out),
+            Move::Read(device, place, sectors) => {
+                self.store.read(node, device, place, sectors, out)
+            }
+            Move::Acked(_) => self.bring_home(node, lease, out),
+            Move::Closed => self.end_recovery(node, lease.session, out),
+            Move::Wait => Ok(()),
+        }
+    }
+
+    /// Sends the blocks of the records that a node's recovery has read to their homes.
+    fn bring_home(&mut self, node: u32, lease: Lease, out: &mut Outbox) -> Result<(), OutOfMemory> {
+        let said = self.machines[node as usize].recover_on(None, false)?;
+        let Move::Write(runs) = said else {
+            unreachable!();
+        };
+        self.store.write(node, &runs, lease.until, out)
     }
 
     /// The recovery of a node is over, and the session is to be closed whose log it was of.

@@ -18,9 +18,9 @@ ghost use Rattle.bx_world_standing.specs.Parts.{Clocks};
 ghost use Rattle.bx_world_standing.specs.Standing.{Course};
 
 use crate::nodes::Nodes;
+use crate::turns::Lease;
 use bx_base::OutOfMemory;
 use bx_facts::{Outbox, Owners, Register, Store};
-use crate::turns::Lease;
 use bx_node_steps::{LogStep, Recording, asked_by};
 use bx_node_tries::{Begun, Said};
 use bx_views::Engine;

@@ -45,12 +45,7 @@ impl<G: Register, O: Owners, S: Store, E: Engine> Nodes<G, O, S, E> {
     /// A node's turn, at a reading in milliseconds. Where its lease is valid it takes in what it has read, and its log goes on; where that rests it gives back what
     /// it is asked for, its calls are attempted, and one begins a record, or what they need is asked for; and where no call waits, a tidy that is under way goes on.
     /// Says the answers, in the order in which the calls acted.
-    pub fn turn(
-        &mut self,
-        node: u32,
-        reading: u64,
-        out: &mut Outbox,
-    ) -> Result<Turn, OutOfMemory>
+    pub fn turn(&mut self, node: u32, reading: u64, out: &mut Outbox) -> Result<Turn, OutOfMemory>
         requires there { (node < length self.old.machines.items) × (node < G.nodes self.old.register) }
         requires ready { BeReady S.Store E.Engine self.old node }
         requires moment { reading ≤ 4294967295999 }

@@ -23,8 +23,8 @@ use bx_base::Actor;
 use bx_cluster::{EventError, Outcome};
 use bx_disk::Rack;
 use bx_facts::{FactError, Input, Outbox, Owners, Register, Store};
-use bx_world_machines::all_nodes::Turn;
 use bx_views::Engine;
+use bx_world_machines::all_nodes::Turn;
 use std::alloc::Global;
 
 impl<G: Register, O: Owners, S: Store, E: Engine> World<G, O, S, E> {

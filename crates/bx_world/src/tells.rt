@@ -61,12 +61,7 @@ pub(crate) fn told(
 }
 
 /// .. at a node.
-fn told_by(
-    alloc: Global,
-    desk: &mut Desk,
-    node: u32,
-    turn: Turn,
-) -> Result<Outcome, OutOfMemory>
+fn told_by(alloc: Global, desk: &mut Desk, node: u32, turn: Turn) -> Result<Outcome, OutOfMemory>
     ensures points { IfOk result (λ outcome. outcome.points ≡ map point_said said.items) }
     ensures replies { IfOk result (λ outcome. outcome.replies ≡ map (reply_said node) said.items) }
     ensures alone { IfOk result (λ outcome. (outcome.took ≡ None) × (outcome.again ≡ None) × (outcome.stopped ≡ None)) }

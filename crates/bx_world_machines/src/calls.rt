@@ -90,12 +90,7 @@ impl<G: Register, O: Owners, S: Store, E: Engine> Machines<G, O, S, E> {
     }
 
     /// A node that is up has its turn, at a reading of its clock. Says the answers, in the order in which the calls acted.
-    pub fn turn(
-        &mut self,
-        node: u32,
-        reading: u64,
-        out: &mut Outbox,
-    ) -> Result<Turn, OutOfMemory>
+    pub fn turn(&mut self, node: u32, reading: u64, out: &mut Outbox) -> Result<Turn, OutOfMemory>
         requires up { is_up self.old.up.items (Node node) ≡ true }
         requires ready { (sizes : List ℕ) × IsReady G.Register O.Owners S.Store E.Engine self.old sizes }
         requires steady { self.old.clock ≤ reading + 500 }

@@ -13,7 +13,7 @@ use Rattle.bx_layout.specs.Labels.{gate_text, gate_word}
 use Rattle.bx_layout.specs.declared.block.Block.{Block}
 use Rattle.bx_layout.specs.declared.gate.Gate.{Gate}
 use Rattle.bx_layout.specs.declared.gate.Gate.TheVariants.{Open, Closed as Shut}
-use Rattle.bx_node_cache.specs.Kept.{AreHomesOf}
+use Rattle.bx_node_cache.specs.Kept.{AreHomesOf, IsHomeOf}
 use Rattle.bx_node_machines.specs.Machines.{number_of}
 use Rattle.bx_node_tries.specs.declared.round.Said.{Said}
 use Rattle.bx_node_steps.specs.Changing.{LetsGo, TakesIn, left_fetch}
@@ -54,7 +54,7 @@ one_fits made run is = record {
     mine d s content (it, has, w) = subst (λ (r : Run). Writes r d s content) (sym (only_run run it has)) w
 
 -- so many sectors in a log slot
-slot_fits : (made : Made) (slot device place sectors : ℕ) (bytes : List ℕ) → IsVolume made.devices made.areas → slot < 8 → device ≡ log_device slot made.devices → length bytes ≡ 512 * sectors → 1 ≤ sectors
+pub slot_fits : (made : Made) (slot device place sectors : ℕ) (bytes : List ℕ) → IsVolume made.devices made.areas → slot < 8 → device ≡ log_device slot made.devices → length bytes ≡ 512 * sectors → 1 ≤ sectors
     → log_start slot ≤ place → place + sectors ≤ log_start slot + 1168 → AreRuns made ((record { device = device; place = place; bytes = bytes }) ∷ [])
 slot_fits made slot device place sectors bytes volume low on long least from to = one_fits made (record { device = device; place = place; bytes = bytes }) (record {
   device = let some = volume.least_devices in omega (arith, on, some);
@@ -82,10 +82,10 @@ module _ (made : Made) (log : LogView) (volume : IsVolume made.devices made.area
   opens_fits : log.count < 8 → AreRuns made ((record { device = log.device; place = log_start log.slot + log.count; bytes = gate_text Open }) ∷ [])
   opens_fits room = slot_fits made log.slot log.device (log_start log.slot + log.count) 1 (gate_text Open) volume low on (omega (arith, gate_long Open)) (omega arith) (omega arith) (omega (arith, room))
 
-  closes_fits : AreRuns made ((record { device = log.device; place = log_start log.slot + 0; bytes = gate_text Shut }) ∷ [])
+  pub closes_fits : AreRuns made ((record { device = log.device; place = log_start log.slot + 0; bytes = gate_text Shut }) ∷ [])
   closes_fits = slot_fits made log.slot log.device (log_start log.slot + 0) 1 (gate_text Shut) volume low on (omega (arith, gate_long Shut)) (omega arith) (omega arith) (omega arith)
 
-  shuts_fits : AreRuns made ((record { device = log.device; place = log_start log.slot + 1; bytes = shut_text }) ∷ [])
+  pub shuts_fits : AreRuns made ((record { device = log.device; place = log_start log.slot + 1; bytes = shut_text }) ∷ [])
   shuts_fits = slot_fits made log.slot log.device (log_start log.slot + 1) 7 shut_text volume low on (omega (arith, shut_long)) (omega arith) (omega arith) (omega arith)
 
 -- the homes of blocks
@@ -105,12 +105,12 @@ module _ (made : Made) (volume : IsVolume made.devices made.areas) (away : ℕ �
       within : length (block_text block) ≡ 4608 → (block_place at made.devices).1 + length (block_text block) / 512 ≤ 9345 + 8649 * ((made.areas + made.devices - 1) / made.devices)
       within long = let v = volume.least_devices in let area = is.area in let slot = is.slot in grind (arith, nat_tests)
 
-  pub homes_fit : (runs : List Run) → AreHomesOf made.devices made.areas away runs → AreRuns made runs
-  homes_fit runs are = record {
-    each = λ run has. let h = are.each run has in subst (IsRun made) (sym h.run_is) (home_fits h.at h.block h.is h.parts);
+  pub each_fits : (runs : List Run) → ((run : Run) → Contains runs run → IsHomeOf made.devices made.areas away run) → AreRuns made runs
+  each_fits runs each = record {
+    each = λ run has. let h = each run has in subst (IsRun made) (sym h.run_is) (home_fits h.at h.block h.is h.parts);
     once = λ d s content other (run, has, w) (run_too, has_too, v).
-        let one = are.each run has in
-        let two = are.each run_too has_too in
+        let one = each run has in
+        let two = each run_too has_too in
         both d s content other one.at two.at one.block two.block one.is two.is one.parts two.parts one.is_away two.is_away
         (subst (λ (r : Run). Writes r d s content) one.run_is w) (subst (λ (r : Run). Writes r d s other) two.run_is v);
   }
@@ -134,6 +134,9 @@ module _ (made : Made) (volume : IsVolume made.devices made.areas) (away : ℕ �
               let below_too = v.below in
               absurd (⊎_elim (λ le. omega (arith, le, from, below, from_too, below_too, long, long_too)) (λ le. omega (arith, le, from, below, from_too, below_too, long, long_too))
               (two_homes at at_too made.devices made.areas volume is is_too (λ e. grind (arith, nat_tests, differ, e)) (w.on ∙ sym v.on)))
+
+  pub homes_fit : (runs : List Run) → AreHomesOf made.devices made.areas away runs → AreRuns made runs
+  homes_fit runs are = each_fits runs are.each
 
 -- ---- what a node's log does
 

@@ -8,6 +8,7 @@ use Rattle.bx_node_steps.specs.declared.machine.Machine.{Machine}
 use Rattle.bx_node_steps.specs.declared.machine.Stage.{Stage}
 use Rattle.bx_node_steps.specs.declared.machine.Stage.TheVariants as stages
 use Rattle.bx_places.specs.Places.{IsBlock, IsVolume, log_device}
+use Rattle.bx_recover.specs.Recovering.{IsRecovery}
 use Rattle.bx_redo.specs.View.{HasRecordRoom}
 
 -- A read is out exactly where a node reads something, and what it reads is a block of the volume, or counts for nothing.
@@ -17,13 +18,13 @@ FitsFetch areas asked (fetches.Block block mode) = IsBlock areas block × IsSome
 FitsFetch areas asked fetches.Dropped = IsSome asked
 FitsFetch areas asked fetches.Recovery = IsSome asked
 
--- a recovery that is under way is of a volume with so many devices and areas
+-- a recovery that is under way is one, of a volume with so many devices and areas
 abbrev pub FitsVolume : ℕ → ℕ → Stage → Type 0
 FitsVolume devices areas stages.Idle = Unit {0}
 FitsVolume devices areas (stages.Records pending) = Unit {0}
 FitsVolume devices areas stages.Homes = Unit {0}
 FitsVolume devices areas stages.Closes = Unit {0}
-FitsVolume devices areas (stages.Recovers recovering) = (recovering.recovery.devices ≡ devices) × (recovering.recovery.areas ≡ areas)
+FitsVolume devices areas (stages.Recovers recovering) = IsRecovery recovering.recovery × (recovering.recovery.devices ≡ devices) × (recovering.recovery.areas ≡ areas)
 
 -- A node may use its parts, whatever its session: its cache is of the volume that the store is made for, and so is its engine, with so many areas; its log has a
 -- slot, on that slot's device, and room for what it does, which goes with what it is for; what it reads fits what it asked the store for; and what it recovers is of the volume.

@@ -7,7 +7,7 @@ use Rattle.bx_node_steps.specs.declared.machine.Machine.{Machine}
 use Rattle.bx_node_steps.specs.declared.machine.Recovering.{Recovering}
 use Rattle.bx_node_steps.specs.declared.machine.Stage.{Stage}
 use Rattle.bx_node_steps.specs.declared.machine.Stage.TheVariants as stages
-use Rattle.bx_recover.specs.Recovering.{RecoveryView, Steps, first_recovery, has_run}
+use Rattle.bx_recover.specs.Recovering.{IsRecovery, RecoveryView, Steps, first_recovery, has_run}
 use Rattle.bx_recover.specs.declared.moves.Move.{Move}
 use Rattle.bx_recover.specs.declared.moves.Move.TheVariants as moves
 use Rattle.bx_rows.specs.Words.{row_in}
@@ -98,6 +98,7 @@ pub record RecoversOn (arrived : Option (List ℕ)) (done : Bool) (old new : Mac
   pub was : Recovering
   pub is : old.stage ≡ stages.Recovers was
   pub view : RecoveryView
+  pub is_one : IsRecovery view
   pub steps : Steps was.recovery arrived done view said
   pub only : new ≡ record old { stage = stages.Recovers (record was { recovery = view }); fetch = fetch_then (is_some arrived) said old.fetch }
 

@@ -62,6 +62,7 @@ impl Machine {
             unreachable!();
         };
         let said = recovering.recovery.next(arrived, done);
+        recovering.recovery.is_of_volume();
         self.stage = Stage::Recovers(recovering);
         let said = said?;
         self.note_read(arrived.is_some(), &said);

@@ -7,6 +7,7 @@ returns-clause-steps c = record {
   was = c.in-Recovers.recovering;
   is = search rules;
   view = c.next-said.new.self;
+  is_one = search rules;
   steps = search rules;
   only = search rules;
 }

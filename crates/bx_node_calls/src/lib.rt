@@ -5,5 +5,5 @@
 /// What the crates above use of `bx_nodes`.
 pub mod nodes {
     pub use bx_nodes::node_openings::what_nodes_begin_with;
-    pub use bx_nodes::{Nodes, first_machines};
+    pub use bx_nodes::{Nodes, Turn, first_machines};
 }

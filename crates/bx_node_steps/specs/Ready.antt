@@ -5,7 +5,10 @@ use Rattle.bx_node_steps.specs.Logging.{FitsStage}
 use Rattle.bx_node_steps.specs.declared.machine.Fetch.{Fetch}
 use Rattle.bx_node_steps.specs.declared.machine.Fetch.TheVariants as fetches
 use Rattle.bx_node_steps.specs.declared.machine.Machine.{Machine}
+use Rattle.bx_node_steps.specs.declared.machine.Stage.{Stage}
+use Rattle.bx_node_steps.specs.declared.machine.Stage.TheVariants as stages
 use Rattle.bx_places.specs.Places.{IsBlock, IsVolume, log_device}
+use Rattle.bx_recover.specs.Recovering.{IsRecovery}
 use Rattle.bx_redo.specs.View.{HasRecordRoom}
 
 -- A read is out exactly where a node reads something, and what it reads is a block of the volume, or counts for nothing.
@@ -13,9 +16,18 @@ abbrev pub FitsFetch : ℕ → Option Asked → Fetch → Type 0
 FitsFetch areas asked fetches.Nothing = asked ≡ None
 FitsFetch areas asked (fetches.Block block mode) = IsBlock areas block × IsSome asked
 FitsFetch areas asked fetches.Dropped = IsSome asked
+FitsFetch areas asked fetches.Recovery = IsSome asked
+
+-- a recovery that is under way is one, of a volume with so many devices and areas
+abbrev pub FitsVolume : ℕ → ℕ → Stage → Type 0
+FitsVolume devices areas stages.Idle = Unit {0}
+FitsVolume devices areas (stages.Records pending) = Unit {0}
+FitsVolume devices areas stages.Homes = Unit {0}
+FitsVolume devices areas stages.Closes = Unit {0}
+FitsVolume devices areas (stages.Recovers recovering) = IsRecovery recovering.recovery × (recovering.recovery.devices ≡ devices) × (recovering.recovery.areas ≡ areas)
 
 -- A node may use its parts, whatever its session: its cache is of the volume that the store is made for, and so is its engine, with so many areas; its log has a
--- slot, on that slot's device, and room for what it does, which goes with what it is for; and what it reads fits what it asked the store for.
+-- slot, on that slot's device, and room for what it does, which goes with what it is for; what it reads fits what it asked the store for; and what it recovers is of the volume.
 pub record IsReady (made : Made) (engine_areas : ℕ) (asked : Option Asked) (machine : Machine) : Type 0 where
   pub volume : IsVolume made.devices made.areas
   pub engine : engine_areas ≡ made.areas
@@ -26,6 +38,7 @@ pub record IsReady (made : Made) (engine_areas : ℕ) (asked : Option Asked) (ma
   pub room : HasRecordRoom machine.log.work machine.log.count
   pub fits : FitsStage machine.cache.areas machine.log machine.stage
   pub fetch : FitsFetch made.areas asked machine.fetch
+  pub recovers : FitsVolume made.devices made.areas machine.stage
 
 -- So it was before an input came, behind which its read may be lost.
 pub record WasReady (made : Made) (engine_areas : ℕ) (asked : Option Asked) (machine : Machine) : Type 0 where

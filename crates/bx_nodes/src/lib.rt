@@ -8,6 +8,7 @@ mod calls;
 mod gives;
 mod nodes;
 mod reads;
+mod recoveries;
 mod renew;
 mod sends;
 mod stops;
@@ -15,10 +16,11 @@ mod takes;
 mod tells;
 mod tidies;
 mod turns;
+mod unsaid;
 
 pub use answers::Attempted;
-pub use nodes::{Nodes, first_machines};
-pub use turns::Lease;
+pub use nodes::{Nodes, Unsaid, first_machines};
+pub use turns::{Lease, Turn};
 
 /// What the crates above use of `bx_node_openings`.
 pub mod node_openings {

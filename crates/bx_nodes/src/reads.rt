@@ -37,6 +37,9 @@ impl<G: Register, O: Owners, S: Store, E: Engine> Nodes<G, O, S, E> {
         ensures count { length self.new.machines.items ≡ length self.old.machines.items }
     {
         let place = node as usize;
+        if self.machines[place].recovers().is_some() {
+            return Ok(());
+        }
         if let Some(bytes) = self.store.arrived(node) {
             return self.machines[place].take_in(self.alloc, &bytes);
         }

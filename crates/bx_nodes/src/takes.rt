@@ -121,7 +121,7 @@ impl<G: Register, O: Owners, S: Store, E: Engine> Nodes<G, O, S, E> {
 
     /// Offers a change, where there is one, to the register: one that isn't legal on what the machine knows, or while another of it is out, is let go, as
     /// whoever wants it will tell of it again.
-    fn offer(
+    pub(crate) fn offer(
         &mut self,
         at: Actor,
         change: Option<Change>,

@@ -17,7 +17,7 @@ ghost use Rattle.bx_world_standing.specs.Standing.{Course};
 
 use crate::answers::Attempted;
 use crate::nodes::Nodes;
-use bx_base::{CallNo, OutOfMemory};
+use bx_base::{CallNo, OutOfMemory, Point};
 use bx_facts::{Outbox, Owners, Register, Store};
 use bx_node_steps::Stage;
 use bx_node_tries::Said;
@@ -32,16 +32,20 @@ pub struct Lease {
     pub until: u64,
 }
 
+/// What comes of a turn.
+#[derive(Drop)]
+pub struct Turn {
+    /// The point of a call that had none, whose record was found in the log of a session that is dead.
+    pub found: Option<Point>,
+    /// The answers, in the order in which the calls acted, behind the one that was found.
+    pub said: Vec<Said>,
+}
+
 impl<G: Register, O: Owners, S: Store, E: Engine> Nodes<G, O, S, E> {
     /// A node's turn, at a reading in milliseconds. Where its lease is valid it takes in what it has read, and its log goes on; where that rests it gives back what
     /// it is asked for, its calls are attempted, and one begins a record, or what they need is asked for; and where no call waits, a tidy that is under way goes on.
     /// Says the answers, in the order in which the calls acted.
-    pub fn turn(
-        &mut self,
-        node: u32,
-        reading: u64,
-        out: &mut Outbox,
-    ) -> Result<Vec<Said>, OutOfMemory>
+    pub fn turn(&mut self, node: u32, reading: u64, out: &mut Outbox) -> Result<Turn, OutOfMemory>
         requires there { (node < length self.old.machines.items) × (node < G.nodes self.old.register) }
         requires ready { BeReady S.Store E.Engine self.old node }
         requires moment { reading ≤ 4294967295999 }
@@ -68,13 +72,13 @@ impl<G: Register, O: Owners, S: Store, E: Engine> Nodes<G, O, S, E> {
         ensures count { length self.new.machines.items ≡ length self.old.machines.items }
     {
         self.note_asked(node);
-        let said = self.act(node, reading, out)?;
+        let turn = self.act(node, reading, out)?;
         self.note_asked(node);
-        Ok(said)
+        Ok(turn)
     }
 
     /// What a node does in a turn, once it has noted what it is asked for.
-    fn act(&mut self, node: u32, reading: u64, out: &mut Outbox) -> Result<Vec<Said>, OutOfMemory>
+    fn act(&mut self, node: u32, reading: u64, out: &mut Outbox) -> Result<Turn, OutOfMemory>
         requires there { (node < length self.old.machines.items) × (node < G.nodes self.old.register) }
         requires ready { BeReady S.Store E.Engine self.old node }
         requires moment { reading ≤ 4294967295999 }
@@ -100,12 +104,17 @@ impl<G: Register, O: Owners, S: Store, E: Engine> Nodes<G, O, S, E> {
         ensures count { length self.new.machines.items ≡ length self.old.machines.items }
     {
         let Some(lease) = self.lease_at(node, reading) else {
-            return Ok(Vec::new(self.alloc));
+            return Ok(Turn {
+                found: None,
+                said: Vec::new(self.alloc),
+            });
         };
         self.receive(node)?;
-        let acked = self.step_log(node, lease.until, out)?;
+        let acked = self.step_log(node, lease, out)?;
+        let found = self.recover(node, lease, out)?;
         let answers = self.attempt_turn(node, lease, reading, out)?;
-        together(acked, answers)
+        let said = together(acked, answers)?;
+        Ok(Turn { found, said })
     }
 
     /// The attempts of a turn: where its log rests and no write of it is out the node works on, and goes on with a tidy behind that; else it only answers.
@@ -142,7 +151,7 @@ impl<G: Register, O: Owners, S: Store, E: Engine> Nodes<G, O, S, E> {
         ensures others { OnlyMachine node self.old.machines.items self.new.machines.items }
         ensures count { length self.new.machines.items ≡ length self.old.machines.items }
     {
-        if !self.store.done(node) {
+        if !self.store.done(node) || self.machines[node as usize].recovers().is_some() {
             let attempted = self.attempt(node as usize, reading, None, false)?;
             return Ok(attempted.said);
         }

@@ -132,7 +132,8 @@ impl<G: Register, O: Owners, S: Store, E: Engine> Desk<G, O, S, E> {
         ensures count { self.new.count ≡ self.old.count }
     {
         let mut out = Outbox::new(self.alloc);
-        self.nodes.turn(node, moment, &mut out)
+        let turn = self.nodes.turn(node, moment, &mut out)?;
+        Ok(turn.said)
     }
 
     /// The disks of the members that wait for it finish a sync.

@@ -131,8 +131,8 @@ impl<G: Register, O: Owners, S: Store, E: Engine> World<G, O, S, E> {
         };
         wait_at(alloc, &mut self.desks, node, &call)?;
         let mut out = Outbox::new(alloc);
-        let said = self.machines.call(node, call, reading, &mut out)?;
-        let outcome = self.end(alloc, Actor::Node(node), Ok(said), out)?;
+        let turn = self.machines.call(node, call, reading, &mut out)?;
+        let outcome = self.end(alloc, Actor::Node(node), Ok(turn), out)?;
         Ok(Outcome {
             took: Some(number),
             ..outcome
@@ -185,7 +185,7 @@ impl<G: Register, O: Owners, S: Store, E: Engine> World<G, O, S, E> {
     {
         self.events += 1;
         let mut out = Outbox::new(alloc);
-        let said = self.machines.turn(node, reading, &mut out)?;
-        self.end(alloc, Actor::Node(node), Ok(said), out)
+        let turn = self.machines.turn(node, reading, &mut out)?;
+        self.end(alloc, Actor::Node(node), Ok(turn), out)
     }
 }

@@ -23,8 +23,8 @@ use bx_base::Actor;
 use bx_cluster::{EventError, Outcome};
 use bx_disk::Rack;
 use bx_facts::{FactError, Input, Outbox, Owners, Register, Store};
-use bx_node_tries::Said;
 use bx_views::Engine;
+use bx_world_machines::all_nodes::Turn;
 use std::alloc::Global;
 
 impl<G: Register, O: Owners, S: Store, E: Engine> World<G, O, S, E> {
@@ -131,7 +131,7 @@ impl<G: Register, O: Owners, S: Store, E: Engine> World<G, O, S, E> {
         &mut self,
         alloc: Global,
         at: Actor,
-        heard: Result<Vec<Said>, FactError>,
+        heard: Result<Turn, FactError>,
         out: Outbox,
     ) -> Result<Outcome, EventError>
         requires by { IfOk heard (λ said. IsBy (length self.old.desks.items) at said.items) }
@@ -142,9 +142,9 @@ impl<G: Register, O: Owners, S: Store, E: Engine> World<G, O, S, E> {
         ensures same { (self.new.machines ≡ self.old.machines) × (self.new.events ≡ self.old.events) }
     {
         match heard {
-            Ok(said) => {
+            Ok(turn) => {
                 self.post.send(alloc, out)?;
-                Ok(told(alloc, &mut self.desks, at, said)?)
+                Ok(told(alloc, &mut self.desks, at, turn)?)
             }
             Err(FactError::Disk) => {
                 clear_at(&mut self.desks, at);

@@ -6,7 +6,7 @@ ghost use Rattle.bx_world.specs.Outcomes.{IsBy, all_answered, desks_said, desks_
 use bx_base::{Actor, List, OutOfMemory, Point, Raw};
 use bx_cluster::{Outcome, ReplyOut};
 use bx_desk::Desk;
-use bx_node_tries::Said;
+use bx_world_machines::all_nodes::Turn;
 use std::alloc::Global;
 
 /// An event of which nothing comes. It takes no memory.
@@ -48,31 +48,30 @@ pub(crate) fn told(
     alloc: Global,
     desks: &mut Vec<Desk>,
     at: Actor,
-    said: Vec<Said>,
+    turn: Turn,
 ) -> Result<Outcome, OutOfMemory>
     requires by { IsBy (length desks.old.items) at said.items }
     ensures outcome { IfOk result (λ outcome. outcome ≡ outcome_said at said.items) }
     ensures desks { OnOk result (desks.new.items ≡ desks_said at said.items desks.old.items) }
 {
     match at {
-        Actor::Node(node) => told_by(alloc, &mut desks[node as usize], node, said),
+        Actor::Node(node) => told_by(alloc, &mut desks[node as usize], node, turn),
         Actor::Replica(_) | Actor::Server(_) | Actor::Member(_) => Ok(nothing(alloc)),
     }
 }
 
 /// .. at a node.
-fn told_by(
-    alloc: Global,
-    desk: &mut Desk,
-    node: u32,
-    said: Vec<Said>,
-) -> Result<Outcome, OutOfMemory>
+fn told_by(alloc: Global, desk: &mut Desk, node: u32, turn: Turn) -> Result<Outcome, OutOfMemory>
     ensures points { IfOk result (λ outcome. outcome.points ≡ map point_said said.items) }
     ensures replies { IfOk result (λ outcome. outcome.replies ≡ map (reply_said node) said.items) }
     ensures alone { IfOk result (λ outcome. (outcome.took ≡ None) × (outcome.again ≡ None) × (outcome.stopped ≡ None)) }
     ensures desk { OnOk result (desk.new ≡ all_answered desk.old said.items) }
 {
+    let Turn { found, said } = turn;
     let mut points: Vec<Point> = Vec::new(alloc);
+    if let Some(point) = found {
+        points.push(point)?;
+    }
     let mut replies: Vec<ReplyOut> = Vec::new(alloc);
     for one in said {
         let kept = Raw::of(alloc, one.reply.bytes())?;

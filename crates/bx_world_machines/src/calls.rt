@@ -16,7 +16,8 @@ use crate::machines::Machines;
 use crate::wakes::renew_and_turn;
 use bx_base::OutOfMemory;
 use bx_facts::{Outbox, Owners, Register, Store};
-use bx_node_tries::{Said, Waiting};
+use bx_node_calls::nodes::Turn;
+use bx_node_tries::Waiting;
 use bx_views::Engine;
 
 impl<G: Register, O: Owners, S: Store, E: Engine> Machines<G, O, S, E> {
@@ -28,7 +29,7 @@ impl<G: Register, O: Owners, S: Store, E: Engine> Machines<G, O, S, E> {
         call: Waiting,
         reading: u64,
         out: &mut Outbox,
-    ) -> Result<Vec<Said>, OutOfMemory>
+    ) -> Result<Turn, OutOfMemory>
         requires up { is_up self.old.up.items (Node node) ≡ true }
         requires ready { (sizes : List ℕ) × IsReady G.Register O.Owners S.Store E.Engine self.old sizes }
         requires steady { self.old.clock ≤ reading + 500 }
@@ -46,9 +47,9 @@ impl<G: Register, O: Owners, S: Store, E: Engine> Machines<G, O, S, E> {
     {
         match self.answer_at_once(call, reading) {
             Ok(AtOnce::Answered(one)) => {
-                let mut said = self.turn(node, reading, out)?;
+                let Turn { found, mut said } = self.turn(node, reading, out)?;
                 said.insert(0, one)?;
-                Ok(said)
+                Ok(Turn { found, said })
             }
             Ok(AtOnce::Waits(call)) => self.take(node, call, reading, out),
             Err(OutOfMemory) => {
@@ -66,7 +67,7 @@ impl<G: Register, O: Owners, S: Store, E: Engine> Machines<G, O, S, E> {
         call: Waiting,
         reading: u64,
         out: &mut Outbox,
-    ) -> Result<Vec<Said>, OutOfMemory>
+    ) -> Result<Turn, OutOfMemory>
         requires up { is_up self.old.up.items (Node node) ≡ true }
         requires ready { (sizes : List ℕ) × IsReady G.Register O.Owners S.Store E.Engine self.old sizes }
         requires steady { self.old.clock ≤ reading + 500 }
@@ -89,12 +90,7 @@ impl<G: Register, O: Owners, S: Store, E: Engine> Machines<G, O, S, E> {
     }
 
     /// A node that is up has its turn, at a reading of its clock. Says the answers, in the order in which the calls acted.
-    pub fn turn(
-        &mut self,
-        node: u32,
-        reading: u64,
-        out: &mut Outbox,
-    ) -> Result<Vec<Said>, OutOfMemory>
+    pub fn turn(&mut self, node: u32, reading: u64, out: &mut Outbox) -> Result<Turn, OutOfMemory>
         requires up { is_up self.old.up.items (Node node) ≡ true }
         requires ready { (sizes : List ℕ) × IsReady G.Register O.Owners S.Store E.Engine self.old sizes }
         requires steady { self.old.clock ≤ reading + 500 }

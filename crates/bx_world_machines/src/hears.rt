@@ -26,12 +26,11 @@ ghost use Rattle.bx_world_standing.specs.Standing.{Course};
 
 use crate::machines::Machines;
 use crate::up::leave_out;
-use crate::wakes::wake;
+use crate::wakes::{no_turn, wake};
 use bx_base::Actor;
 use bx_disk::Rack;
 use bx_facts::{FactError, Input, Outbox, Owners, Register, Store};
-use bx_node_calls::nodes::Nodes;
-use bx_node_tries::Said;
+use bx_node_calls::nodes::{Nodes, Turn};
 use bx_views::Engine;
 use std::alloc::Global;
 
@@ -44,7 +43,7 @@ impl<G: Register, O: Owners, S: Store, E: Engine> Machines<G, O, S, E> {
         at: Actor,
         input: &Input,
         out: &mut Outbox,
-    ) -> Result<Vec<Said>, FactError>
+    ) -> Result<Turn, FactError>
         requires up { is_up self.old.up.items at ≡ true }
         requires ready { IsReady G.Register O.Owners S.Store E.Engine self.old (R.state rack.old).sizes }
         requires steady { IsSteady self.old.clock input.now }
@@ -68,9 +67,9 @@ impl<G: Register, O: Owners, S: Store, E: Engine> Machines<G, O, S, E> {
     {
         self.read_with(input);
         match hear(self.alloc, &mut self.nodes, rack, at, input, out) {
-            Ok(said) => {
+            Ok(turn) => {
                 self.learn(at)?;
-                Ok(said)
+                Ok(turn)
             }
             Err(FactError::Disk) => {
                 leave_out(&mut self.up, at);
@@ -110,7 +109,7 @@ fn hear<G: Register, O: Owners, S: Store, E: Engine, R: Rack>(
     at: Actor,
     input: &Input,
     out: &mut Outbox,
-) -> Result<Vec<Said>, FactError>
+) -> Result<Turn, FactError>
     requires there { IsMachine (length nodes.old.machines.items) at }
     requires nodes { AreNodes G.Register O.Owners S.Store E.Engine nodes.old }
     requires room { HasRoom (G.needs nodes.old.register) (R.state rack.old).sizes × HasRoom (S.needs nodes.old.store) (R.state rack.old).sizes }
@@ -134,6 +133,6 @@ fn hear<G: Register, O: Owners, S: Store, E: Engine, R: Rack>(
     nodes.take(rack, at, input, out)?;
     match at {
         Actor::Node(node) => Ok(wake(alloc, nodes, node, input, out)?),
-        Actor::Replica(_) | Actor::Server(_) | Actor::Member(_) => Ok(Vec::new(alloc)),
+        Actor::Replica(_) | Actor::Server(_) | Actor::Member(_) => Ok(no_turn(alloc)),
     }
 }

@@ -16,5 +16,5 @@ pub use machines::Machines;
 
 /// What the crates above use of `bx_nodes`.
 pub mod all_nodes {
-    pub use bx_node_calls::nodes::{Nodes, first_machines, what_nodes_begin_with};
+    pub use bx_node_calls::nodes::{Nodes, Turn, first_machines, what_nodes_begin_with};
 }

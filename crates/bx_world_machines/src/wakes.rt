@@ -17,8 +17,7 @@ ghost use Rattle.bx_world_standing.specs.Standing.{Course};
 
 use bx_base::OutOfMemory;
 use bx_facts::{Input, Outbox, Owners, Register, Store};
-use bx_node_calls::nodes::Nodes;
-use bx_node_tries::Said;
+use bx_node_calls::nodes::{Nodes, Turn};
 use bx_views::Engine;
 use std::alloc::Global;
 
@@ -30,7 +29,7 @@ pub(crate) fn wake<G: Register, O: Owners, S: Store, E: Engine>(
     node: u32,
     input: &Input,
     out: &mut Outbox,
-) -> Result<Vec<Said>, OutOfMemory>
+) -> Result<Turn, OutOfMemory>
     requires there { node < length nodes.old.machines.items }
     requires nodes { AreNodes G.Register O.Owners S.Store E.Engine nodes.old }
     requires time { IsTime (reading_in input.now) }
@@ -46,7 +45,7 @@ pub(crate) fn wake<G: Register, O: Owners, S: Store, E: Engine>(
     match *input {
         Input::Packet(_, reading) => turn(nodes, node, reading, out),
         Input::Tick(reading) => tick(nodes, node, reading, out),
-        Input::Synced => Ok(Vec::new(alloc)),
+        Input::Synced => Ok(no_turn(alloc)),
     }
 }
 
@@ -56,7 +55,7 @@ fn tick<G: Register, O: Owners, S: Store, E: Engine>(
     node: u32,
     reading: u64,
     out: &mut Outbox,
-) -> Result<Vec<Said>, OutOfMemory>
+) -> Result<Turn, OutOfMemory>
     requires there { node < length nodes.old.machines.items }
     requires nodes { AreNodes G.Register O.Owners S.Store E.Engine nodes.old }
     requires time { reading ≤ 4294967295999 }
@@ -68,6 +67,7 @@ fn tick<G: Register, O: Owners, S: Store, E: Engine>(
     ensures parts { (nodes.new.register ≡ nodes.old.register) × (nodes.new.engine ≡ nodes.old.engine) × (S.made nodes.new.store ≡ S.made nodes.old.store) }
     ensures count { length nodes.new.machines.items ≡ length nodes.old.machines.items }
 {
+    nodes.propose_at_tick(node, out)?;
     nodes.tick(node);
     turn(nodes, node, reading, out)
 }
@@ -78,7 +78,7 @@ pub(crate) fn renew_and_turn<G: Register, O: Owners, S: Store, E: Engine>(
     node: u32,
     reading: u64,
     out: &mut Outbox,
-) -> Result<Vec<Said>, OutOfMemory>
+) -> Result<Turn, OutOfMemory>
     requires there { node < length nodes.old.machines.items }
     requires nodes { AreNodes G.Register O.Owners S.Store E.Engine nodes.old }
     requires time { reading ≤ 4294967295999 }
@@ -100,7 +100,7 @@ fn turn<G: Register, O: Owners, S: Store, E: Engine>(
     node: u32,
     reading: u64,
     out: &mut Outbox,
-) -> Result<Vec<Said>, OutOfMemory>
+) -> Result<Turn, OutOfMemory>
     requires there { node < length nodes.old.machines.items }
     requires nodes { AreNodes G.Register O.Owners S.Store E.Engine nodes.old }
     requires time { reading ≤ 4294967295999 }
@@ -113,4 +113,12 @@ fn turn<G: Register, O: Owners, S: Store, E: Engine>(
     ensures count { length nodes.new.machines.items ≡ length nodes.old.machines.items }
 {
     nodes.turn(node, reading, out)
+}
+
+/// A turn of which nothing comes. It takes no memory.
+pub(crate) fn no_turn(alloc: Global) -> Turn {
+    Turn {
+        found: None,
+        said: Vec::new(alloc),
+    }
 }

@@ -3,9 +3,9 @@ use Rattle.std.proofs.Common.{◌≡◌, ◌≢◌, ◌⊎◌, ⊎_elim, inl, in
 use Rattle.std.specs.Prelude.{◌↔◌, ◌++◌, option_map, slice_get}
 use Rattle.std.proofs.lemmas.List.Elements.{Contains-append_left, Contains-push, Contains-push_cases}
 use Rattle.bx_node_calls.specs.Turns.{HaveStill, acting_in}
-use Rattle.bx_node_calls.specs.Waits.{AreNumbered, AreTold, NoneWaits, Waits}
+use Rattle.bx_node_calls.specs.Waits.{AreNumbered, Waits}
 use Rattle.bx_node_calls.proofs.Found.{and_some, same_or, some_and}
-use Rattle.bx_node_steps.specs.Calls.{AreApart, CallOf, IsAmong, IsThat, KeepsCalls, WaitsAt, call_of, call_written, under_way}
+use Rattle.bx_node_steps.specs.Calls.{AreApart, CallOf, IsAmong, IsThat, WaitsAt, call_of, call_written, under_way}
 use Rattle.bx_node_steps.specs.declared.machine.Machine.{Machine}
 use Rattle.bx_node_tries.specs.declared.round.Waiting.{Waiting}
 use Rattle.bx_nodes.specs.Calls.{IsNewest, WaitsBehind}
@@ -13,7 +13,6 @@ use Rattle.bx_nodes.specs.Standing.{OfBoth}
 use Rattle.bx_nodes.specs.Turns.{OnlyMachine}
 use Rattle.bx_nodes.specs.declared.nodes.Nodes.{Nodes}
 use Rattle.bx_nodes.proofs.Machines.{there_is, two_there, was_there}
-use Rattle.bx_volume.specs.Overlay.{Logs}
 
 -- ---- at a node
 
@@ -84,13 +83,6 @@ module _ (node : ℕ) (old new : List Machine) (before after : Machine) (was : s
         (same_or n node);
   }
 
-  -- The same calls wait.
-  pub keeps_waiting : KeepsCalls before after → (n : ℕ) (call : CallOf) → Waits new n call → Waits old n call
-  keeps_waiting keeps n call waits = ⊎_elim
-      (λ same. waited_then n call same ((keeps.same call).0 (waits_now n call same waits)))
-      (λ ne. other_then n call ne waits)
-      (same_or n node)
-
   pub apart_then : AreApart after → ((n : ℕ) → IfSome (slice_get old n) AreApart) → (n : ℕ) → IfSome (slice_get new n) AreApart
   apart_then mine apart n = ⊎_elim
       (λ same. subst (λ (k : ℕ). IfSome (slice_get new k) AreApart) (sym same) (was_there AreApart (slice_get new node) after is mine))
@@ -120,15 +112,6 @@ module _ (latest node : ℕ) (old new : List Machine) (call : Waiting) (later : 
         (each n c waits);
   }
 
-  pub told_with : (logs : Logs) → AreTold latest old logs → AreTold call.number new logs
-  told_with logs was = record {
-    came = λ slot one has. let c = was.came slot one has in omega (arith, c, later);
-    none = λ slot one n c has waits. ⊎_elim
-        (λ w. was.none slot one n c has w)
-        (λ e same. let s = number_is c e.1 in let came = was.came slot one has in absurd (omega (arith, s, same, came, later)))
-        (each n c waits);
-  }
-
 -- Each call that waits then waited.
 module _ (latest : ℕ) (old new : List Machine) (each : (at : ℕ) (other : CallOf) → Waits new at other → Waits old at other) where
   pub numbered_on : AreNumbered latest old → AreNumbered latest new
@@ -137,12 +120,6 @@ module _ (latest : ℕ) (old new : List Machine) (each : (at : ℕ) (other : Cal
     most = λ n c waits. was.most n c (each n c waits);
     alone = λ n other c twin waits also same. was.alone n other c twin (each n c waits) (each other twin also) same;
   }
-
-  pub told_on : (logs : Logs) → AreTold latest old logs → AreTold latest new logs
-  told_on logs was = record { came = was.came; none = λ slot one n c has waits. was.none slot one n c has (each n c waits) }
-
-  pub none_on : NoneWaits old → NoneWaits new
-  none_on was n c waits = was n c (each n c waits)
 
 -- The machine of one node is another one, by what is said of both.
 pub record Changed {G O S E T : Type 0} (node : ℕ) (old new : Nodes G O S E T) (Says : Machine → Machine → Type 0) : Type 0 where

@@ -2,8 +2,8 @@
 use Rattle.std.proofs.Common.{◌≡◌, ⊎_elim, ◌∙◌, ℕ, ◌<◌, length, Option, Some, IfSome, IsSomeAnd, sym, ap, subst}
 use Rattle.std.specs.Prelude.{◌↔◌, option_map, slice_get}
 use Rattle.bx_node_calls.specs.Turns.{HaveStill, acting_in}
-use Rattle.bx_node_calls.specs.Waits.{AreTold, Waits}
-use Rattle.bx_node_calls.proofs.Coming.{Changed, changed_at, told_on}
+use Rattle.bx_node_calls.specs.Waits.{Waits}
+use Rattle.bx_node_calls.proofs.Coming.{Changed, changed_at}
 use Rattle.bx_node_calls.proofs.Found.{same_or}
 use Rattle.bx_node_steps.specs.Calls.{AreApart, CallOf, WaitsAt, under_way}
 use Rattle.bx_node_steps.specs.Tidying.{Ticks}
@@ -12,7 +12,6 @@ use Rattle.bx_nodes.specs.Standing.{OfBoth, OfNode}
 use Rattle.bx_nodes.specs.Turns.{OnlyMachine}
 use Rattle.bx_nodes.specs.declared.nodes.Nodes.{Nodes}
 use Rattle.bx_nodes.proofs.Machines.{of_there, was_there}
-use Rattle.bx_volume.specs.Overlay.{Logs}
 
 module _ {G O S E T : Type 0} (node : ℕ) (old new : Nodes G O S E T) (there : node < length old.machines.items) (count : length new.machines.items ≡ length old.machines.items)
     (ticks : OfBoth old new node Ticks) (others : OnlyMachine node old.machines.items new.machines.items) where
@@ -52,7 +51,3 @@ module _ {G O S E T : Type 0} (node : ℕ) (old new : Nodes G O S E T) (there : 
       (λ same. subst (λ (k : ℕ). IfSome (slice_get new.machines.items k) AreApart) (sym same) (was_there AreApart (slice_get new.machines.items node) pair.after pair.is (apart_here (apart node))))
       (λ ne. subst (λ (f : Option Machine). IfSome f AreApart) (sym (others.others n ne)) (apart n))
       (same_or n node)
-
-  -- what the logs have was told
-  pub told_ticked : (latest : ℕ) (logs : Logs) → AreTold latest old.machines.items logs → AreTold latest new.machines.items logs
-  told_ticked latest = told_on latest old.machines.items new.machines.items (λ at call. (waits_ticked at call).0)

@@ -1,19 +1,17 @@
--- What a turn of one node is, and leaves of the calls that wait and of what the logs have.
-use Rattle.std.proofs.Common.{◌≡◌, ◌≢◌, ⊎_elim, ◌∙◌, ℕ, ◌<◌, ◌≤◌, List, length, Contains, Option, Some, IsSome, IsSomeAnd, sym, ap, subst, arith}
+-- What a turn of one node is, and leaves of the calls that wait.
+use Rattle.std.proofs.Common.{◌≡◌, ⊎_elim, ◌∙◌, ℕ, ◌<◌, List, length, Contains, Option, Some, IsSome, IsSomeAnd, sym, ap, subst, arith}
 use Rattle.std.specs.Prelude.{option_map, slice_get}
-use Rattle.bx_node_calls.specs.Turns.{IsNodeTurn, session_at}
-use Rattle.bx_node_calls.specs.Waits.{AreNumbered, AreTold, Waits}
+use Rattle.bx_node_calls.specs.Turns.{IsNodeTurn}
+use Rattle.bx_node_calls.specs.Waits.{Waits}
 use Rattle.bx_node_calls.proofs.Found.{and_some, same_or, some_and, which}
 use Rattle.bx_node_steps.specs.Calls.{AnswersCalls, AreApart, CallOf, IsAnswered, WaitsAt, acting_said}
 use Rattle.bx_node_steps.specs.Tidying.{TidyGoes}
 use Rattle.bx_node_steps.specs.declared.machine.Machine.{Machine}
 use Rattle.bx_node_tries.specs.declared.round.Said.{Said}
 use Rattle.bx_nodes.specs.Standing.{OfBoth, OfNode}
-use Rattle.bx_nodes.specs.Turns.{IsOldOrTold, OnlyMachine}
+use Rattle.bx_nodes.specs.Turns.{OnlyMachine}
 use Rattle.bx_nodes.specs.declared.nodes.Nodes.{Nodes}
 use Rattle.bx_nodes.proofs.Machines.{of_there, there_is, two_there}
-use Rattle.bx_volume.specs.Overlay.{Logs}
-use Rattle.bx_volume.specs.Records.{Logged}
 
 module _ {G O S E T : Type 0} (moment node : ℕ) (old new : Nodes G O S E T) (said : List Said) (there : node < length old.machines.items) (count : length new.machines.items ≡ length old.machines.items)
     (answers : OfBoth old new node (λ old new. AreApart old → AnswersCalls moment old new said)) (session : OfBoth old new node (λ old new. new.session ≡ old.session)) (asked : Option (ℕ × ℕ)) (tidies : OfBoth old new node (TidyGoes (IsSome asked)))
@@ -37,13 +35,6 @@ module _ {G O S E T : Type 0} (moment node : ℕ) (old new : Nodes G O S E T) (s
     others = others.others;
   }
 
--- A turn leaves all sessions.
-pub sessions_turn : (moment node : ℕ) (old new : List Machine) (said : List Said) → IsNodeTurn moment node old new said → (other : ℕ) → session_at new other ≡ session_at old other
-sessions_turn moment node old new said turn other = ⊎_elim
-    (λ same. subst (λ (n : ℕ). session_at new n ≡ session_at old n) (sym same) turn.sessions)
-    (λ ne. ap (option_map (λ (m : Machine). m.session)) (turn.others other ne))
-    (same_or other node)
-
 module _ (moment node latest : ℕ) (old new : List Machine) (said : List Said) (machine : Machine) (there : slice_get old node ≡ Some machine) (turn : IsNodeTurn moment node old new said) where
   then_is : (now : Machine) × (slice_get new node ≡ Some now) × AnswersCalls moment machine now said
   then_is = which (λ now. AnswersCalls moment machine now said) (slice_get new node) (turn.answers machine there)
@@ -62,37 +53,6 @@ module _ (moment node latest : ℕ) (old new : List Machine) (said : List Said) 
   -- what is answered waited at the node
   answered : (one : Said) → Contains said one → Waits old node (acting_said one).call
   answered one has = and_some (λ m. WaitsAt m (acting_said one).call) (slice_get old node) machine there (then_is.2.answers.waited one has)
-
-  pub numbered_then : AreNumbered latest old → AreNumbered latest new
-  numbered_then was = record {
-    least = λ n call waits. was.least n call (waited n call waits);
-    most = λ n call waits. was.most n call (waited n call waits);
-    alone = λ n other call twin waits also same. was.alone n other call twin (waited n call waits) (waited other twin also) same;
-  }
-
-  pub told_then : (logs logs_then : Logs) → AreNumbered latest old → AreTold latest old logs → ((slot : ℕ) (one : Logged) → Contains (logs_then slot) one → IsOldOrTold logs said slot one)
-      → AreTold latest new logs_then
-  told_then logs logs_then numbers was logged = record { came = came; none = none }
-    where
-      came : (slot : ℕ) (one : Logged) → Contains (logs_then slot) one → one.head.call ≤ latest
-      came slot one has = ⊎_elim
-          (was.came slot one)
-          (λ told. ⊎_elim
-          (λ zero. omega (arith, zero))
-          (λ is. let most = numbers.most node (acting_said is.one).call (answered is.one is.there) in let e = is.same in omega (arith, most, e))
-          told)
-          (logged slot one has)
-
-      none : (slot : ℕ) (one : Logged) (n : ℕ) (call : CallOf) → Contains (logs_then slot) one → Waits new n call → call.number ≢ one.head.call
-      none slot one n call has waits = ⊎_elim
-          (λ before. was.none slot one n call before (waited n call waits))
-          (λ told. ⊎_elim
-          (λ zero same. let least = numbers.least n call (waited n call waits) in absurd (omega (arith, zero, same, least)))
-          (λ is same.
-          let at = numbers.alone node n (acting_said is.one).call call (answered is.one is.there) (waited n call waits) (same ∙ sym is.same) in
-          (still_here call (subst (λ (m : ℕ). Waits new m call) at waits)).1 (record { one = is.one; there = is.there; same = is.same ∙ sym same }))
-          told)
-          (logged slot one has)
 
   pub there_then : (now : Machine) × (slice_get new node ≡ Some now) × AnswersCalls moment machine now said
   there_then = then_is

@@ -1,11 +1,9 @@
 -- What nodes keep where calls come and clocks tick, and what a turn of one of them makes of them.
-use Rattle.std.specs.Prelude.{◌≡◌, ◌≢◌, ℕ, List, IfSome, IsSome, IsSomeAnd, Option, None, Some, option_map, reverse, slice_get}
+use Rattle.std.specs.Prelude.{◌≡◌, ◌≢◌, ℕ, List, IfSome, IsSome, IsSomeAnd, Option, None, Some, option_map, slice_get}
 use Rattle.bx_node_steps.specs.Calls.{Acting, AnswersCalls, under_way}
 use Rattle.bx_node_steps.specs.Tidying.{TidyGoes}
 use Rattle.bx_node_steps.specs.declared.machine.Machine.{Machine}
-use Rattle.bx_node_tries.specs.Tries.{LeadsBack}
 use Rattle.bx_node_tries.specs.declared.round.Said.{Said}
-use Rattle.bx_views.specs.declared.engine.Engine as engine
 
 -- ---- sessions, and the records that are written
 
@@ -38,9 +36,3 @@ pub record IsNodeTurn (moment node : ℕ) (old new : List Machine) (said : List 
   pub tidies : (machine : Machine) → slice_get old node ≡ Some machine → IsSomeAnd (slice_get new node) (TidyGoes (IsSome asked) machine)
   pub sessions : session_at new node ≡ session_at old node
   pub others : (other : ℕ) → other ≢ node → slice_get new other ≡ slice_get old other
-
--- The answers lead to a next tree, for which something stands.
-pub record Rounded {E T : Type 0} (e : engine.Ghosts E T) (engine_is : E) (Stands_then : T → Type 0) (tree : T) (said : List Said) : Type 0 where
-  pub next : T
-  pub leads : LeadsBack (e.step engine_is) tree (reverse said) next
-  pub stands : Stands_then next

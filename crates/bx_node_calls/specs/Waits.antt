@@ -1,5 +1,5 @@
 -- The calls that wait at nodes, and what the logs have of calls.
-use Rattle.std.specs.Prelude.{◌≢◌, ◌≡◌, ℕ, ◌<◌, ◌≤◌, List, Contains, IsSomeAnd, slice_get}
+use Rattle.std.specs.Prelude.{◌≡◌, ℕ, ◌<◌, ◌≤◌, List, Contains, IsSomeAnd, slice_get}
 use Rattle.bx_node_steps.specs.Calls.{CallOf, WaitsAt}
 use Rattle.bx_node_steps.specs.declared.machine.Machine.{Machine}
 use Rattle.bx_volume.specs.Overlay.{Logs}
@@ -19,7 +19,6 @@ pub record AreNumbered (latest : ℕ) (machines : List Machine) : Type 0 where
   pub most : (node : ℕ) (call : CallOf) → Waits machines node call → call.number ≤ latest
   pub alone : (node other : ℕ) (call twin : CallOf) → Waits machines node call → Waits machines other twin → twin.number ≡ call.number → other ≡ node
 
--- What the logs have was told: it is of no call that waits, nor of one that comes later.
-pub record AreTold (latest : ℕ) (machines : List Machine) (logs : Logs) : Type 0 where
+-- What the logs have is of calls that came.
+pub record HaveCome (latest : ℕ) (logs : Logs) : Type 0 where
   pub came : (slot : ℕ) (one : Logged) → Contains (logs slot) one → one.head.call ≤ latest
-  pub none : (slot : ℕ) (one : Logged) (node : ℕ) (call : CallOf) → Contains (logs slot) one → Waits machines node call → call.number ≢ one.head.call

@@ -16,6 +16,7 @@ pub mod LettingGo
 pub mod Machines
 pub mod Moments
 pub mod Noting
+pub mod Opened
 pub mod Readings
 pub mod Readying
 pub mod Receiving

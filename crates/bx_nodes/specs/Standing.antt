@@ -1,5 +1,5 @@
 -- The nodes of a cluster: how they stand, with all else, and what is said of one of them.
-use Rattle.std.specs.Prelude.{◌≡◌, ◌≤◌, ℕ, List, Some, IfSome, slice_get}
+use Rattle.std.specs.Prelude.{◌≡◌, ◌≤◌, ℕ, List, Some, IfSome, IsSomeAnd, slice_get}
 use Rattle.bx_base.specs.declared.names.Actor.{Actor}
 use Rattle.bx_base.specs.declared.names.Actor.TheVariants.{Node}
 use Rattle.bx_disk.specs.Disks.{Disks}
@@ -7,6 +7,7 @@ use Rattle.bx_facts.specs.declared.register.Register as register
 use Rattle.bx_facts.specs.declared.store.Store as store
 use Rattle.bx_node_machines.specs.Nodes.{NodesStand}
 use Rattle.bx_node_machines.specs.Stopping.{StandsBut}
+use Rattle.bx_node_steps.specs.Calls.{IsOpening}
 use Rattle.bx_node_steps.specs.Ready.{IsReady, WasReady}
 use Rattle.bx_node_steps.specs.Seen.{seen}
 use Rattle.bx_node_steps.specs.declared.machine.Machine.{Machine}
@@ -28,6 +29,10 @@ module _ {G O S E T : Type 0} where
   -- what is said of a node before and then
   abbrev pub OfBoth : Nodes G O S E T → Nodes G O S E T → ℕ → (Machine → Machine → Type 0) → Type 0
   OfBoth old new node Says = IfSome (slice_get old.machines.items node) (λ before. IfSome (slice_get new.machines.items node) (Says before))
+
+  -- the gate of a call's record may have been sent there
+  abbrev pub OpensThere : Nodes G O S E T → ℕ → ℕ → Type 0
+  OpensThere nodes node number = IsSomeAnd (slice_get nodes.machines.items node) (λ machine. IsOpening machine number)
 
   -- it has what it has under a session
   abbrev pub IsUnder : Nodes G O S E T → ℕ → ℕ → Type 0

@@ -1,7 +1,8 @@
 -- What a turn does.
-use Rattle.std.specs.Prelude.{◌≡◌, ◌≢◌, ◌⊎◌, ℕ, false, true, All, Contains, IfSome, List, [], Option, None, Some, IsSome, reverse, slice_get}
+use Rattle.std.specs.Prelude.{◌≡◌, ◌≢◌, ◌⊎◌, ◌++◌, ◌∷◌, ℕ, false, true, All, Contains, IfSome, List, [], Option, None, Some, IsSome, reverse, slice_get}
 use Rattle.std.specs.List.{AllByRecursion}
 use Rattle.bx_base.specs.declared.names.Mode.{Mode}
+use Rattle.bx_base.specs.declared.names.Point.{Point}
 use Rattle.bx_facts.specs.declared.store.Store as store
 use Rattle.bx_facts.specs.Chains.{LivesIn, last}
 use Rattle.bx_facts.specs.Holds.{first_of}
@@ -20,13 +21,18 @@ use Rattle.bx_node_tries.specs.declared.round.Said.{Said}
 use Rattle.bx_node_tries.specs.declared.round.Waiting.{Waiting}
 use Rattle.bx_nodes.specs.Asks.{KeepsUnneeded}
 use Rattle.bx_nodes.specs.Giving.{AreWanted, GivesBack, IsInNeeds}
+use Rattle.bx_nodes.specs.declared.turns.Turn.{Turn}
 use Rattle.bx_facts.specs.declared.owners.Owners as owners
+use Rattle.bx_rows.specs.Words.{row_in}
+use Rattle.bx_rows.specs.declared.session.SessionRow.{SessionRow}
 use Rattle.bx_views.specs.declared.attempt.Attempt.TheVariants.{Need}
 use Rattle.bx_views.specs.declared.engine.Engine as engine
 use Rattle.bx_views.specs.Attempts.{Deed, IsFairNeed}
 use Rattle.bx_volume.specs.Overlay.{Logs}
 use Rattle.bx_volume.specs.Records.{Logged}
+use Rattle.bx_world_standing.specs.bx_world_logs.specs.Logs.{Slot, opens}
 use Rattle.bx_world_standing.specs.Standing.{Course}
+use Rattle.bx_world_views.specs.Views.{OfCall, Unacknowledged}
 
 -- A record in a log was in it before; or it is of no call; or its call is answered.
 abbrev pub IsOldOrTold : Logs → List Said → ℕ → Logged → Type 0
@@ -43,12 +49,103 @@ pub record Turned {T : Type 0} (own : Option ℕ) (Step : T → Deed → T → T
   pub works : LeavesWorks own c later
   pub stands : Stands_then later next
 
--- So a node had a turn under a session that is its own and lives; or under none, and then it answers nothing.
-pub record TurnedUnder {T : Type 0} (IsOwn : ℕ → Type 0) (Step : T → Deed → T → Type 0) (Stands_then : Course → T → Type 0) (c : Course) (tree : T) (said : List Said) : Type 0 where
+-- So a node answered calls under a session that is its own and lives; or under none, and then it answers none.
+pub record AnswersUnder {T : Type 0} (IsOwn : ℕ → Type 0) (Step : T → Deed → T → Type 0) (Stands_then : Course → T → Type 0) (c : Course) (tree : T) (said : List Said) : Type 0 where
   pub own : Option ℕ
   pub is_own : IfSome own (λ session. IsOwn session × LivesIn (last c.register.chain) session)
   pub quiet : own ≡ None → said ≡ []
   pub turned : Turned own Step Stands_then c tree said
+
+-- ---- a whole turn
+
+-- A session's record in doubt is of this call, and its gate may be open: it was sent.
+pub record MayBeOpen (rows : List SessionRow) (slots : ℕ → Slot) (doubts : ℕ → Option Unacknowledged) (session : ℕ) (doubt : Unacknowledged) (deed : Deed) : Type 0 where
+  pub row : SessionRow
+  pub has_row : row_in rows session ≡ Some row
+  pub sent : opens (slots row.slot).activity ≡ true
+  pub is : doubts session ≡ Some doubt
+  pub act : doubt.act ≡ OfCall deed
+
+-- so it is by a course
+abbrev pub IsOpenIn : Course → ℕ → Unacknowledged → Deed → Type 0
+IsOpenIn c = MayBeOpen (last c.register.chain).sessions c.slots c.doubts
+
+-- the call with a number is in doubt so, in this session
+pub record IsInDoubt (c : Course) (session number : ℕ) : Type 0 where
+  pub doubt : Unacknowledged
+  pub deed : Deed
+  pub open_is : IsOpenIn c session doubt deed
+  pub call : doubt.call ≡ number
+
+-- A log has a record of the call whose point this is.
+pub record HasRecordOf (logs : Logs) (point : Point) : Type 0 where
+  pub slot : ℕ
+  pub one : Logged
+  pub there : Contains (logs slot) one
+  pub same : one.head.call ≡ point.call
+
+-- a point of a record of no call, or of one which is in a log
+abbrev pub IsKnown : Logs → Point → Type 0
+IsKnown logs point = HasRecordOf logs point ⊎ (point.call ≡ 0)
+
+-- The record in doubt of a session that is dead, of which the gate was sent, was found open: its call acts at its point, and is in doubt no more.
+pub record ActsInDoubt {T : Type 0} (Step : T → Deed → T → Type 0) (old new : Course) (tree : T) (point : Point) (next : T) : Type 0 where
+  pub session : ℕ
+  pub doubt : Unacknowledged
+  pub deed : Deed
+  pub open_is : IsOpenIn old session doubt deed
+  pub dead : LivesIn (last old.register.chain) session → ⊥
+  pub call : point.call ≡ doubt.call
+  pub at : (deed.moment ≡ point.moment) × (deed.spare ≡ point.spare) × (deed.made ≡ point.made)
+  pub step : Step tree deed next
+  pub settled : new.doubts session ≡ None
+
+-- The points of a log that its recovery tells: those of records that it had, or of no call; and perhaps, behind them, that of a call which was in doubt, by which the tree goes on.
+pub data Tells {T : Type 0} (Step : T → Deed → T → Type 0) (old new : Course) (tree : T) (told : List Point) (next : T) : Type 0 where
+  OfKnown : ((point : Point) → Contains told point → IsKnown old.logs point) → next ≡ tree → Tells Step old new tree told next
+  WithDoubt : (earlier : List Point) (point : Point) → told ≡ earlier ++ point ∷ [] → ((one : Point) → Contains earlier one → IsKnown old.logs one) → ActsInDoubt Step old new tree point next
+      → Tells Step old new tree told next
+
+-- the point of a call is told
+pub record IsToldOf (told : List Point) (number : ℕ) : Type 0 where
+  pub one : Point
+  pub there : Contains told one
+  pub same : one.call ≡ number
+
+-- A call has its point by a turn: it is answered, or its point is told.
+abbrev pub IsSaidIn : Turn → ℕ → Type 0
+IsSaidIn turn number = IsAnswered turn.said.items number ⊎ IsToldOf turn.told.items number
+
+-- A record in a log was in it before; or it is of no call; or its call has its point by the turn.
+abbrev pub IsOldOrSaid : Logs → Turn → ℕ → Logged → Type 0
+IsOldOrSaid logs turn slot one = Contains (logs slot) one ⊎ ((one.head.call ≡ 0) ⊎ IsSaidIn turn one.head.call)
+
+-- A node did something under its own session, where it has one, and recovered what another session left, whose record in doubt went: what is of all other sessions stays.
+pub record LeavesOrSettles (own : Option ℕ) (old new : Course) : Type 0 where
+  pub slots : (session : ℕ) (row : SessionRow) → own ≢ Some session → row_in (last old.register.chain).sessions session ≡ Some row → ((new.slots row.slot).activity ≡ (old.slots row.slot).activity) ⊎ (new.doubts session ≡ None)
+  pub doubts : (session : ℕ) → own ≢ Some session → (new.doubts session ≡ old.doubts session) ⊎ (new.doubts session ≡ None)
+
+-- What is told of a log that was recovered leads to a tree, and the answers from there to a next one, for which what stands stands; nothing was decided meanwhile, and what the logs have besides is
+-- of calls that have their points then.
+pub record TakesTurn {T : Type 0} (own : Option ℕ) (Step : T → Deed → T → Type 0) (Stands_then : Course → T → Type 0) (c : Course) (tree : T) (turn : Turn) : Type 0 where
+  pub later : Course
+  pub between : T
+  pub next : T
+  pub tells : Tells Step c later tree turn.told.items between
+  pub leads : LeadsBack Step between (reverse turn.said.items) next
+  pub chain : later.register.chain ≡ c.register.chain
+  pub logged : (slot : ℕ) (one : Logged) → Contains (later.logs slot) one → IsOldOrSaid c.logs turn slot one
+  pub works : LeavesOrSettles own c later
+  pub stands : Stands_then later next
+
+-- So a node had a turn under a session that is its own and lives; or under none, and then it tells and answers nothing. An answer to one of these calls is to one in doubt. (`Opens` says of a call
+-- that its record's gate may have been sent at the node before.)
+pub record TurnedUnder {T : Type 0} (IsOwn Opens : ℕ → Type 0) (Step : T → Deed → T → Type 0) (Stands_then : Course → T → Type 0) (c : Course) (tree : T) (turn : Turn) : Type 0 where
+  pub own : Option ℕ
+  pub is_own : IfSome own (λ session. IsOwn session × LivesIn (last c.register.chain) session)
+  pub quiet : own ≡ None → (turn.told.items ≡ []) × (turn.said.items ≡ [])
+  pub opened : (number : ℕ) → Opens number → IsAnswered turn.said.items number → IfSome own (λ session. IsInDoubt c session number)
+  pub turned : TakesTurn own Step Stands_then c tree turn
 
 -- All machines but one are as they were.
 pub record OnlyMachine (node : ℕ) (old new : List Machine) : Type 0 where

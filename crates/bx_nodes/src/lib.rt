@@ -16,10 +16,9 @@ mod takes;
 mod tells;
 mod tidies;
 mod turns;
-mod unsaid;
 
 pub use answers::Attempted;
-pub use nodes::{Nodes, Unsaid, first_machines};
+pub use nodes::{Nodes, first_machines};
 pub use turns::{Lease, Turn};
 
 /// What the crates above use of `bx_node_openings`.

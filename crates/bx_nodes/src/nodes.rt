@@ -8,20 +8,11 @@ ghost use Rattle.bx_nodes.specs.Standing.{BeReady};
 ghost use Rattle.bx_nodes.specs.Stopping.{HasNothing};
 ghost use Rattle.bx_places.specs.Places.{IsVolume};
 
-use bx_base::{CallNo, OutOfMemory};
+use bx_base::OutOfMemory;
 use bx_facts::{Owners, Register, Store};
 use bx_node_steps::Machine;
 use bx_views::Engine;
 use std::alloc::Global;
-
-/// A call that has no point yet though its record may stand: the gate of that was sent.
-#[derive(Clone, Copy, Debug)]
-pub struct Unsaid {
-    /// The session in whose log the record is.
-    pub session: u64,
-    /// The call.
-    pub call: CallNo,
-}
 
 /// The nodes of a cluster, with the parts that they use.
 #[derive(Drop)]
@@ -32,7 +23,6 @@ pub struct Nodes<G: Register, O: Owners, S: Store, E: Engine> {
     pub(crate) store: S,
     pub(crate) engine: E,
     pub(crate) machines: Vec<Machine>,
-    pub(crate) unsaid: Vec<Unsaid>,
 }
 
 impl<G: Register, O: Owners, S: Store, E: Engine> Nodes<G, O, S, E> {
@@ -57,7 +47,6 @@ impl<G: Register, O: Owners, S: Store, E: Engine> Nodes<G, O, S, E> {
             store,
             engine,
             machines,
-            unsaid: Vec::new(alloc),
         }
     }
 }

@@ -2,7 +2,7 @@
 
 use crate::nodes::Nodes;
 use crate::turns::Lease;
-use bx_base::{Actor, OutOfMemory, Point};
+use bx_base::{Actor, List, OutOfMemory, Point};
 use bx_facts::{FactError, Outbox, Owners, Register, Store};
 use bx_global::Change;
 use bx_node_steps::{Fetch, Stage, to_claim};
@@ -11,16 +11,16 @@ use bx_views::Engine;
 
 impl<G: Register, O: Owners, S: Store, E: Engine> Nodes<G, O, S, E> {
     /// Goes on with the recovery of a node, which begins where its log rests and its session has claimed one that is dead: what it asks for next is sent, which members take until the lease
-    /// ends. Says the point of the call whose record it found, where that had none yet.
+    /// ends. Tells the points of the records that it has read, once, in their order.
     pub(crate) fn recover(
         &mut self,
         node: u32,
         lease: Lease,
         out: &mut Outbox,
-    ) -> Result<Option<Point>, OutOfMemory> {
+    ) -> Result<Vec<Point>, OutOfMemory> {
         self.begin_recovery(node, lease.session);
         if self.machines[node as usize].recovers().is_none() {
-            return Ok(None);
+            return Ok(Vec::new(self.alloc));
         }
         self.step_recovery(node, lease, out)
     }
@@ -51,7 +51,7 @@ impl<G: Register, O: Owners, S: Store, E: Engine> Nodes<G, O, S, E> {
         node: u32,
         lease: Lease,
         out: &mut Outbox,
-    ) -> Result<Option<Point>, OutOfMemory> {
+    ) -> Result<Vec<Point>, OutOfMemory> {
         let arrived = self.store.arrived(node);
         let done = self.store.done(node);
         let said = self.machines[node as usize].recover_on(arrived.as_ref(), done)?;

@@ -18,7 +18,6 @@ ghost use Rattle.bx_world_standing.specs.Parts.{Clocks};
 ghost use Rattle.bx_world_standing.specs.Standing.{Course};
 
 use crate::nodes::Nodes;
-use crate::turns::Lease;
 use bx_base::OutOfMemory;
 use bx_facts::{Outbox, Owners, Register, Store};
 use bx_node_steps::{LogStep, Recording, asked_by};
@@ -95,7 +94,7 @@ impl<G: Register, O: Owners, S: Store, E: Engine> Nodes<G, O, S, E> {
     pub fn step_log(
         &mut self,
         node: u32,
-        lease: Lease,
+        until: u64,
         out: &mut Outbox,
     ) -> Result<Option<Said>, OutOfMemory>
         requires there { node < length self.old.machines.items }
@@ -117,23 +116,10 @@ impl<G: Register, O: Owners, S: Store, E: Engine> Nodes<G, O, S, E> {
             return Ok(None);
         }
         let LogStep { runs, said } = self.machines[node as usize].log_on()?;
-        self.note_call(node, lease.session, said.is_some())?;
         let Some(runs) = runs else {
             return Ok(said);
         };
-        self.store.write(node, &runs, lease.until, out)?;
+        self.store.write(node, &runs, until, out)?;
         Ok(said)
-    }
-
-    /// Notes what a node's log did with the record of a call, in the log of a session: it is acknowledged, and its point said; or its gate is sent.
-    fn note_call(&mut self, node: u32, session: u64, is_said: bool) -> Result<(), OutOfMemory> {
-        if is_said {
-            self.settle_calls(session);
-            return Ok(());
-        }
-        match self.machines[node as usize].written() {
-            Some(call) => self.lacks(session, call),
-            None => Ok(()),
-        }
     }
 }

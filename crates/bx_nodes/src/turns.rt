@@ -9,8 +9,8 @@ ghost use Rattle.bx_node_steps.specs.Calls.{AnswersCalls, AreApart};
 ghost use Rattle.bx_node_steps.specs.Gives.{marked};
 ghost use Rattle.bx_node_steps.specs.Tidying.{TidyGoes};
 ghost use Rattle.bx_nodes.specs.Cleaning.{CleansArea, IsHeldUp};
-ghost use Rattle.bx_nodes.specs.Standing.{Asking, BeReady, HasLease, IsUnder, IsUnderOwn, OfBoth, OfNode, Ready, Rests, Stand};
-ghost use Rattle.bx_nodes.specs.Turns.{OnlyMachine, OnlyStore, TurnEnds, Turned, TurnedUnder, Waits, newest_of, noting};
+ghost use Rattle.bx_nodes.specs.Standing.{Asking, BeReady, HasLease, IsUnder, IsUnderOwn, OfBoth, OfNode, OpensThere, Ready, Rests, Stand};
+ghost use Rattle.bx_nodes.specs.Turns.{OnlyMachine, AnswersUnder, OnlyStore, TurnEnds, Turned, TurnedUnder, Waits, newest_of, noting};
 ghost use Rattle.bx_post.specs.declared.packets.Letter.{Letter};
 ghost use Rattle.bx_world_standing.specs.Parts.{Clocks};
 ghost use Rattle.bx_world_standing.specs.Standing.{Course};
@@ -22,6 +22,7 @@ use bx_facts::{Outbox, Owners, Register, Store};
 use bx_node_steps::Stage;
 use bx_node_tries::Said;
 use bx_views::Engine;
+use std::alloc::Global;
 
 /// What a node works under in a turn.
 #[derive(Clone, Copy)]
@@ -35,25 +36,42 @@ pub struct Lease {
 /// What comes of a turn.
 #[derive(Drop)]
 pub struct Turn {
-    /// The point of a call that had none, whose record was found in the log of a session that is dead.
-    pub found: Option<Point>,
-    /// The answers, in the order in which the calls acted, behind the one that was found.
+    /// The points of the records of a log that a recovery has read, in their order: those of records that acted before, and behind them perhaps that of one that was in doubt.
+    pub told: Vec<Point>,
+    /// The answers, in the order in which the calls acted, behind what is told.
     pub said: Vec<Said>,
+}
+
+impl Turn {
+    /// A turn in which nothing is told or said. It takes no memory.
+    pub fn none(alloc: Global) -> Turn
+        ensures { (result.told.items ≡ []) × (result.said.items ≡ []) }
+    {
+        Turn {
+            told: Vec::new(alloc),
+            said: Vec::new(alloc),
+        }
+    }
 }
 
 impl<G: Register, O: Owners, S: Store, E: Engine> Nodes<G, O, S, E> {
     /// A node's turn, at a reading in milliseconds. Where its lease is valid it takes in what it has read, and its log goes on; where that rests it gives back what
     /// it is asked for, its calls are attempted, and one begins a record, or what they need is asked for; and where no call waits, a tidy that is under way goes on.
-    /// Says the answers, in the order in which the calls acted.
-    pub fn turn(&mut self, node: u32, reading: u64, out: &mut Outbox) -> Result<Turn, OutOfMemory>
+    /// Tells the points of a log that it recovers, and says the answers, in the order in which the calls acted.
+    pub fn turn(
+        &mut self,
+        node: u32,
+        reading: u64,
+        out: &mut Outbox,
+    ) -> Result<Turn, OutOfMemory>
         requires there { (node < length self.old.machines.items) × (node < G.nodes self.old.register) }
         requires ready { BeReady S.Store E.Engine self.old node }
         requires moment { reading ≤ 4294967295999 }
         ensures stands { (x : Disks) (letters : List Letter) (clocks : Clocks) (c : Course) (tree : E.Tree) → clocks.down (Node node) ≡ false → clocks.greatest ≤ reading + 500
             → Stand G.Register O.Owners S.Store E.Engine self.old x (letters ++ out.old) clocks c tree
-            → IfOk result (λ said. TurnedUnder (IsUnderOwn O.Owners self.old node) (E.step self.old.engine) (Stand G.Register O.Owners S.Store E.Engine self.new x (letters ++ out.new) clocks) c tree said.items) }
-        ensures waits { (lease : Lease) → HasLease O.Owners S.Store self.old node reading lease → IfOk result (λ said. OfBoth self.old self.new node (λ old new. TurnEnds O.Owners E.Engine self.new.engine node reading lease.session (S.answer self.old.store node) (S.asked self.old.store node) said.items self.old.owners self.new.owners (S.out_of self.new.store node) (Asking G.Register O.Owners self.new node) (noting (O.asks self.old.owners node) old) new)) }
-        ensures answers { IfOk result (λ said. OfBoth self.old self.new node (λ old new. AreApart old → AnswersCalls reading old new said.items)) }
+            → IfOk result (λ turn. TurnedUnder (IsUnderOwn O.Owners self.old node) (OpensThere self.old node) (E.step self.old.engine) (Stand G.Register O.Owners S.Store E.Engine self.new x (letters ++ out.new) clocks) c tree turn) }
+        ensures waits { (lease : Lease) → HasLease O.Owners S.Store self.old node reading lease → IfOk result (λ turn. OfBoth self.old self.new node (λ old new. TurnEnds O.Owners E.Engine self.new.engine node reading lease.session (S.answer self.old.store node) (S.asked self.old.store node) turn.said.items self.old.owners self.new.owners (S.out_of self.new.store node) (Asking G.Register O.Owners self.new node) (noting (O.asks self.old.owners node) old) new)) }
+        ensures answers { IfOk result (λ turn. OfBoth self.old self.new node (λ old new. AreApart old → AnswersCalls reading old new turn.said.items)) }
         ensures notes { OnOk result (OfNode self.new node (λ machine. machine.mark ≡ marked (first_of (O.asks self.new.owners node)) machine)) }
         ensures session { OnOk result (OfBoth self.old self.new node (λ old new. new.session ≡ old.session)) }
         ensures tidies { OnOk result (OfBoth self.old self.new node (TidyGoes (IsSome (first_of (O.asks self.old.owners node))))) }
@@ -84,9 +102,9 @@ impl<G: Register, O: Owners, S: Store, E: Engine> Nodes<G, O, S, E> {
         requires moment { reading ≤ 4294967295999 }
         ensures stands { (x : Disks) (letters : List Letter) (clocks : Clocks) (c : Course) (tree : E.Tree) → clocks.down (Node node) ≡ false → clocks.greatest ≤ reading + 500
             → Stand G.Register O.Owners S.Store E.Engine self.old x (letters ++ out.old) clocks c tree
-            → IfOk result (λ said. TurnedUnder (IsUnderOwn O.Owners self.old node) (E.step self.old.engine) (Stand G.Register O.Owners S.Store E.Engine self.new x (letters ++ out.new) clocks) c tree said.items) }
-        ensures waits { (lease : Lease) → HasLease O.Owners S.Store self.old node reading lease → IfOk result (λ said. OfBoth self.old self.new node (λ old new. TurnEnds O.Owners E.Engine self.new.engine node reading lease.session (S.answer self.old.store node) (S.asked self.old.store node) said.items self.old.owners self.new.owners (S.out_of self.new.store node) (Asking G.Register O.Owners self.new node) old new)) }
-        ensures answers { IfOk result (λ said. OfBoth self.old self.new node (λ old new. AreApart old → AnswersCalls reading old new said.items)) }
+            → IfOk result (λ turn. TurnedUnder (IsUnderOwn O.Owners self.old node) (OpensThere self.old node) (E.step self.old.engine) (Stand G.Register O.Owners S.Store E.Engine self.new x (letters ++ out.new) clocks) c tree turn) }
+        ensures waits { (lease : Lease) → HasLease O.Owners S.Store self.old node reading lease → IfOk result (λ turn. OfBoth self.old self.new node (λ old new. TurnEnds O.Owners E.Engine self.new.engine node reading lease.session (S.answer self.old.store node) (S.asked self.old.store node) turn.said.items self.old.owners self.new.owners (S.out_of self.new.store node) (Asking G.Register O.Owners self.new node) old new)) }
+        ensures answers { IfOk result (λ turn. OfBoth self.old self.new node (λ old new. AreApart old → AnswersCalls reading old new turn.said.items)) }
         ensures session { OnOk result (OfBoth self.old self.new node (λ old new. new.session ≡ old.session)) }
         ensures tidies { OnOk result (OfBoth self.old self.new node (λ old new. TidyGoes (IsSome old.mark) old new)) }
         ensures cleans { (x : Disks) (letters : List Letter) (clocks : Clocks) (c later : Course) (tree next : E.Tree) → clocks.down (Node node) ≡ false → clocks.greatest ≤ reading + 500
@@ -104,17 +122,14 @@ impl<G: Register, O: Owners, S: Store, E: Engine> Nodes<G, O, S, E> {
         ensures count { length self.new.machines.items ≡ length self.old.machines.items }
     {
         let Some(lease) = self.lease_at(node, reading) else {
-            return Ok(Turn {
-                found: None,
-                said: Vec::new(self.alloc),
-            });
+            return Ok(Turn::none(self.alloc));
         };
         self.receive(node)?;
-        let acked = self.step_log(node, lease, out)?;
-        let found = self.recover(node, lease, out)?;
+        let acked = self.step_log(node, lease.until, out)?;
+        let told = self.recover(node, lease, out)?;
         let answers = self.attempt_turn(node, lease, reading, out)?;
         let said = together(acked, answers)?;
-        Ok(Turn { found, said })
+        Ok(Turn { told, said })
     }
 
     /// The attempts of a turn: where its log rests and no write of it is out the node works on, and goes on with a tidy behind that; else it only answers.

@@ -1,77 +1,51 @@
--- A call that touches no block is answered over whatever stands.
-use Rattle.std.proofs.Common.{◌≡◌, ℕ, ◌<◌, List, [], ◌∷◌, ◌++◌, inl, inr, refl, ⊎_elim, sym, ap, subst, arith}
+-- A call that touches no block is answered over whatever stands, behind a turn of its node.
+use Rattle.std.proofs.Common.{◌≡◌, ◌⊎◌, ◌∙◌, ℕ, ◌<◌, List, [], ◌∷◌, ◌++◌, Contains, Option, None, Some, inl, inr, ⊎_elim, sym, ap, subst, arith}
 use Rattle.std.specs.Prelude.{reverse}
 use Rattle.std.proofs.lemmas.List.{reverse-append}
+use Rattle.std.proofs.lemmas.List.Elements.{Contains-append_left, Contains-push_cases}
+use Rattle.bx_base.specs.declared.names.Point.{Point}
 use Rattle.bx_disk.specs.Disks.{Disks}
 use Rattle.bx_facts.specs.declared.owners.Owners as owners
 use Rattle.bx_facts.specs.declared.register.Register as register
 use Rattle.bx_facts.specs.declared.store.Store as store
-use Rattle.bx_node_calls.specs.Turns.{Rounded}
-use Rattle.bx_node_calls.specs.Waits.{AreNumbered, AreTold}
+use Rattle.bx_node_calls.specs.Waits.{AreNumbered}
+use Rattle.bx_node_calls.specs.bx_nodes.specs.declared.turns.Turn.{Turn}
 use Rattle.bx_node_machines.proofs.Showing.{answered}
+use Rattle.bx_node_steps.specs.Calls.{IsAnswered}
 use Rattle.bx_node_steps.specs.Seen.{seen}
 use Rattle.bx_node_steps.specs.declared.machine.Machine.{Machine}
 use Rattle.bx_node_tries.specs.Tries.{LeadsBack, LedTo}
 use Rattle.bx_node_tries.specs.declared.round.Said.{Said}
 use Rattle.bx_post.specs.declared.packets.Letter.{Letter}
-use Rattle.bx_views.specs.Attempts.{Deed}
+use Rattle.bx_views.specs.Truths.{Truth, no_hints}
 use Rattle.bx_views.specs.declared.engine.Engine as engine
-use Rattle.bx_world_machines.specs.Standing.{IsReady, Standing, StandsBehind, StandsBy}
+use Rattle.bx_world_machines.specs.Doubts.{AnswersThose, AreInDoubt, DoubtsGo, Finds, FoundIn, IsFoundOf}
+use Rattle.bx_world_machines.specs.Standing.{IsReady, Standing, StandsTurned}
 use Rattle.bx_world_machines.specs.declared.machines.Machines.{Machines}
-use Rattle.bx_world_machines.specs.Doubts.{AreInDoubt, DoubtsGo}
 use Rattle.bx_world_machines.proofs.Doubts.{in_doubt_later}
 use Rattle.bx_world_standing.specs.Standing.{Course}
-use Rattle.bx_facts.proofs.Lists.{behind, front_or_behind}
-use Rattle.bx_world_standing.specs.bx_volume.specs.Overlay.{Logs}
 
 -- numbers up to a later one
-pub numbered_later : (latest later : ℕ) (machines : List Machine) → latest < later → AreNumbered latest machines → AreNumbered later machines
+numbered_later : (latest later : ℕ) (machines : List Machine) → latest < later → AreNumbered latest machines → AreNumbered later machines
 numbered_later latest later machines less was = record {
   least = was.least;
   most = λ node call waits. let m = was.most node call waits in omega (arith, m, less);
   alone = was.alone;
 }
 
-pub told_later : (latest later : ℕ) (machines : List Machine) (logs : Logs) → latest < later → AreTold latest machines logs → AreTold later machines logs
-told_later latest later machines logs less was = record { came = λ slot one has. let c = was.came slot one has in omega (arith, c, less); none = was.none }
+-- one that is answered is among the others, or is the last one
+answered_or_last : (others : List Said) (one : Said) (number : ℕ) → IsAnswered (others ++ one ∷ []) number → IsAnswered others number ⊎ (one.point.call ≡ number)
+answered_or_last others one number is = ⊎_elim
+    (λ there. inl (record { one = is.one; there = there; same = is.same }))
+    (λ same. inr (ap (λ (s : Said). s.point.call) same ∙ is.same))
+    (Contains-push_cases others one is.one is.there)
 
--- An answer, and then more: they lead on.
-leads_behind : {T : Type 0} (Step : T → Deed → T → Type 0) (first middle : T) (one : Said) → LeadsBack Step first (one ∷ []) middle → (later : List Said) (last : T) → LeadsBack Step middle later last → LeadsBack Step first (later ++ one ∷ []) last
-leads_behind Step first middle one begins [] last is = subst (λ t. LeadsBack Step first (one ∷ []) t) (sym is) begins
-leads_behind Step first middle one begins (said ∷ earlier) last is = (is.0, leads_behind Step first middle one begins earlier is.0 is.1, is.2)
+module _ {G O S E T : Type 0} (g : register.Ghosts G) (o : owners.Ghosts O) (st : store.Ghosts S) (e : engine.Ghosts E T) (machines : Machines G O S E T) (one : Said) (newer : machines.latest < one.point.call) where
+  abbrev then_machines : Machines G O S E T
+  then_machines = record machines { latest = one.point.call }
 
-pub rounded_behind : {E T : Type 0} (e : engine.Ghosts E T) (engine_is : E) (Middle Stands_then : T → Type 0) (tree : T) (one : Said) (others all : List Said) → all ≡ one ∷ others
-    → Rounded e engine_is Middle tree (one ∷ []) → ((next : T) → Middle next → Rounded e engine_is Stands_then next others) → Rounded e engine_is Stands_then tree all
-rounded_behind e engine_is Middle Stands_then tree one others all is first goes_on =
-    let behind = goes_on first.next first.stands in
-    record {
-      next = behind.next;
-      leads = rw (is, reverse-append (one ∷ []) others) (leads_behind (e.step engine_is) tree first.next one first.leads (reverse others) behind.next behind.leads);
-      stands = behind.stands;
-    }
-
--- What stands behind others stands behind one more that is newer than all that are in doubt.
-pub goes_more : (one : Said) (others all : List Said) (machines : List Machine) (c later : Course) (latest : ℕ) (old : List Machine) → all ≡ one ∷ others → latest < one.point.call → AreInDoubt latest old c → DoubtsGo others machines c later → DoubtsGo all machines c later
-goes_more one others all machines c later latest old is newer was goes = rw is (record {
-  doubted = λ session doubt deed open_is. ⊎_elim
-      (λ before. inl (
-        before.0,
-        λ answered. ⊎_elim
-            (λ first. let low = was.came session doubt deed before.0 in let same = ap (λ (s : Said). s.point.call) first in let n = answered.same in omega (arith, low, newer, same, n))
-            (λ there. before.1 (record { one = answered.one; there = there; same = answered.same }))
-            (front_or_behind one others answered.one answered.there),
-      ))
-      inr
-      (goes.doubted session doubt deed open_is);
-  logged = λ slot record_is has. ⊎_elim
-      inl
-      (λ told. inr (⊎_elim inl (λ answered. inr (record { one = answered.one; there = behind one others answered.one answered.there; same = answered.same })) told))
-      (goes.logged slot record_is has);
-})
-
-module _ {G O S E T : Type 0} (g : register.Ghosts G) (o : owners.Ghosts O) (st : store.Ghosts S) (e : engine.Ghosts E T) (old : Machines G O S E T) (number : ℕ) (later : old.latest < number) where
   -- the machines, where a call with this number came
-  pub ready_numbered : (sizes : List ℕ) → IsReady g o st e old sizes → IsReady g o st e (record old { latest = number }) sizes
+  pub ready_numbered : (sizes : List ℕ) → IsReady g o st e machines sizes → IsReady g o st e (record machines { latest = one.point.call }) sizes
   ready_numbered sizes is = record {
     are_ready = record {
       nodes = is.are_ready.nodes;
@@ -80,46 +54,89 @@ module _ {G O S E T : Type 0} (g : register.Ghosts G) (o : owners.Ghosts O) (st 
       few = is.are_ready.few;
       there = is.are_ready.there;
       quiet = is.are_ready.quiet;
-      numbered = numbered_later old.latest number old.nodes.machines.items later is.are_ready.numbered;
+      numbered = numbered_later machines.latest one.point.call machines.nodes.machines.items newer is.are_ready.numbered;
     };
     replicas = is.replicas;
     members = is.members;
   }
 
-  pub stands_answered : (letters : List Letter) (x : Disks) (tree : T) (said : List Said) → (standing : Standing g o st e old letters x tree)
-      → LedTo (e.stands old.nodes.engine) (e.step old.nodes.engine) (e.free old.nodes.engine standing.course.truth) standing.course.truth tree said
-      → Rounded e old.nodes.engine (StandsBy g o st e standing.course (record old { latest = number }) letters x) tree said
-  stands_answered letters x tree said standing led = record {
-    next = led.last;
-    leads = led.leads;
-    stands = (
-      record {
-        clocks = standing.clocks;
-        course = standing.course;
-        are_clocks = record { down = standing.are_clocks.down; boots = standing.are_clocks.boots; greatest = standing.are_clocks.greatest };
-        stands = answered g o st (e.stands old.nodes.engine) (e.step old.nodes.engine) old.nodes.register old.nodes.owners old.nodes.store x letters standing.clocks (seen old.nodes.machines.items) standing.course tree led.last led.all standing.stands;
-        told = told_later old.latest number old.nodes.machines.items standing.course.logs later standing.told;
-        doubts = in_doubt_later old.latest number old.nodes.machines.items standing.course later standing.doubts;
-        known = standing.known;
-      },
-      refl,
-    );
+  -- They stand for the tree behind its answer.
+  stands_then : (letters : List Letter) (x : Disks) (tree : T) → (standing : Standing g o st e machines letters x tree)
+      → (led : LedTo (e.stands machines.nodes.engine) (e.step machines.nodes.engine) (e.free machines.nodes.engine standing.course.truth) standing.course.truth tree (one ∷ []))
+      → Standing g o st e then_machines letters x led.last
+  stands_then letters x tree standing led = record {
+    clocks = standing.clocks;
+    course = standing.course;
+    are_clocks = record { down = standing.are_clocks.down; boots = standing.are_clocks.boots; greatest = standing.are_clocks.greatest };
+    stands = answered g o st (e.stands machines.nodes.engine) (e.step machines.nodes.engine) machines.nodes.register machines.nodes.owners machines.nodes.store x letters standing.clocks (seen machines.nodes.machines.items) standing.course tree led.last led.all standing.stands;
+    came = record { came = λ slot logged has. let low = standing.came.came slot logged has in omega (arith, low, newer) };
+    doubts = in_doubt_later machines.latest one.point.call machines.nodes.machines.items standing.course newer standing.doubts;
+    known = standing.known;
   }
 
-  -- .. by the course by which they stood
-  pub answered_by : (letters : List Letter) (x : Disks) (tree : T) (said : List Said) (course : Course) → (by_it : StandsBy g o st e course old letters x tree)
-      → LedTo (e.stands old.nodes.engine) (e.step old.nodes.engine) (e.free old.nodes.engine by_it.0.course.truth) by_it.0.course.truth tree said
-      → Rounded e old.nodes.engine (StandsBy g o st e course (record old { latest = number }) letters x) tree said
-  answered_by letters x tree said course by_it led = subst (λ (k : Course). Rounded e old.nodes.engine (StandsBy g o st e k (record old { latest = number }) letters x) tree said) by_it.1 (stands_answered letters x tree said by_it.0 led)
+  module _ (MayAct : ℕ → Type 0) (engine_is : E) (c : Course) (first : T) (turn turn_then : Turn) (latest : ℕ) (old : List Machine) (before : latest < one.point.call) (was : AreInDoubt latest old c) (told : turn_then.told.items ≡ turn.told.items) (said : turn_then.said.items ≡ turn.said.items ++ one ∷ []) where
+    answers_then : (between : T) (found : Option Point) → Finds (e.step engine_is) c first turn.told.items found between → AnswersThose MayAct found turn.said.items c → AnswersThose (λ number. MayAct number ⊎ (one.point.call ≡ number)) found turn_then.said.items c
+    answers_then between found finds were = record {
+      acted = λ number is might. ⊎_elim
+          (λ there. were.acted number there (λ may. might (inl may)))
+          (λ same. absurd (might (inr same)))
+          (answered_or_last turn.said.items one number (subst (λ (l : List Said). IsAnswered l number) said is));
+      apart = λ number is acts. ⊎_elim
+          (λ there. were.apart number there acts)
+          (λ same. found_low found finds number acts same)
+          (answered_or_last turn.said.items one number (subst (λ (l : List Said). IsAnswered l number) said is));
+    }
+      where
+        found_low : (it : Option Point) → Finds (e.step engine_is) c first turn.told.items it between → (number : ℕ) → IsFoundOf it number → one.point.call ≡ number → ⊥
+        found_low None is number none same = none
+        found_low (Some point) is number acts same =
+            let its : FoundIn (e.step engine_is) c first point between = is.3 in
+            let low = was.came its.session its.doubt its.deed its.open_is in
+            let call = its.call in
+            omega (arith, low, call, acts, same, before)
 
--- What leads on, behind one answer more that is newer than all that are in doubt.
-pub rounded_more : {G O S E T : Type 0} (g : register.Ghosts G) (o : owners.Ghosts O) (st : store.Ghosts S) (e : engine.Ghosts E T) (engine_is : E) (one : Said) (others all : List Said) (c : Course) (old new : Machines G O S E T) (letters : List Letter) (x : Disks) (tree : T)
-    → all ≡ one ∷ others → old.latest < one.point.call → AreInDoubt old.latest old.nodes.machines.items c → Rounded e engine_is (StandsBehind g o st e c others new letters x) tree others → Rounded e engine_is (StandsBehind g o st e c all new letters x) tree others
-rounded_more g o st e engine_is one others all c old new letters x tree is newer was rounded = record {
-  next = rounded.next;
-  leads = rounded.leads;
-  stands = record {
-    stands = rounded.stands.stands;
-    goes = goes_more one others all new.nodes.machines.items c rounded.stands.stands.course old.latest old.nodes.machines.items is newer was rounded.stands.goes;
-  };
-}
+    goes_then : (found : Option Point) (later : Course) → DoubtsGo found turn.said.items machines.nodes.machines.items c later → DoubtsGo found turn_then.said.items machines.nodes.machines.items c later
+    goes_then found later goes = record {
+      doubted = λ session doubt deed open_is. ⊎_elim
+          (λ still. inl (still.0, (λ is. ⊎_elim
+          still.1
+          (λ same. let low = was.came session doubt deed still.0 in omega (arith, low, same, before))
+          (answered_or_last turn.said.items one doubt.call (subst (λ (l : List Said). IsAnswered l doubt.call) said is))), still.2))
+          inr
+          (goes.doubted session doubt deed open_is);
+      logged = λ slot logged has. ⊎_elim
+          inl
+          (λ newer_it. inr (⊎_elim inl (λ pointed. inr (⊎_elim
+          (λ is. inl (record { one = is.one; there = subst (λ (l : List Said). Contains l is.one) (sym said) (Contains-append_left turn.said.items (one ∷ []) is.one is.there); same = is.same }))
+          inr
+          pointed)) newer_it))
+          (goes.logged slot logged has);
+    }
+
+    -- What stands behind a turn stands behind it with this answer more, which is newer than all that were in doubt.
+    pub answered_last : (letters : List Letter) (x : Disks) → machines.nodes.engine ≡ engine_is
+        → ((truth : Truth) (tree : T) → e.stands engine_is truth no_hints tree → LedTo (e.stands engine_is) (e.step engine_is) (e.free engine_is truth) truth tree (one ∷ []))
+        → StandsTurned g o st e MayAct engine_is c first turn machines letters x → StandsTurned g o st e (λ number. MayAct number ⊎ (one.point.call ≡ number)) engine_is c first turn_then then_machines letters x
+    unfolding stands_then
+    answered_last letters x same leads is =
+        let course = is.stands.stands.course in
+        let its : e.stands engine_is course.truth no_hints is.next = subst (λ (en : E). e.stands en course.truth no_hints is.next) same is.stands.stands.stands.at.volume.is in
+        let led = leads course.truth is.next its in
+        let led_here = subst (λ (en : E). LedTo (e.stands en) (e.step en) (e.free en course.truth) course.truth is.next (one ∷ [])) (sym same) led in
+        record {
+          found = is.found;
+          between = is.between;
+          next = led_here.last;
+          finds = subst (λ (l : List Point). Finds (e.step engine_is) c first l is.found is.between) (sym told) is.finds;
+          leads = subst (λ (l : List Said). LeadsBack (e.step engine_is) is.between l led_here.last) (sym (ap reverse said ∙ reverse-append turn.said.items (one ∷ [])))
+              (leads_last led_here (subst (λ (en : E). LeadsBack (e.step en) is.next (one ∷ []) led_here.last) same led_here.leads));
+          answers = answers_then is.between is.found is.finds is.answers;
+          stands = record {
+            stands = stands_then letters x is.next is.stands.stands led_here;
+            goes = goes_then is.found course is.stands.goes;
+          };
+        }
+      where
+        leads_last : (led_here : LedTo (e.stands machines.nodes.engine) (e.step machines.nodes.engine) (e.free machines.nodes.engine is.stands.stands.course.truth) is.stands.stands.course.truth is.next (one ∷ [])) → LeadsBack (e.step engine_is) is.next (one ∷ []) led_here.last
+            → LeadsBack (e.step engine_is) is.between (one ∷ reverse turn.said.items) led_here.last
+        leads_last led_here by_it = (is.next, is.leads, subst (λ t. e.step engine_is t _ led_here.last) by_it.1 by_it.2)

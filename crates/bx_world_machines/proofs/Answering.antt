@@ -1,12 +1,12 @@
 -- What comes of the calls that wait, from one step of a node to the next.
-use Rattle.std.proofs.Common.{◌≡◌, ◌⊎◌, ⊎_elim, inl, inr, ◌∙◌, ℕ, ◌<◌, Bool, List, [], length, Contains, Option, Some, None, IfSome, IsSomeAnd, refl, sym, ap, subst, arith}
+use Rattle.std.proofs.Common.{◌≡◌, ◌⊎◌, ⊎_elim, inl, inr, ◌∙◌, ℕ, ◌<◌, Bool, List, [], length, Contains, Option, Some, None, IfSome, IsSomeAnd, refl, sym, ap, subst, arith, ◌≤◌}
 use Rattle.std.specs.Prelude.{◌↔◌, option_map, slice_get}
 use Rattle.bx_base.specs.declared.names.Actor.{Actor}
 use Rattle.bx_base.specs.declared.names.Actor.TheVariants.{Member, Node, Replica, Server}
 use Rattle.bx_facts.proofs.Lists.{nothing}
 use Rattle.bx_global.specs.declared.state.GlobalState.{GlobalState}
 use Rattle.bx_node_calls.specs.Turns.{IsNodeTurn, acting_at, acting_in}
-use Rattle.bx_node_calls.specs.Waits.{AreNumbered, AreTold, Waits}
+use Rattle.bx_node_calls.specs.Waits.{AreNumbered, Waits}
 use Rattle.bx_node_calls.proofs.Coming.{Changed, changed_at, numbered_on}
 use Rattle.bx_node_calls.specs.bx_nodes.proofs.Machines.{of_there, two_there}
 use Rattle.bx_node_calls.proofs.Found.{and_some, same_or, some_and}
@@ -20,10 +20,8 @@ use Rattle.bx_node_tries.specs.declared.round.Said.{Said}
 use Rattle.bx_node_calls.specs.bx_nodes.specs.Renewing.{Renews}
 use Rattle.bx_node_calls.specs.bx_nodes.specs.Renewing.Renews.{Anew, Stays}
 use Rattle.bx_node_calls.specs.bx_nodes.specs.Standing.{OfBoth, OfNode}
-use Rattle.bx_node_calls.specs.bx_nodes.specs.Turns.{IsOldOrTold, OnlyMachine}
+use Rattle.bx_node_calls.specs.bx_nodes.specs.Turns.{OnlyMachine}
 use Rattle.bx_node_calls.specs.bx_nodes.specs.declared.nodes.Nodes.{Nodes}
-use Rattle.bx_world_standing.specs.bx_volume.specs.Overlay.{Logs}
-use Rattle.bx_world_standing.specs.bx_volume.specs.Records.{Logged}
 use Rattle.bx_world_machines.specs.Acts.{ActThen, MayActAt, OpenStill}
 use Rattle.bx_world_machines.specs.Answering.{Answered, AtNode}
 use Rattle.bx_world_machines.proofs.Acts.{acts_on, acts_one, acts_same, before_all, opened_here, renewed_session}
@@ -218,20 +216,6 @@ module _ (reading : Option ℕ) (at : Actor) (latest : ℕ) (old new : List Mach
       by (Server n) w = absurd w
       by (Member n) w = absurd w
 
-  pub told_answered : (logs logs_then : Logs) → AreTold latest old logs → ((slot : ℕ) (one : Logged) → Contains (logs_then slot) one → IsOldOrTold logs said slot one) → AreTold latest new logs_then
-  told_answered logs logs_then was logged = record {
-    came = λ slot one has. ⊎_elim
-        (was.came slot one)
-        (λ told. ⊎_elim
-        (λ zero. omega (arith, zero))
-        (λ is. let there = waited_there is.one is.there in let most = numbers.most there.0 (acting_said is.one).call there.1 in let e = is.same in omega (arith, most, e))
-        told)
-        (logged slot one has);
-    none = λ slot one n call has waits. let both = (answers.left n call).0 waits in ⊎_elim
-        (λ before. was.none slot one n call before both.0)
-        (λ told. ⊎_elim
-        (λ zero same. let least = numbers.least n call both.0 in absurd (omega (arith, zero, same, least)))
-        (λ is same. both.1 (record { one = is.one; there = is.there; same = is.same ∙ sym same }))
-        told)
-        (logged slot one has);
-  }
+  -- so its number is none that is later
+  pub answered_low : (number : ℕ) → IsAnswered said number → number ≤ latest
+  answered_low number is = let there = waited_there is.one is.there in let most = numbers.most there.0 (acting_said is.one).call there.1 in let e = is.same in omega (arith, most, e)

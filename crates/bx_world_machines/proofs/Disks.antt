@@ -111,14 +111,14 @@ module _ {G O S E T : Type 0} (g : register.Ghosts G) (o : owners.Ghosts O) (st 
   stands_on : (y : Disks) → g.keeps machines.nodes.register y standing.course.register
       → st.keeps machines.nodes.store y standing.course.store × GoesOn standing.course.store.writes standing.course.store.told.greatest (st.asked machines.nodes.store) (st.settled machines.nodes.store x standing.course.store) (st.settled machines.nodes.store y standing.course.store)
       (st.will_read machines.nodes.store x standing.course.store) (st.will_read machines.nodes.store y standing.course.store) (st.stands machines.nodes.store x standing.course.store) (st.stands machines.nodes.store y standing.course.store)
-      → LabelsStand (st.made machines.nodes.store) y → StandsBehind g o st e standing.course [] machines letters y tree
+      → LabelsStand (st.made machines.nodes.store) y → StandsBehind g o st e standing.course None [] machines letters y tree
   stands_on y register_keeps store_moves labels = record {
     stands = record {
       clocks = standing.clocks;
       course = lettered standing.course letters;
       are_clocks = standing.are_clocks;
       stands = moved g o st e laws machines.nodes x y letters standing.clocks standing.course tree standing.stands register_keeps store_moves labels;
-      told = standing.told;
+      came = standing.came;
       doubts = record { came = standing.doubts.came; over = standing.doubts.over; opening = standing.doubts.opening; once = standing.doubts.once };
       known = standing.known;
     };
@@ -129,7 +129,7 @@ module _ {G O S E T : Type 0} (g : register.Ghosts G) (o : owners.Ghosts O) (st 
   is_down who there down = standing.are_clocks.down who there ∙ ap not down
 
   -- The disk of a machine that is there and down crashes.
-  pub crashes : (y : Disks) (who : Actor) (disk : ℕ) → HasMachine machines.count machines.devices who → is_up machines.up.items who ≡ false → disk_of who ≡ Some disk → y.sizes ≡ x.sizes → Crashes disk x y → StandsBehind g o st e standing.course [] machines letters y tree
+  pub crashes : (y : Disks) (who : Actor) (disk : ℕ) → HasMachine machines.count machines.devices who → is_up machines.up.items who ≡ false → disk_of who ≡ Some disk → y.sizes ≡ x.sizes → Crashes disk x y → StandsBehind g o st e standing.course None [] machines letters y tree
   crashes y (Node n) disk there down own sizes crash = absurd cc
   crashes y (Server n) disk there down own sizes crash = absurd cc
   crashes y (Replica n) disk there down own sizes crash =
@@ -163,8 +163,8 @@ module _ {G O S E T : Type 0} (g : register.Ghosts G) (o : owners.Ghosts O) (st 
       }
 
   -- The disk of a member that is there, down and spare is replaced by a blank one.
-  pub blanks : (n : ℕ) → HasMachine machines.count machines.devices (Member n) → is_up machines.up.items (Member n) ≡ false → is_spare machines.state (Member n) ≡ true → StandsBehind g o st e standing.course [] machines letters (blanked x (3 + n)) tree
-  blanks n there down spare = subst (λ (d : ℕ). StandsBehind g o st e standing.course [] machines letters (blanked x d) tree) (disk_is (n % 2 == 1) refl)
+  pub blanks : (n : ℕ) → HasMachine machines.count machines.devices (Member n) → is_up machines.up.items (Member n) ≡ false → is_spare machines.state (Member n) ≡ true → StandsBehind g o st e standing.course None [] machines letters (blanked x (3 + n)) tree
+  blanks n there down spare = subst (λ (d : ℕ). StandsBehind g o st e standing.course None [] machines letters (blanked x d) tree) (disk_is (n % 2 == 1) refl)
       (stands_on (blanked x disk)
       (laws.registers_elsewhere machines.nodes.register x (blanked x disk) standing.course.register standing.stands.at.parts.register_keeps (lengths x (blanked x disk) refl)
       (record { each = λ d s low behind. kept x (blanked x disk) d s (blank_other disk d s (far d low)) })

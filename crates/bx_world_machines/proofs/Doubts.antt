@@ -1,12 +1,13 @@
 -- Calls in doubt, from one course to a later one.
-use Rattle.std.proofs.Common.{◌≡◌, ◌≢◌, ◌⊎◌, ◌∙◌, ⊎_elim, inl, inr, ℕ, ◌<◌, true, List, [], Contains, Option, Some, None, sym, ap, subst, arith}
+use Rattle.std.proofs.Common.{◌≡◌, ◌≢◌, ◌⊎◌, ◌∙◌, ⊎_elim, inl, inr, ℕ, ◌<◌, true, List, [], Contains, Option, Some, None, refl, sym, ap, subst, arith}
 use Rattle.bx_facts.specs.Chains.{Chain, GrowsBy, last}
 use Rattle.bx_facts.proofs.Lists.{nothing}
 use Rattle.bx_global.specs.Allowed.{IsAllowed}
 use Rattle.bx_global.specs.bx_rows.specs.Words.{row_in}
 use Rattle.bx_node_calls.proofs.Found.{same_or}
 use Rattle.bx_node_steps.specs.declared.machine.Machine.{Machine}
-use Rattle.bx_node_calls.specs.bx_nodes.specs.bx_node_events.specs.Works.{KeepsWorks, LeavesWorks}
+use Rattle.bx_node_calls.specs.bx_nodes.specs.Turns.{LeavesOrSettles}
+use Rattle.bx_node_calls.specs.bx_nodes.specs.bx_node_events.specs.Works.{KeepsWorks}
 use Rattle.bx_views.specs.Attempts.{Deed}
 use Rattle.bx_world_machines.specs.Acts.{MayActAt, OpenStill, OpensAt}
 use Rattle.bx_world_machines.specs.Doubts.{AreInDoubt, DoubtsGo, IsOpenIn}
@@ -51,17 +52,20 @@ open_before c later allowed doubted works grows session doubt deed is = ⊎_elim
     })
     grows
 
--- A node did something under its own session: what is of others was so.
-pub open_left : (own : Option ℕ) (c later : Course) → LeavesWorks own c later → later.register.chain ≡ c.register.chain → (session : ℕ) (doubt : Unacknowledged) (deed : Deed) → own ≢ Some session → IsOpenIn later session doubt deed → IsOpenIn c session doubt deed
+-- A node did something under its own session, and settled what others left: what is of others then was so.
+pub open_left : (own : Option ℕ) (c later : Course) → LeavesOrSettles own c later → later.register.chain ≡ c.register.chain → (session : ℕ) (doubt : Unacknowledged) (deed : Deed) → own ≢ Some session → IsOpenIn later session doubt deed → IsOpenIn c session doubt deed
 open_left own c later left chain session doubt deed other is =
     let had = subst (λ (l : Chain). row_in (last l).sessions session ≡ Some is.row) chain is.has_row in
     record {
       row = is.row;
       has_row = had;
-      sent = ap opens (sym (left.slots session is.row other had)) ∙ is.sent;
-      is = sym (left.doubts session other) ∙ is.is;
+      sent = ⊎_elim (λ same. ap opens (sym same) ∙ is.sent) gone (left.slots session is.row other had);
+      is = ⊎_elim (λ same. sym same ∙ is.is) gone (left.doubts session other);
       act = is.act;
     }
+  where
+    gone : {A : Type 0} → later.doubts session ≡ None → A
+    gone none = absurd (let wrong : None ≡ Some doubt = sym none ∙ is.is in cc)
 
 -- a session is this one, or another
 pub same_own : (own : Option ℕ) (session : ℕ) → (own ≡ Some session) ⊎ (own ≢ Some session)
@@ -104,11 +108,11 @@ in_doubt_later latest number machines c later was = record {
   once = was.once;
 }
 
--- Nothing is answered, and the logs stay.
-pub goes_none : (machines : List Machine) (c later : Course) → WereOpen c later → later.logs ≡ c.logs → DoubtsGo [] machines c later
+-- Nothing is answered or found, and the logs stay.
+pub goes_none : (machines : List Machine) (c later : Course) → WereOpen c later → later.logs ≡ c.logs → DoubtsGo None [] machines c later
 goes_none machines c later before logs = record {
-  doubted = λ session doubt deed is. inl (before session doubt deed is, λ answered. nothing answered.one answered.there);
-  logged = λ slot one has. inl (subst (λ (l : Logs). Contains (l slot) one) logs has);
+  doubted = λ session doubt deed is. inl (before session doubt deed is, (λ answered. nothing answered.one answered.there), λ none. none);
+  logged = λ slot one has. inl (record { slot = slot; one = one; there = subst (λ (l : Logs). Contains (l slot) one) logs has; same = refl });
 }
 
 -- Nothing is in doubt.

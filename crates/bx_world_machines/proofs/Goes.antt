@@ -1,6 +1,7 @@
 -- What comes of calls in doubt where a machine hears something, and a node has its turn.
-use Rattle.std.proofs.Common.{◌≡◌, ◌≢◌, ◌⊎◌, ◌∙◌, ⊎_elim, inl, inr, ℕ, false, true, List, Contains, Option, Some, None, IfSome, IsSomeAnd, refl, sym, ap, subst, arith}
+use Rattle.std.proofs.Common.{◌≡◌, ◌≢◌, ◌⊎◌, ◌∙◌, ⊎_elim, inl, inr, ℕ, ◌≤◌, false, true, List, Contains, Option, Some, None, IfSome, IsSomeAnd, refl, sym, ap, subst, arith}
 use Rattle.std.specs.Prelude.{option_map, slice_get}
+use Rattle.std.proofs.lemmas.List.Elements.{Contains-push_cases}
 use Rattle.bx_base.specs.declared.names.Actor.{Actor}
 use Rattle.bx_base.specs.declared.names.Actor.TheVariants.{Member, Node, Replica, Server}
 use Rattle.bx_base.specs.declared.names.Point.{Point}
@@ -13,7 +14,7 @@ use Rattle.bx_facts.proofs.Lists.{nothing}
 use Rattle.bx_global.specs.bx_rows.specs.Words.{row_in}
 use Rattle.bx_global.specs.bx_rows.specs.declared.session.SessionRow.{SessionRow}
 use Rattle.bx_node_calls.specs.Turns.{acting_in, session_at}
-use Rattle.bx_node_calls.specs.Waits.{AreNumbered, Waits}
+use Rattle.bx_node_calls.specs.Waits.{AreNumbered, HaveCome, Waits}
 use Rattle.bx_node_calls.proofs.Found.{and_some, some_and, which}
 use Rattle.bx_node_machines.specs.Machines.{IsAbout, IsAtWork, IsDoubtIn, IsDoubtOf, IsOfClosing, IsOfRecord, Scene, act_of, number_of}
 use Rattle.bx_node_steps.specs.Calls.{AreApart, CallOf, IsAnswered, IsOpening, IsThat, IsToAct, WaitsAt, acting_of, call_of, call_written, is_opening, point_in}
@@ -25,15 +26,17 @@ use Rattle.bx_node_steps.specs.declared.machine.Stage.TheVariants as stages
 use Rattle.bx_node_tries.specs.declared.round.Said.{Said}
 use Rattle.bx_node_tries.specs.declared.round.Waiting.{Waiting}
 use Rattle.bx_node_calls.specs.bx_nodes.specs.Standing.{OfNode, Stand}
-use Rattle.bx_node_calls.specs.bx_nodes.specs.Turns.{IsOldOrTold, TurnedUnder}
+use Rattle.bx_node_calls.specs.bx_nodes.specs.Turns.{IsInDoubt, IsKnown, IsToldOf, Tells, TurnedUnder}
+use Rattle.bx_node_calls.specs.bx_nodes.specs.Turns.Tells.{OfKnown, WithDoubt}
+use Rattle.bx_node_calls.specs.bx_nodes.specs.declared.turns.Turn.{Turn}
 use Rattle.bx_node_calls.specs.bx_nodes.specs.declared.nodes.Nodes.{Nodes}
 use Rattle.bx_node_calls.specs.bx_nodes.proofs.Machines.{of_there, seen_there}
 use Rattle.bx_post.specs.declared.packets.Letter.{Letter}
 use Rattle.bx_views.specs.Attempts.{Deed}
 use Rattle.bx_views.specs.declared.engine.Engine as engine
 use Rattle.bx_world_machines.specs.Acts.{ActThen, MayActAt, OpenStill, OpensAt}
-use Rattle.bx_world_machines.specs.Answering.{AtNode}
-use Rattle.bx_world_machines.specs.Doubts.{AreInDoubt, DoubtsGo, IsOfActing, IsOpenIn, IsUsed}
+use Rattle.bx_world_machines.specs.Answering.{AtNode, MightNot}
+use Rattle.bx_world_machines.specs.Doubts.{AnswersThose, AreInDoubt, DoubtsGo, Finds, IsFoundOf, IsOfActing, IsOldOrPointed, IsOpenIn, IsUsed}
 use Rattle.bx_world_machines.proofs.Doubts.{WereOpen, open_left, same_own}
 use Rattle.bx_world_standing.specs.Parts.{Clocks}
 use Rattle.bx_world_standing.specs.Standing.{Course}
@@ -122,17 +125,29 @@ its_session : (found : Option Machine) (session : ℕ) → option_map (λ (m : M
 its_session None session is = absurd cc
 its_session (Some machine) session is = (machine, refl, let e : machine.session ≡ Some session = cc in e)
 
+-- What comes of calls in doubt, of a call that is found and of those that are answered, from the one course to the later one.
+pub record CallsGo {T : Type 0} (Step : T → Deed → T → Type 0) (latest : ℕ) (at : Actor) (old new : List Machine) (turn : Turn) (c later : Course) (tree between : T) : Type 0 where
+  pub found : Option Point
+  pub finds : Finds Step c tree turn.told.items found between
+  pub answers : AnswersThose (λ number. AtNode at (λ node. MayActAt old node number)) found turn.said.items c
+  pub goes : DoubtsGo found turn.said.items new c later
+  pub in_doubt : AreInDoubt latest new later
+  pub came : HaveCome latest later.logs
+
 -- ---- a machine hears something, and a node has its turn
 
-module _ {G O S E T : Type 0} (g : register.Ghosts G) (o : owners.Ghosts O) (st : store.Ghosts S) (e : engine.Ghosts E T) (Step : T → Deed → T → Type 0) (nodes : Nodes G O S E T) (x : Disks) (letters : List Letter) (clocks : Clocks) (latest : ℕ) (at : Actor) (old : List Machine) (said : List Said)
+module _ {G O S E T : Type 0} (g : register.Ghosts G) (o : owners.Ghosts O) (st : store.Ghosts S) (e : engine.Ghosts E T) (Step : T → Deed → T → Type 0) (nodes : Nodes G O S E T) (x : Disks) (letters : List Letter) (clocks : Clocks) (latest : ℕ) (at : Actor) (old : List Machine) (turn : Turn)
     (c middle : Course) (tree : T) (before : WereOpen c middle) (logs : middle.logs ≡ c.logs) (was : AreInDoubt latest old c) (numbers : AreNumbered latest nodes.machines.items) (apart : (n : ℕ) → OfNode nodes n AreApart) (up : clocks.down at ≡ false)
-    (acts : ActThen old nodes.machines.items) (acted : (number : ℕ) → IsAnswered said number → AtNode at (λ node. MayActAt old node number ⊎ OpenStill old nodes.machines.items node number))
-    (turned : TurnedUnder (λ session. AtNode at (λ node. IsUsed o nodes node session)) Step (Stand g o st e nodes x letters clocks) middle tree said) where
+    (acts : ActThen old nodes.machines.items) (acted : (number : ℕ) → IsAnswered turn.said.items number → AtNode at (λ node. MayActAt old node number ⊎ OpenStill old nodes.machines.items node number))
+    (turned : TurnedUnder (λ session. AtNode at (λ node. IsUsed o nodes node session)) (λ number. MightNot at old number) Step (Stand g o st e nodes x letters clocks) middle tree turn) where
   abbrev new : List Machine
   new = nodes.machines.items
 
   abbrev later : Course
   later = turned.turned.later
+
+  abbrev said : List Said
+  said = turn.said.items
 
   -- ---- a session that isn't the one under which the node did something
 
@@ -144,7 +159,7 @@ module _ {G O S E T : Type 0} (g : register.Ghosts G) (o : owners.Ghosts O) (st 
   elsewhere session number other answered n it has = by turned.own refl turned.is_own
     where
       by : (own : Option ℕ) → turned.own ≡ own → IfSome own (λ one. AtNode at (λ node. IsUsed o nodes node one) × LivesIn (last middle.register.chain) one) → ⊥
-      by None none is = let empty = turned.quiet none in nothing answered.one (subst (λ (l : List Said). Contains l answered.one) empty answered.there)
+      by None none is = let empty = (turned.quiet none).1 in nothing answered.one (subst (λ (l : List Said). Contains l answered.one) empty answered.there)
       by (Some one) some is =
           let used = subst (λ (who : Actor). AtNode who (λ node. IsUsed o nodes node one)) it is.0 in
           other (let same : Some (Some one) ≡ Some (Some session) = sym used.1 ∙ has in some ∙ (let e_is : Some one ≡ Some session = cc in e_is))
@@ -254,7 +269,7 @@ module _ {G O S E T : Type 0} (g : register.Ghosts G) (o : owners.Ghosts O) (st 
       session_of : Some (Some other) ≡ Some (Some session) → other ≡ session
       session_of e_is = cc
 
-  pub in_doubt_then : AreInDoubt latest new later
+  in_doubt_then : AreInDoubt latest new later
   in_doubt_then = record {
     came = λ session doubt deed is. ⊎_elim
         (λ mine. let its = its_own session doubt deed mine is in let most = numbers.most its.node (call_of its.writes.call) (waits_there session doubt deed its) in let n = its.writes.number in omega (arith, most, n))
@@ -283,11 +298,127 @@ module _ {G O S E T : Type 0} (g : register.Ghosts G) (o : owners.Ghosts O) (st 
         (same_own turned.own session);
   }
 
-  pub doubts_go : DoubtsGo said new c later
+  -- ---- what was found
+
+  -- the point of the call that was, where one was
+  abbrev found_by : (between : T) → Tells Step middle later tree turn.told.items between → Option Point
+  found_by between (OfKnown known same) = None
+  found_by between (WithDoubt earlier point is known acts) = Some point
+
+  abbrev found : Option Point
+  found = found_by turned.turned.between turned.turned.tells
+
+  known_in : (point : Point) → IsKnown middle.logs point → IsKnown c.logs point
+  known_in point is = subst (λ (l : Logs). IsKnown l point) logs is
+
+  finds : Finds Step c tree turn.told.items found turned.turned.between
+  finds = by turned.turned.between turned.turned.tells
+    where
+      by : (between : T) → (tells : Tells Step middle later tree turn.told.items between) → Finds Step c tree turn.told.items (found_by between tells) between
+      by between (OfKnown known same) = (λ point has. known_in point (known point has), same)
+      by between (WithDoubt earlier point is known acts) = (earlier, is, λ one has. known_in one (known one has), record {
+        session = acts.session;
+        doubt = acts.doubt;
+        deed = acts.deed;
+        open_is = before acts.session acts.doubt acts.deed acts.open_is;
+        call = acts.call;
+        at = acts.at;
+        step = acts.step;
+      })
+
+  -- A call that was found is one in doubt before, of a session that is dead, and is in doubt no more.
+  record WasFound (number : ℕ) : Type 0 where
+    session : ℕ
+    doubt : Unacknowledged
+    deed : Deed
+    open_is : IsOpenIn c session doubt deed
+    dead : LivesIn (last middle.register.chain) session → ⊥
+    call : doubt.call ≡ number
+    settled : later.doubts session ≡ None
+
+  was_found : (number : ℕ) → IsFoundOf found number → WasFound number
+  was_found number is = by turned.turned.between turned.turned.tells is
+    where
+      by : (between : T) → (tells : Tells Step middle later tree turn.told.items between) → IsFoundOf (found_by between tells) number → WasFound number
+      by between (OfKnown known same) none = absurd none
+      by between (WithDoubt earlier point told known acts) same = record {
+        session = acts.session;
+        doubt = acts.doubt;
+        deed = acts.deed;
+        open_is = before acts.session acts.doubt acts.deed acts.open_is;
+        dead = acts.dead;
+        call = sym acts.call ∙ same;
+        settled = acts.settled;
+      }
+
+  -- no call that is in doubt still was
+  not_found : (session : ℕ) (doubt : Unacknowledged) (deed : Deed) → IsOpenIn later session doubt deed → IsOpenIn c session doubt deed → IsFoundOf found doubt.call → ⊥
+  not_found session doubt deed is were one =
+      let its = was_found doubt.call one in
+      let same : its.session ≡ session = was.once session its.session doubt its.doubt deed its.deed were its.open_is its.call in
+      let none : later.doubts session ≡ None = subst (λ (s : ℕ). later.doubts s ≡ None) same its.settled in
+      let wrong : None ≡ Some doubt = sym none ∙ is.is in
+      cc
+
+  -- no session under which the node did something is dead
+  own_lives : (session : ℕ) → (LivesIn (last middle.register.chain) session → ⊥) → turned.own ≢ Some session
+  own_lives session dead mine = dead (subst (λ (own : Option ℕ). IfSome own (λ one. AtNode at (λ node. IsUsed o nodes node one) × LivesIn (last middle.register.chain) one)) mine turned.is_own).1
+
+  answers_those : AnswersThose (λ number. AtNode at (λ node. MayActAt old node number)) found said c
+  answers_those = record {
+    acted = λ number answered might. by number answered turned.own refl (turned.opened number might answered);
+    apart = λ number answered one. let its = was_found number one in
+        unanswered its.session its.doubt its.deed (own_lives its.session its.dead) its.open_is (subst (IsAnswered said) (sym its.call) answered);
+  }
+    where
+      by : (number : ℕ) → IsAnswered said number → (own : Option ℕ) → turned.own ≡ own → IfSome own (λ session. IsInDoubt middle session number) → (session : ℕ) × IsInDoubt c session number
+      by number answered None none is = absurd (nothing answered.one (subst (λ (l : List Said). Contains l answered.one) (turned.quiet none).1 answered.there))
+      by number answered (Some session) some is = (session, record { doubt = is.doubt; deed = is.deed; open_is = before session is.doubt is.deed is.open_is; call = is.call })
+
+  -- ---- from the one course to the other
+
+  -- what is told is known, or was found
+  told_before : (number : ℕ) → IsToldOf turn.told.items number → IsOldOrPointed c.logs found said number
+  told_before number is = by turned.turned.between turned.turned.tells
+    where
+      known_of : (point : Point) → IsKnown c.logs point → point.call ≡ number → (one : Option Point) → IsOldOrPointed c.logs one said number
+      known_of point known same one = ⊎_elim
+          (λ has. inl (record { slot = has.slot; one = has.one; there = has.there; same = has.same ∙ same }))
+          (λ zero. inr (inl (sym same ∙ zero)))
+          known
+
+      by : (between : T) → (tells : Tells Step middle later tree turn.told.items between) → IsOldOrPointed c.logs (found_by between tells) said number
+      by between (OfKnown known same) = known_of is.one (known_in is.one (known is.one is.there)) is.same None
+      by between (WithDoubt earlier point told known acts) = ⊎_elim
+          (λ there. known_of is.one (known_in is.one (known is.one there)) is.same (Some point))
+          (λ same. inr (inr (inr (ap (λ (p : Point). p.call) same ∙ is.same))))
+          (Contains-push_cases earlier point is.one (subst (λ (l : List Point). Contains l is.one) told is.there))
+
+  doubts_go : DoubtsGo found said new c later
   doubts_go = record {
     doubted = λ session doubt deed is. ⊎_elim
         (λ mine. inr (of_acting session doubt deed (its_own session doubt deed mine is)))
-        (λ other. let were = was_open session doubt deed other is in inl (were, unanswered session doubt deed other were))
+        (λ other. let were = was_open session doubt deed other is in inl (were, unanswered session doubt deed other were, not_found session doubt deed is were))
         (same_own turned.own session);
-    logged = λ slot one has. subst (λ (l : Logs). IsOldOrTold l said slot one) logs (turned.turned.logged slot one has);
+    logged = λ slot one has. ⊎_elim
+        (λ there. inl (record { slot = slot; one = one; there = subst (λ (l : Logs). Contains (l slot) one) logs there; same = refl }))
+        (λ newer. ⊎_elim (λ zero. inr (inl zero)) (λ pointed. ⊎_elim (λ answered. inr (inr (inl answered))) (λ told. told_before one.head.call told) pointed) newer)
+        (turned.turned.logged slot one has);
   }
+
+  came_then : ((number : ℕ) → IsAnswered said number → number ≤ latest) → HaveCome latest c.logs → HaveCome latest later.logs
+  came_then low came = record {
+    came = λ slot one has. ⊎_elim
+        (λ had. subst (λ (n : ℕ). n ≤ latest) had.same (came.came had.slot had.one had.there))
+        (λ newer. ⊎_elim
+        (λ zero. omega (arith, zero))
+        (λ pointed. ⊎_elim
+        (low one.head.call)
+        (λ is. let its = was_found one.head.call is in let most = was.came its.session its.doubt its.deed its.open_is in let same = its.call in omega (arith, most, same))
+        pointed)
+        newer)
+        (doubts_go.logged slot one has);
+  }
+
+  pub goes_on : ((number : ℕ) → IsAnswered said number → number ≤ latest) → HaveCome latest c.logs → CallsGo Step latest at old new turn c later tree turned.turned.between
+  goes_on low came = record { found = found; finds = finds; answers = answers_those; goes = doubts_go; in_doubt = in_doubt_then; came = came_then low came }

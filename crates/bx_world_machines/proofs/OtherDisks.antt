@@ -121,7 +121,7 @@ module _ {G O S E T : Type 0} (g : register.Ghosts G) (o : owners.Ghosts O) (st 
     course = its_course;
     are_clocks = standing.are_clocks;
     stands = stands_on g o st (e.stands machines.nodes.engine) (e.step machines.nodes.engine) laws machines.nodes.register machines.nodes.owners machines.nodes.store x y letters standing.clocks (views machines.nodes.machines.items) standing.course tree its_stand on;
-    told = standing.told;
+    came = standing.came;
     doubts = record { came = standing.doubts.came; over = standing.doubts.over; opening = standing.doubts.opening; once = standing.doubts.once };
     known = standing.known;
   }

@@ -15,9 +15,8 @@ use Rattle.bx_facts.specs.Machines.{put_at}
 use Rattle.bx_facts.specs.Pasts.{RegisterPast}
 use Rattle.bx_global.specs.Allowed.{IsAllowed}
 use Rattle.bx_global.specs.declared.state.GlobalState.{GlobalState}
-use Rattle.bx_node_calls.specs.Turns.{Rounded}
-use Rattle.bx_node_calls.specs.Waits.{AreNumbered, AreTold, Waits}
-use Rattle.bx_node_calls.proofs.Coming.{Changed, apart_then, changed_at, each_called, newest, numbered_on, numbered_with, still_called, told_on, told_with}
+use Rattle.bx_node_calls.specs.Waits.{AreNumbered, HaveCome, Waits}
+use Rattle.bx_node_calls.proofs.Coming.{Changed, apart_then, changed_at, each_called, newest, numbered_on, numbered_with, still_called}
 use Rattle.bx_node_calls.specs.bx_nodes.proofs.Machines.{of_there, two_there}
 use Rattle.bx_node_steps.specs.Calls.{AreApart, CallOf, WaitsAt}
 use Rattle.bx_node_steps.specs.declared.machine.Machine.{Machine}
@@ -27,29 +26,30 @@ use Rattle.bx_node_calls.specs.bx_nodes.specs.Calls.{AddsCall, IsNewest, WaitsBe
 use Rattle.bx_node_calls.specs.bx_nodes.specs.Standing.{BeReady, OfBoth, OfNode, Stand}
 use Rattle.bx_node_calls.specs.bx_nodes.specs.Stopping.{Empties, with_down}
 use Rattle.bx_node_calls.specs.bx_nodes.specs.Taking.{Hears, with_reading}
-use Rattle.bx_node_calls.specs.bx_nodes.specs.Turns.{IsOldOrTold, OnlyMachine, Turned, TurnedUnder}
+use Rattle.bx_node_calls.specs.bx_nodes.specs.Turns.{OnlyMachine, TurnedUnder}
 use Rattle.bx_node_calls.specs.bx_nodes.specs.bx_node_events.proofs.Works.{keeps_all}
 use Rattle.bx_node_calls.specs.bx_nodes.specs.declared.nodes.Nodes.{Nodes}
+use Rattle.bx_node_calls.specs.bx_nodes.specs.declared.turns.Turn.{Turn}
 use Rattle.bx_node_calls.specs.bx_nodes.proofs.Calling.{none_wait}
 use Rattle.bx_node_calls.specs.bx_nodes.proofs.Emptied.{emptied}
 use Rattle.bx_facts.specs.declared.owners.Owners as owners
 use Rattle.bx_post.specs.declared.packets.Letter.{Letter}
 use Rattle.bx_views.specs.declared.engine.Engine as engine
-use Rattle.bx_world_machines.specs.Answering.{Answered, AtNode, CallComes, reading_in}
+use Rattle.bx_world_machines.specs.Answering.{Answered, AtNode, CallComes, MayActWith, MightNot, reading_in}
+use Rattle.bx_world_machines.specs.Acts.{MayActAt}
 use Rattle.bx_world_machines.specs.Doubts.{AreInDoubt, IsUsed}
 use Rattle.bx_world_machines.specs.Machines.{greater, is_up, up_without}
-use Rattle.bx_world_machines.specs.Standing.{AreClocks, AreNodes, AreReady, IsReady, Standing, StandsBehind}
+use Rattle.bx_world_machines.specs.Standing.{AreClocks, AreNodes, AreReady, IsReady, Standing, StandsBehind, StandsTurned}
 use Rattle.bx_world_machines.specs.declared.machines.Machines.{Machines}
-use Rattle.bx_world_machines.proofs.Answering.{numbers_then, told_answered}
+use Rattle.bx_world_machines.proofs.Answering.{answered_low, numbers_then}
 use Rattle.bx_world_machines.proofs.Acts.{may_with, opens_with}
 use Rattle.bx_world_machines.proofs.Doubts.{WereOpen, goes_none, in_doubt_with, open_before}
 use Rattle.bx_world_machines.proofs.Emptied.{in_doubt_emptied}
-use Rattle.bx_world_machines.proofs.Goes.{doubts_go, in_doubt_then}
+use Rattle.bx_world_machines.proofs.Goes.{goes_on}
 use Rattle.bx_world_machines.proofs.Known.{known_heard}
 use Rattle.bx_world_machines.proofs.Nodes.{nodes_with}
 use Rattle.bx_world_machines.proofs.WhoIsUp.{down_then, down_without, was_up}
 use Rattle.bx_world_standing.specs.Parts.{Clocks}
-use Rattle.bx_world_standing.specs.bx_volume.specs.Overlay.{Logs}
 
 -- the greatest reading then, in both words
 pub greatest_is : (input : Input) (greatest : ℕ) → greatest_with greatest input ≡ steps.greatest_reading (reading_in input) greatest
@@ -101,42 +101,45 @@ module _ {G O S E T : Type 0} (g : register.Ghosts G) (o : owners.Ghosts O) (st 
       greatest = greatest_is input clocks.greatest ∙ ap (steps.greatest_reading (reading_in input)) are.greatest ∙ sym clock;
     }
 
-    -- it went on, and answered calls
-    pub stands_heard : AreReady g o st e old → (at : Actor) (letters letters_then : List Letter) (x y : Disks) (tree : T) (said : List Said) → Answered (reading_in input) at old.nodes.machines.items new.nodes.machines.items said → (standing : Standing g o st e old letters x tree)
+    -- it went on, told what a recovery found, and answered calls
+    pub stands_heard : AreReady g o st e old → (at : Actor) (letters letters_then : List Letter) (x y : Disks) (tree : T) (turn : Turn) → Answered (reading_in input) at old.nodes.machines.items new.nodes.machines.items turn.said.items → (standing : Standing g o st e old letters x tree)
         → standing.clocks.down at ≡ false → ((n : ℕ) → OfNode new.nodes n AreApart)
-        → (known : GlobalState) → (heard : Hears known (λ later. TurnedUnder (λ session. AtNode at (λ node. IsUsed o new.nodes node session)) (e.step old.nodes.engine) (Stand g o st e new.nodes y letters_then (with_reading standing.clocks input)) later tree said) standing.course) → WereOpen standing.course heard.later
-        → new.state ≡ last heard.stands.turned.later.register.chain → Rounded e old.nodes.engine (StandsBehind g o st e standing.course said new letters_then y) tree said
-    stands_heard ready at letters letters_then x y tree said answers standing is_up_then apart known heard before state = record {
-      next = heard.stands.turned.next;
-      leads = heard.stands.turned.leads;
-      stands = record {
-        stands = record {
-          clocks = with_reading standing.clocks input;
-          course = heard.stands.turned.later;
-          are_clocks = clocks_then standing.clocks standing.are_clocks;
-          stands = heard.stands.turned.stands;
-          told = subst (λ (n : ℕ). AreTold n new.nodes.machines.items heard.stands.turned.later.logs) (sym latest)
-              (told_answered (reading_in input) at old.latest old.nodes.machines.items new.nodes.machines.items said answers ready.numbered standing.course.logs heard.stands.turned.later.logs standing.told
-              (λ slot one has. subst (λ (logs : Logs). IsOldOrTold logs said slot one) heard.logs (heard.stands.turned.logged slot one has)));
-          doubts = subst (λ (n : ℕ). AreInDoubt n new.nodes.machines.items heard.stands.turned.later) (sym latest)
-              (in_doubt_then g o st e (e.step old.nodes.engine) new.nodes y letters_then (with_reading standing.clocks input) old.latest at old.nodes.machines.items said standing.course heard.later tree before heard.logs standing.doubts
-              (numbers_then (reading_in input) at old.latest old.nodes.machines.items new.nodes.machines.items said answers ready.numbered) apart is_up_then answers.acts answers.acted heard.stands);
-          known = state;
-        };
-        goes = doubts_go g o st e (e.step old.nodes.engine) new.nodes y letters_then (with_reading standing.clocks input) old.latest at old.nodes.machines.items said standing.course heard.later tree before heard.logs standing.doubts
-            (numbers_then (reading_in input) at old.latest old.nodes.machines.items new.nodes.machines.items said answers ready.numbered) apart is_up_then answers.acts answers.acted heard.stands;
-      };
-    }
+        → (known : GlobalState) → (heard : Hears known (λ later. TurnedUnder (λ session. AtNode at (λ node. IsUsed o new.nodes node session)) (MightNot at old.nodes.machines.items) (e.step old.nodes.engine) (Stand g o st e new.nodes y letters_then (with_reading standing.clocks input)) later tree turn) standing.course) → WereOpen standing.course heard.later
+        → new.state ≡ last heard.stands.turned.later.register.chain → StandsTurned g o st e (λ number. AtNode at (λ node. MayActAt old.nodes.machines.items node number)) old.nodes.engine standing.course tree turn new letters_then y
+    stands_heard ready at letters letters_then x y tree turn answers standing is_up_then apart known heard before state =
+        let on = goes_on g o st e (e.step old.nodes.engine) new.nodes y letters_then (with_reading standing.clocks input) old.latest at old.nodes.machines.items turn standing.course heard.later tree before heard.logs standing.doubts
+        (numbers_then (reading_in input) at old.latest old.nodes.machines.items new.nodes.machines.items turn.said.items answers ready.numbered) apart is_up_then answers.acts answers.acted heard.stands
+        (answered_low (reading_in input) at old.latest old.nodes.machines.items new.nodes.machines.items turn.said.items answers ready.numbered) standing.came in
+        record {
+          found = on.found;
+          between = heard.stands.turned.between;
+          next = heard.stands.turned.next;
+          finds = on.finds;
+          leads = heard.stands.turned.leads;
+          answers = on.answers;
+          stands = record {
+            stands = record {
+              clocks = with_reading standing.clocks input;
+              course = heard.stands.turned.later;
+              are_clocks = clocks_then standing.clocks standing.are_clocks;
+              stands = heard.stands.turned.stands;
+              came = subst (λ (n : ℕ). HaveCome n heard.stands.turned.later.logs) (sym latest) on.came;
+              doubts = subst (λ (n : ℕ). AreInDoubt n new.nodes.machines.items heard.stands.turned.later) (sym latest) on.in_doubt;
+              known = state;
+            };
+            goes = on.goes;
+          };
+        }
 
     -- .. where the state that it knows then is kept if that is greater
-    pub stands_learnt : AreReady g o st e old → (at : Actor) (letters letters_then : List Letter) (x y : Disks) (tree : T) (said : List Said) → Answered (reading_in input) at old.nodes.machines.items new.nodes.machines.items said → (standing : Standing g o st e old letters x tree)
+    pub stands_learnt : AreReady g o st e old → (at : Actor) (letters letters_then : List Letter) (x y : Disks) (tree : T) (turn : Turn) → Answered (reading_in input) at old.nodes.machines.items new.nodes.machines.items turn.said.items → (standing : Standing g o st e old letters x tree)
         → standing.clocks.down at ≡ false → ((n : ℕ) → OfNode new.nodes n AreApart) → IsAllowed (last standing.course.register.chain)
         → ((past : RegisterPast) → g.keeps new.nodes.register y past → IsPlace past.chain (g.knows new.nodes.register at)) → new.state ≡ greater old.state (g.knows new.nodes.register at)
-        → Hears (g.knows new.nodes.register at) (λ later. TurnedUnder (λ session. AtNode at (λ node. IsUsed o new.nodes node session)) (e.step old.nodes.engine) (Stand g o st e new.nodes y letters_then (with_reading standing.clocks input)) later tree said) standing.course
-        → Rounded e old.nodes.engine (StandsBehind g o st e standing.course said new letters_then y) tree said
-    stands_learnt ready at letters letters_then x y tree said answers standing is_up_then apart allowed places is heard =
-        stands_heard ready at letters letters_then x y tree said answers standing is_up_then apart (g.knows new.nodes.register at) heard (open_before standing.course heard.later allowed standing.stands.at.doubted heard.works heard.grows)
-        (is ∙ known_heard old.state (g.knows new.nodes.register at) (λ later. TurnedUnder (λ session. AtNode at (λ node. IsUsed o new.nodes node session)) (e.step old.nodes.engine) (Stand g o st e new.nodes y letters_then (with_reading standing.clocks input)) later tree said) standing.course heard heard.stands.turned.later.register.chain
+        → Hears (g.knows new.nodes.register at) (λ later. TurnedUnder (λ session. AtNode at (λ node. IsUsed o new.nodes node session)) (MightNot at old.nodes.machines.items) (e.step old.nodes.engine) (Stand g o st e new.nodes y letters_then (with_reading standing.clocks input)) later tree turn) standing.course
+        → StandsTurned g o st e (λ number. AtNode at (λ node. MayActAt old.nodes.machines.items node number)) old.nodes.engine standing.course tree turn new letters_then y
+    stands_learnt ready at letters letters_then x y tree turn answers standing is_up_then apart allowed places is heard =
+        stands_heard ready at letters letters_then x y tree turn answers standing is_up_then apart (g.knows new.nodes.register at) heard (open_before standing.course heard.later allowed standing.stands.at.doubted heard.works heard.grows)
+        (is ∙ known_heard old.state (g.knows new.nodes.register at) (λ later. TurnedUnder (λ session. AtNode at (λ node. IsUsed o new.nodes node session)) (MightNot at old.nodes.machines.items) (e.step old.nodes.engine) (Stand g o st e new.nodes y letters_then (with_reading standing.clocks input)) later tree turn) standing.course heard heard.stands.turned.later.register.chain
         heard.stands.turned.chain standing.known (places heard.stands.turned.later.register heard.stands.turned.stands.at.parts.register_keeps))
 
   module _ (at : Actor) (up : new.up.items ≡ up_without at old.up.items) (empties : Empties at old.nodes.machines.items new.nodes.machines.items) where
@@ -153,16 +156,14 @@ module _ {G O S E T : Type 0} (g : register.Ghosts G) (o : owners.Ghosts O) (st 
     -- it stopped
     pub stands_stopped : (letters : List Letter) (x y : Disks) (tree : T) → (standing : Standing g o st e old letters x tree)
         → (known : GlobalState) → (heard : Hears known (λ later. Stand g o st e new.nodes y letters (with_down (with_reading standing.clocks input) at) later tree) standing.course) → WereOpen standing.course heard.later → new.state ≡ last heard.later.register.chain
-        → StandsBehind g o st e standing.course [] new letters y tree
+        → StandsBehind g o st e standing.course None [] new letters y tree
     stands_stopped letters x y tree standing known heard before state = record {
       stands = record {
         clocks = with_down (with_reading standing.clocks input) at;
         course = heard.later;
         are_clocks = clocks_stopped standing.clocks standing.are_clocks;
         stands = heard.stands;
-        told = subst (λ (n : ℕ). AreTold n new.nodes.machines.items heard.later.logs) (sym latest)
-            (told_on old.latest old.nodes.machines.items new.nodes.machines.items (waited_before at old.nodes.machines.items new.nodes.machines.items empties) heard.later.logs
-            (subst (λ (logs : Logs). AreTold old.latest old.nodes.machines.items logs) (sym heard.logs) standing.told));
+        came = subst (λ (n : ℕ). HaveCome n heard.later.logs) (sym latest) (subst (HaveCome old.latest) (sym heard.logs) standing.came);
         doubts = subst (λ (n : ℕ). AreInDoubt n new.nodes.machines.items heard.later) (sym latest)
             (in_doubt_emptied old.latest at old.nodes.machines.items new.nodes.machines.items empties standing.course heard.later before standing.doubts);
         known = state;
@@ -172,7 +173,7 @@ module _ {G O S E T : Type 0} (g : register.Ghosts G) (o : owners.Ghosts O) (st 
 
     pub stopped_learnt : (letters : List Letter) (x y : Disks) (tree : T) → (standing : Standing g o st e old letters x tree)
         → IsAllowed (last standing.course.register.chain) → ((past : RegisterPast) → g.keeps new.nodes.register y past → IsPlace past.chain (g.knows new.nodes.register at)) → new.state ≡ greater old.state (g.knows new.nodes.register at)
-        → Hears (g.knows new.nodes.register at) (λ later. Stand g o st e new.nodes y letters (with_down (with_reading standing.clocks input) at) later tree) standing.course → StandsBehind g o st e standing.course [] new letters y tree
+        → Hears (g.knows new.nodes.register at) (λ later. Stand g o st e new.nodes y letters (with_down (with_reading standing.clocks input) at) later tree) standing.course → StandsBehind g o st e standing.course None [] new letters y tree
     stopped_learnt letters x y tree standing allowed places is heard =
         stands_stopped letters x y tree standing (g.knows new.nodes.register at) heard (open_before standing.course heard.later allowed standing.stands.at.doubted heard.works heard.grows)
         (is ∙ known_heard old.state (g.knows new.nodes.register at) (λ later. Stand g o st e new.nodes y letters (with_down (with_reading standing.clocks input) at) later tree) standing.course heard heard.later.register.chain refl standing.known
@@ -232,43 +233,39 @@ module _ {G O S E T : Type 0} (g : register.Ghosts G) (o : owners.Ghosts O) (st 
           (of_there AreApart (slice_get old.nodes.machines.items node) pair.before pair.was (ready.nodes.apart node))
 
   module _ (boots : new.boots ≡ old.boots) (same_count : new.count ≡ old.count) (devices : new.devices ≡ old.devices) (up : new.up.items ≡ old.up.items) (latest : new.latest ≡ call.number) (clock : new.clock ≡ max old.clock reading) where
-    pub stands_called : (letters letters_then : List Letter) (x : Disks) (tree : T) (said : List Said) → Answered (Some reading) (Node node) middle.machines.items new.nodes.machines.items said → new.state ≡ old.state → (standing : Standing g o st e old letters x tree)
+    pub stands_called : (letters letters_then : List Letter) (x : Disks) (tree : T) (turn : Turn) → Answered (Some reading) (Node node) middle.machines.items new.nodes.machines.items turn.said.items → new.state ≡ old.state → (standing : Standing g o st e old letters x tree)
         → standing.clocks.down (Node node) ≡ false → ((n : ℕ) → OfNode new.nodes n AreApart)
-        → TurnedUnder (IsUsed o new.nodes node) (e.step old.nodes.engine) (Stand g o st e new.nodes x letters_then (with_reading standing.clocks (Tick reading))) standing.course tree said → Rounded e old.nodes.engine (StandsBehind g o st e standing.course said new letters_then x) tree said
-    stands_called letters letters_then x tree said answers state standing is_up_then apart under = record {
-      next = turned.next;
-      leads = turned.leads;
-      stands = record {
-        stands = record {
-          clocks = with_reading standing.clocks (Tick reading);
-          course = turned.later;
-          are_clocks = record {
-            down = λ who has. standing.are_clocks.down who (rw (sym same_count, sym devices) has) ∙ ap (λ l. not (is_up l who)) (sym up);
-            boots = standing.are_clocks.boots ∙ sym boots;
-            greatest = ap (λ n. max n reading) standing.are_clocks.greatest ∙ sym clock;
+        → TurnedUnder (IsUsed o new.nodes node) (MightNot (Node node) middle.machines.items) (e.step old.nodes.engine) (Stand g o st e new.nodes x letters_then (with_reading standing.clocks (Tick reading))) standing.course tree turn → StandsTurned g o st e (MayActWith call node old.nodes.machines.items) old.nodes.engine standing.course tree turn new letters_then x
+    stands_called letters letters_then x tree turn answers state standing is_up_then apart under =
+        let on = goes_on g o st e (e.step old.nodes.engine) new.nodes x letters_then (with_reading standing.clocks (Tick reading)) call.number (Node node) middle.machines.items turn standing.course standing.course tree
+        (λ session doubt deed is. is) refl (in_doubt_with old.latest call.number old.nodes.machines.items middle.machines.items standing.course later comes_to.to_act comes_to.opening standing.doubts)
+        (numbers_then (Some reading) (Node node) call.number middle.machines.items new.nodes.machines.items turn.said.items answers numbers_with) apart is_up_then answers.acts answers.acted under
+        (answered_low (Some reading) (Node node) call.number middle.machines.items new.nodes.machines.items turn.said.items answers numbers_with)
+        (record { came = λ slot one has. let low = standing.came.came slot one has in omega (arith, low, later) }) in
+        record {
+          found = on.found;
+          between = under.turned.between;
+          next = under.turned.next;
+          finds = on.finds;
+          leads = under.turned.leads;
+          answers = record { acted = λ number answered might. on.answers.acted number answered (λ may. might (comes_to.to_act node number may)); apart = on.answers.apart };
+          stands = record {
+            stands = record {
+              clocks = with_reading standing.clocks (Tick reading);
+              course = under.turned.later;
+              are_clocks = record {
+                down = λ who has. standing.are_clocks.down who (rw (sym same_count, sym devices) has) ∙ ap (λ l. not (is_up l who)) (sym up);
+                boots = standing.are_clocks.boots ∙ sym boots;
+                greatest = ap (λ n. max n reading) standing.are_clocks.greatest ∙ sym clock;
+              };
+              stands = under.turned.stands;
+              came = subst (λ (n : ℕ). HaveCome n under.turned.later.logs) (sym latest) on.came;
+              doubts = subst (λ (n : ℕ). AreInDoubt n new.nodes.machines.items under.turned.later) (sym latest) on.in_doubt;
+              known = state ∙ standing.known ∙ ap (λ (chain : Chain). last chain) (sym under.turned.chain);
+            };
+            goes = on.goes;
           };
-          stands = turned.stands;
-          told = subst (λ (n : ℕ). AreTold n new.nodes.machines.items turned.later.logs) (sym latest)
-              (told_answered (Some reading) (Node node) call.number middle.machines.items new.nodes.machines.items said answers numbers_with standing.course.logs turned.later.logs
-              (told_with old.latest node old.nodes.machines.items middle.machines.items call later (λ at other. (comes_to.waits at other).0) standing.course.logs standing.told) turned.logged);
-          doubts = subst (λ (n : ℕ). AreInDoubt n new.nodes.machines.items turned.later) (sym latest)
-              (in_doubt_then g o st e (e.step old.nodes.engine) new.nodes x letters_then (with_reading standing.clocks (Tick reading)) call.number (Node node) middle.machines.items said standing.course standing.course tree
-              (λ session doubt deed is. is) refl in_doubt_with_it numbers_last apart is_up_then answers.acts answers.acted under);
-          known = state ∙ standing.known ∙ ap (λ (chain : Chain). last chain) (sym turned.chain);
-        };
-        goes = doubts_go g o st e (e.step old.nodes.engine) new.nodes x letters_then (with_reading standing.clocks (Tick reading)) call.number (Node node) middle.machines.items said standing.course standing.course tree
-            (λ session doubt deed is. is) refl in_doubt_with_it numbers_last apart is_up_then answers.acts answers.acted under;
-      };
-    }
-      where
-        turned : Turned under.own (e.step old.nodes.engine) (Stand g o st e new.nodes x letters_then (with_reading standing.clocks (Tick reading))) standing.course tree said
-        turned = under.turned
-
-        numbers_last : AreNumbered call.number new.nodes.machines.items
-        numbers_last = numbers_then (Some reading) (Node node) call.number middle.machines.items new.nodes.machines.items said answers numbers_with
-
-        in_doubt_with_it : AreInDoubt call.number middle.machines.items standing.course
-        in_doubt_with_it = in_doubt_with old.latest call.number old.nodes.machines.items middle.machines.items standing.course later comes_to.to_act comes_to.opening standing.doubts
+        }
 
     pub ready_called : is_up old.up.items (Node node) ≡ true → (sizes : List ℕ) (said : List Said) → Answered (Some reading) (Node node) middle.machines.items new.nodes.machines.items said → IsReady g o st e old sizes → AreNodes g o st e new.nodes → st.made new.nodes.store ≡ st.made old.nodes.store
         → length new.nodes.machines.items ≡ length old.nodes.machines.items → IsReady g o st e new sizes
@@ -292,7 +289,7 @@ module _ {G O S E T : Type 0} (g : register.Ghosts G) (o : owners.Ghosts O) (st 
 -- ---- a node has its turn
 
 module _ {G O S E T : Type 0} (g : register.Ghosts G) (o : owners.Ghosts O) (st : store.Ghosts S) (e : engine.Ghosts E T) (old new : Machines G O S E T) (node reading : ℕ) (ready : AreReady g o st e old) (boots : new.boots ≡ old.boots) (count : new.count ≡ old.count)
-    (devices : new.devices ≡ old.devices) (up : new.up.items ≡ old.up.items) (latest : new.latest ≡ old.latest) (clock : new.clock ≡ max old.clock reading) (said : List Said) (answers : Answered (Some reading) (Node node) old.nodes.machines.items new.nodes.machines.items said) where
+    (devices : new.devices ≡ old.devices) (up : new.up.items ≡ old.up.items) (latest : new.latest ≡ old.latest) (clock : new.clock ≡ max old.clock reading) (turn : Turn) (answers : Answered (Some reading) (Node node) old.nodes.machines.items new.nodes.machines.items turn.said.items) where
   pub ready_turned : (sizes : List ℕ) → IsReady g o st e old sizes → AreNodes g o st e new.nodes → st.made new.nodes.store ≡ st.made old.nodes.store → length new.nodes.machines.items ≡ length old.nodes.machines.items → IsReady g o st e new sizes
   ready_turned sizes is nodes made counts = record {
     are_ready = record {
@@ -302,14 +299,15 @@ module _ {G O S E T : Type 0} (g : register.Ghosts G) (o : owners.Ghosts O) (st 
       few = rw devices ready.few;
       there = λ who is_up_then. rw (count, devices) (ready.there who (subst (λ l. is_up l who ≡ true) up is_up_then));
       quiet = λ n other is_down waits. ready.quiet n other (subst (λ l. is_up l (Node n) ≡ false) up is_down) ((answers.left n other).0 waits).0;
-      numbered = subst (λ (n : ℕ). AreNumbered n new.nodes.machines.items) (sym latest) (numbers_then (Some reading) (Node node) old.latest old.nodes.machines.items new.nodes.machines.items said answers ready.numbered);
+      numbered = subst (λ (n : ℕ). AreNumbered n new.nodes.machines.items) (sym latest) (numbers_then (Some reading) (Node node) old.latest old.nodes.machines.items new.nodes.machines.items turn.said.items answers ready.numbered);
     };
     replicas = is.replicas;
     members = rw (devices, made) is.members;
   }
 
   pub stands_turned : (letters letters_then : List Letter) (x : Disks) (tree : T) → new.state ≡ old.state → (standing : Standing g o st e old letters x tree) → standing.clocks.down (Node node) ≡ false → ((n : ℕ) → OfNode new.nodes n AreApart)
-      → TurnedUnder (IsUsed o new.nodes node) (e.step old.nodes.engine) (Stand g o st e new.nodes x letters_then (with_reading standing.clocks (Tick reading))) standing.course tree said → Rounded e old.nodes.engine (StandsBehind g o st e standing.course said new letters_then x) tree said
+      → TurnedUnder (IsUsed o new.nodes node) (MightNot (Node node) old.nodes.machines.items) (e.step old.nodes.engine) (Stand g o st e new.nodes x letters_then (with_reading standing.clocks (Tick reading))) standing.course tree turn
+      → StandsTurned g o st e (λ number. MayActAt old.nodes.machines.items node number) old.nodes.engine standing.course tree turn new letters_then x
   stands_turned letters letters_then x tree state standing is_up_then apart under =
-      stands_heard g o st e old new (Tick reading) boots count devices latest clock up ready (Node node) letters letters_then x x tree said answers standing is_up_then apart old.state
+      stands_heard g o st e old new (Tick reading) boots count devices latest clock up ready (Node node) letters letters_then x x tree turn answers standing is_up_then apart old.state
       (record { later = standing.course; grows = inl refl; told = inl refl; logs = refl; works = keeps_all standing.course; stands = under }) (λ session doubt deed is. is) (state ∙ standing.known ∙ ap (λ (chain : Chain). last chain) (sym under.turned.chain))

@@ -1,5 +1,5 @@
 -- How the machines stand once one started again, or tried to.
-use Rattle.std.proofs.Common.{◌≡◌, ⊎_elim, ◌∙◌, ℕ, ◌+◌, Bool, true, false, List, [], ◌∷◌, ◌++◌, refl, sym, ap, subst}
+use Rattle.std.proofs.Common.{◌≡◌, ⊎_elim, ◌∙◌, ℕ, ◌+◌, Bool, true, false, List, [], ◌∷◌, ◌++◌, refl, sym, ap, subst, None}
 use Rattle.std.specs.Prelude.{◌||◌, max, not, if◌then◌else◌}
 use Rattle.bx_base.specs.declared.names.Actor.{Actor}
 use Rattle.bx_base.specs.declared.names.Actor.TheVariants.{Node}
@@ -10,8 +10,8 @@ use Rattle.bx_facts.specs.declared.store.Store as store
 use Rattle.bx_facts.specs.Chains.{Chain, last}
 use Rattle.bx_facts.specs.Machines.{put_at}
 use Rattle.bx_facts.proofs.Machines.{is_itself, is_one}
-use Rattle.bx_node_calls.specs.Waits.{AreNumbered, AreTold}
-use Rattle.bx_node_calls.proofs.Coming.{numbered_on, told_on}
+use Rattle.bx_node_calls.specs.Waits.{AreNumbered, HaveCome}
+use Rattle.bx_node_calls.proofs.Coming.{numbered_on}
 use Rattle.bx_node_calls.specs.bx_nodes.specs.Standing.{Stand}
 use Rattle.bx_node_calls.specs.bx_nodes.specs.Starting.{Starts, with_boot, with_try}
 use Rattle.bx_node_calls.specs.bx_nodes.specs.Stopping.{Empties}
@@ -71,10 +71,8 @@ not_up at who up is = by (is_up up who) refl
 
 module _ {G O S E T : Type 0} (g : register.Ghosts G) (o : owners.Ghosts O) (st : store.Ghosts S) (e : engine.Ghosts E T) (old new : Machines G O S E T) (who : Actor) (reading : ℕ) (boots : new.boots ≡ old.boots + 1) (count : new.count ≡ old.count) (devices : new.devices ≡ old.devices)
     (latest : new.latest ≡ old.latest) (state : new.state ≡ old.state) (clock : new.clock ≡ max old.clock reading) (empties : Empties who old.nodes.machines.items new.nodes.machines.items) where
-  told_then : (logs later : Logs) → later ≡ logs → AreTold old.latest old.nodes.machines.items logs → AreTold new.latest new.nodes.machines.items later
-  told_then logs later same told = subst (λ (n : ℕ). AreTold n new.nodes.machines.items later) (sym latest)
-      (told_on old.latest old.nodes.machines.items new.nodes.machines.items (waited_before who old.nodes.machines.items new.nodes.machines.items empties) later
-      (subst (λ (l : Logs). AreTold old.latest old.nodes.machines.items l) (sym same) told))
+  came_then : (logs later : Logs) → later ≡ logs → HaveCome old.latest logs → HaveCome new.latest later
+  came_then logs later same came = subst (λ (n : ℕ). HaveCome n later) (sym latest) (subst (HaveCome old.latest) (sym same) came)
 
   in_doubt_then_it : (c later : Course) → WereOpen c later → AreInDoubt old.latest old.nodes.machines.items c → AreInDoubt new.latest new.nodes.machines.items later
   in_doubt_then_it c later before was = subst (λ (n : ℕ). AreInDoubt n new.nodes.machines.items later) (sym latest)
@@ -87,7 +85,7 @@ module _ {G O S E T : Type 0} (g : register.Ghosts G) (o : owners.Ghosts O) (st 
   -- it is up
   module _ (up : new.up.items ≡ old.up.items ++ who ∷ []) where
     pub stands_started : (letters letters_then : List Letter) (x y : Disks) (tree : T) → (standing : Standing g o st e old letters x tree)
-        → Starts (λ later. Stand g o st e new.nodes y letters_then (with_boot standing.clocks who (old.boots + 1) reading) later tree) standing.course → StandsBehind g o st e standing.course [] new letters_then y tree
+        → Starts (λ later. Stand g o st e new.nodes y letters_then (with_boot standing.clocks who (old.boots + 1) reading) later tree) standing.course → StandsBehind g o st e standing.course None [] new letters_then y tree
     stands_started letters letters_then x y tree standing starts = record {
       stands = record {
         clocks = with_boot standing.clocks who (old.boots + 1) reading;
@@ -98,7 +96,7 @@ module _ {G O S E T : Type 0} (g : register.Ghosts G) (o : owners.Ghosts O) (st 
           greatest = ap (λ n. max n reading) standing.are_clocks.greatest ∙ sym clock;
         };
         stands = starts.stands;
-        told = told_then standing.course.logs starts.later.logs starts.logs standing.told;
+        came = came_then standing.course.logs starts.later.logs starts.logs standing.came;
         doubts = in_doubt_then_it standing.course starts.later (open_kept standing.course starts.later starts.works starts.chain) standing.doubts;
         known = state ∙ standing.known ∙ ap (λ (chain : Chain). last chain) (sym starts.chain);
       };
@@ -126,7 +124,7 @@ module _ {G O S E T : Type 0} (g : register.Ghosts G) (o : owners.Ghosts O) (st 
   -- it is down still
   module _ (up : new.up.items ≡ old.up.items) where
     pub stands_down : (letters : List Letter) (x y : Disks) (tree : T) → (standing : Standing g o st e old letters x tree)
-        → Starts (λ later. Stand g o st e new.nodes y letters (with_try standing.clocks (old.boots + 1) reading) later tree) standing.course → StandsBehind g o st e standing.course [] new letters y tree
+        → Starts (λ later. Stand g o st e new.nodes y letters (with_try standing.clocks (old.boots + 1) reading) later tree) standing.course → StandsBehind g o st e standing.course None [] new letters y tree
     stands_down letters x y tree standing starts = record {
       stands = record {
         clocks = with_try standing.clocks (old.boots + 1) reading;
@@ -137,7 +135,7 @@ module _ {G O S E T : Type 0} (g : register.Ghosts G) (o : owners.Ghosts O) (st 
           greatest = ap (λ n. max n reading) standing.are_clocks.greatest ∙ sym clock;
         };
         stands = starts.stands;
-        told = told_then standing.course.logs starts.later.logs starts.logs standing.told;
+        came = came_then standing.course.logs starts.later.logs starts.logs standing.came;
         doubts = in_doubt_then_it standing.course starts.later (open_kept standing.course starts.later starts.works starts.chain) standing.doubts;
         known = state ∙ standing.known ∙ ap (λ (chain : Chain). last chain) (sym starts.chain);
       };

@@ -1,5 +1,5 @@
 -- What comes of the calls that wait where a machine hears something.
-use Rattle.std.specs.Prelude.{◌≡◌, ◌⊎◌, ◌↔◌, ℕ, List, ◌∷◌, Contains, Option, Some, None}
+use Rattle.std.specs.Prelude.{◌≡◌, ◌⊎◌, ◌↔◌, ℕ, List, [], ◌∷◌, ◌++◌, Contains, Option, Some, None}
 use Rattle.bx_base.specs.declared.names.Actor.{Actor}
 use Rattle.bx_base.specs.declared.names.Actor.TheVariants.{Node, Replica, Server, Member}
 use Rattle.bx_facts.specs.declared.input.Input.{Input}
@@ -26,6 +26,14 @@ AtNode (Replica n) Says = ⊥
 AtNode (Server n) Says = ⊥
 AtNode (Member n) Says = ⊥
 
+-- the call with a number may not act at it
+abbrev pub MightNot : Actor → List Machine → ℕ → Type 0
+MightNot at machines number = AtNode at (λ node. MayActAt machines node number) → ⊥
+
+-- a call with this number may act at a node yet, where this one comes to it: it might before, or is the one
+abbrev pub MayActWith : Waiting → ℕ → List Machine → ℕ → Type 0
+MayActWith call node machines number = MayActAt machines node number ⊎ (call.number ≡ number)
+
 -- What is answered where a machine hears something, with a reading of its clock or none: only a node answers; each answer is to a call that waited there, and no two are to one; each is of this
 -- moment, or of the record that was written. A call waits on exactly where it isn't answered. A record of a call that is written then was written before, or begins at this moment. No call that may act no more is answered, nor is its record begun.
 pub record Answered (reading : Option ℕ) (at : Actor) (old new : List Machine) (said : List Said) : Type 0 where
@@ -50,7 +58,7 @@ pub record WaitsFirst (reading node : ℕ) (call : Waiting) (old new : List Mach
   pub comes : CallComes node call old middle
   pub answers : Answered (Some reading) (Node node) middle new said
 
--- A call comes to a node, which has its turn then. It touches no block, and is answered before all others; or it waits, and then the node answers calls.
+-- A call comes to a node, which has its turn then. It touches no block, and is answered behind all others; or it waits, and then the node answers calls.
 pub data Called (reading node : ℕ) (call : Waiting) (old new : List Machine) (said : List Said) : Type 0 where
-  AtOnce : (one : Said) (others : List Said) → said ≡ one ∷ others → IsAnswerTo reading call one → Answered (Some reading) (Node node) old new others → Called reading node call old new said
+  AtOnce : (one : Said) (others : List Said) → said ≡ others ++ one ∷ [] → IsAnswerTo reading call one → Answered (Some reading) (Node node) old new others → Called reading node call old new said
   Waited : WaitsFirst reading node call old new said → Called reading node call old new said

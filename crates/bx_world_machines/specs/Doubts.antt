@@ -1,33 +1,21 @@
 -- What a course has of calls in records whose gates may be open, and in logs, by what the nodes have under way.
-use Rattle.std.specs.Prelude.{◌≡◌, ◌⊎◌, ℕ, ◌≤◌, true, List, Contains, Option, Some}
-use Rattle.bx_facts.specs.Chains.{last}
-use Rattle.bx_global.specs.bx_rows.specs.Words.{row_in}
-use Rattle.bx_global.specs.bx_rows.specs.declared.session.SessionRow.{SessionRow}
+use Rattle.std.specs.Prelude.{◌≡◌, ◌⊎◌, ◌++◌, ◌∷◌, ℕ, ◌≤◌, List, [], Contains, Option, Some, None}
+use Rattle.bx_base.specs.declared.names.Point.{Point}
 use Rattle.bx_node_calls.specs.Turns.{acting_at, session_at}
 use Rattle.bx_node_steps.specs.Calls.{Acting, IsAnswered}
 use Rattle.bx_node_steps.specs.declared.machine.Machine.{Machine}
 use Rattle.bx_node_tries.specs.declared.round.Said.{Said}
 use Rattle.bx_facts.specs.declared.owners.Owners as owners
-use Rattle.bx_node_calls.specs.bx_nodes.specs.Turns.{IsOldOrTold}
+pub use Rattle.bx_node_calls.specs.bx_nodes.specs.Turns.{IsInDoubt, IsKnown, IsOpenIn, MayBeOpen}
 use Rattle.bx_node_calls.specs.bx_nodes.specs.declared.nodes.Nodes.{Nodes}
 use Rattle.bx_views.specs.Attempts.{Deed}
 use Rattle.bx_world_machines.specs.Acts.{MayActAt, OpensAt}
 use Rattle.bx_world_standing.specs.Standing.{Course}
+use Rattle.bx_world_standing.specs.bx_volume.specs.Overlay.{Logs}
 use Rattle.bx_world_standing.specs.bx_volume.specs.Records.{Logged}
-use Rattle.bx_world_standing.specs.bx_world_logs.specs.Logs.{Slot, opens}
-use Rattle.bx_world_standing.specs.bx_world_views.specs.Views.{Unacknowledged, OfCall}
+use Rattle.bx_world_standing.specs.bx_world_views.specs.Views.{Unacknowledged}
 
--- a session's record in doubt is of this call, and its gate may be open: it was sent
-pub record MayBeOpen (rows : List SessionRow) (slots : ℕ → Slot) (doubts : ℕ → Option Unacknowledged) (session : ℕ) (doubt : Unacknowledged) (deed : Deed) : Type 0 where
-  pub row : SessionRow
-  pub has_row : row_in rows session ≡ Some row
-  pub sent : opens (slots row.slot).activity ≡ true
-  pub is : doubts session ≡ Some doubt
-  pub act : doubt.act ≡ OfCall deed
-
--- so it is by a course
-abbrev pub IsOpenIn : Course → ℕ → Unacknowledged → Deed → Type 0
-IsOpenIn c = MayBeOpen (last c.register.chain).sessions c.slots c.doubts
+-- ---- calls in doubt
 
 -- A call in doubt came, and may act no more. Where a node still writes its record, that is the session's under which the node has what it has. No two records in doubt are of one call.
 pub record AreInDoubt (latest : ℕ) (machines : List Machine) (c : Course) : Type 0 where
@@ -46,11 +34,51 @@ pub record IsOfActing (machines : List Machine) (doubt : Unacknowledged) (deed :
   pub bytes : deed.call ≡ acts.call.bytes
   pub moment : deed.moment ≡ acts.point.moment
 
--- From the one course to the other: a record whose gate may be open then is one whose gate might be before, and its call isn't answered; or one that a node writes then. A record of a log
--- was in it before, or is of a call that is answered, or of none.
-pub record DoubtsGo (said : List Said) (machines : List Machine) (old new : Course) : Type 0 where
-  pub doubted : (session : ℕ) (doubt : Unacknowledged) (deed : Deed) → IsOpenIn new session doubt deed → (IsOpenIn old session doubt deed × (IsAnswered said doubt.call → ⊥)) ⊎ IsOfActing machines doubt deed
-  pub logged : (slot : ℕ) (one : Logged) → Contains (new.logs slot) one → IsOldOrTold old.logs said slot one
+-- ---- what a recovery found
+
+-- A call in doubt was found to have acted at a point, by which the tree goes on.
+pub record FoundIn {T : Type 0} (Step : T → Deed → T → Type 0) (c : Course) (tree : T) (point : Point) (next : T) : Type 0 where
+  pub session : ℕ
+  pub doubt : Unacknowledged
+  pub deed : Deed
+  pub open_is : IsOpenIn c session doubt deed
+  pub call : point.call ≡ doubt.call
+  pub at : (deed.moment ≡ point.moment) × (deed.spare ≡ point.spare) × (deed.made ≡ point.made)
+  pub step : Step tree deed next
+
+-- Of the points that are told, the last is that of a call which was found so, or there is none such; each other is of a record that a log had, or of no call.
+abbrev pub Finds : {T : Type 0} → (T → Deed → T → Type 0) → Course → T → List Point → Option Point → T → Type 0
+Finds Step c tree told None next = ((point : Point) → Contains told point → IsKnown c.logs point) × (next ≡ tree)
+Finds Step c tree told (Some point) next = (earlier : List Point) × (told ≡ earlier ++ point ∷ []) × ((one : Point) → Contains earlier one → IsKnown c.logs one) × FoundIn Step c tree point next
+
+-- the call that was found so has this number
+abbrev pub IsFoundOf : Option Point → ℕ → Type 0
+IsFoundOf None number = ⊥
+IsFoundOf (Some point) number = point.call ≡ number
+
+-- ---- from the one course to the other
+
+-- a log had a record of this call
+pub record HadRecord (logs : Logs) (number : ℕ) : Type 0 where
+  pub slot : ℕ
+  pub one : Logged
+  pub there : Contains (logs slot) one
+  pub same : one.head.call ≡ number
+
+-- A record's call had a record before; or it is none; or it is answered, or found.
+abbrev pub IsOldOrPointed : Logs → Option Point → List Said → ℕ → Type 0
+IsOldOrPointed logs found said number = HadRecord logs number ⊎ ((number ≡ 0) ⊎ (IsAnswered said number ⊎ IsFoundOf found number))
+
+-- From the one course to the other: a record whose gate may be open then is one whose gate might be before, and its call is neither answered nor found; or one that a node writes then. A record of
+-- a log is of a call that had one before, or is answered or found, or of none.
+pub record DoubtsGo (found : Option Point) (said : List Said) (machines : List Machine) (old new : Course) : Type 0 where
+  pub doubted : (session : ℕ) (doubt : Unacknowledged) (deed : Deed) → IsOpenIn new session doubt deed → (IsOpenIn old session doubt deed × (IsAnswered said doubt.call → ⊥) × (IsFoundOf found doubt.call → ⊥)) ⊎ IsOfActing machines doubt deed
+  pub logged : (slot : ℕ) (one : Logged) → Contains (new.logs slot) one → IsOldOrPointed old.logs found said one.head.call
+
+-- An answer is to a call that might act, or to one in doubt; and to another than the one that was found. (`MayAct` says which calls might.)
+pub record AnswersThose (MayAct : ℕ → Type 0) (found : Option Point) (said : List Said) (c : Course) : Type 0 where
+  pub acted : (number : ℕ) → IsAnswered said number → (MayAct number → ⊥) → (session : ℕ) × IsInDoubt c session number
+  pub apart : (number : ℕ) → IsAnswered said number → IsFoundOf found number → ⊥
 
 -- A node has what it has under this session, which owners know as its own.
 abbrev pub IsUsed : {G O S E T : Type 0} → owners.Ghosts O → Nodes G O S E T → ℕ → ℕ → Type 0

@@ -1,22 +1,25 @@
 -- How the machines of a cluster stand between two events.
-use Rattle.std.specs.Prelude.{◌≡◌, ℕ, ◌+◌, ◌*◌, ◌/◌, ◌<◌, ◌≤◌, true, false, not, List, length, slice_index}
+use Rattle.std.specs.Prelude.{◌≡◌, ℕ, ◌+◌, ◌*◌, ◌/◌, ◌<◌, ◌≤◌, true, false, not, List, Option, length, reverse, slice_index}
 use Rattle.bx_base.specs.declared.names.Actor.{Actor}
 use Rattle.bx_base.specs.declared.names.Actor.TheVariants.{Node, Replica, Server, Member}
+use Rattle.bx_base.specs.declared.names.Point.{Point}
 use Rattle.bx_disk.specs.Disks.{Disks}
 use Rattle.bx_facts.specs.declared.register.Register as register
 use Rattle.bx_facts.specs.declared.store.Store as store
 use Rattle.bx_facts.specs.Chains.{last}
 use Rattle.bx_facts.specs.Writes.{store_room}
-use Rattle.bx_node_calls.specs.Waits.{AreNumbered, AreTold, Waits}
+use Rattle.bx_node_calls.specs.Waits.{AreNumbered, HaveCome, Waits}
 use Rattle.bx_node_steps.specs.Calls.{AreApart, CallOf}
+use Rattle.bx_node_tries.specs.Tries.{LeadsBack}
 use Rattle.bx_node_tries.specs.declared.round.Said.{Said}
 use Rattle.bx_node_calls.specs.bx_nodes.specs.Standing.{BeReady, OfNode, Stand}
 use Rattle.bx_node_calls.specs.bx_nodes.specs.declared.nodes.Nodes.{Nodes}
+use Rattle.bx_node_calls.specs.bx_nodes.specs.declared.turns.Turn.{Turn}
 use Rattle.bx_facts.specs.declared.owners.Owners as owners
 use Rattle.bx_places.specs.Places.{replica_sectors}
 use Rattle.bx_post.specs.declared.packets.Letter.{Letter}
 use Rattle.bx_views.specs.declared.engine.Engine as engine
-use Rattle.bx_world_machines.specs.Doubts.{AreInDoubt, DoubtsGo}
+use Rattle.bx_world_machines.specs.Doubts.{AnswersThose, AreInDoubt, DoubtsGo, Finds}
 use Rattle.bx_world_machines.specs.Machines.{is_up}
 use Rattle.bx_world_machines.specs.declared.machines.Machines.{Machines}
 use Rattle.bx_world_standing.specs.Parts.{Clocks}
@@ -61,13 +64,13 @@ module _ {G O S E T : Type 0} (g : register.Ghosts G) (o : owners.Ghosts O) (st 
     pub boots : clocks.most ≡ machines.boots
     pub greatest : clocks.greatest ≡ machines.clock
 
-  -- They stand on disks for a tree, whatever was done, with these letters under way; what their logs have was told, and calls in doubt act no more; and the greatest state that a machine knew is the last one.
+  -- They stand on disks for a tree, whatever was done, with these letters under way; what their logs have is of calls that came, and calls in doubt act no more; and the greatest state that a machine knew is the last one.
   pub record Standing (machines : Machines G O S E T) (letters : List Letter) (x : Disks) (tree : T) : Type 0 where
     pub clocks : Clocks
     pub course : Course
     pub are_clocks : AreClocks machines clocks
     pub stands : Stand g o st e machines.nodes x letters clocks course tree
-    pub told : AreTold machines.latest machines.nodes.machines.items course.logs
+    pub came : HaveCome machines.latest course.logs
     pub doubts : AreInDoubt machines.latest machines.nodes.machines.items course
     pub known : machines.state ≡ last course.register.chain
 
@@ -75,7 +78,17 @@ module _ {G O S E T : Type 0} (g : register.Ghosts G) (o : owners.Ghosts O) (st 
   abbrev pub StandsBy : Course → Machines G O S E T → List Letter → Disks → T → Type 0
   StandsBy c machines letters x tree = (standing : Standing machines letters x tree) × (standing.course ≡ c)
 
-  -- They stand behind a course, by one that goes on from it, where these calls are answered.
-  pub record StandsBehind (c : Course) (said : List Said) (machines : Machines G O S E T) (letters : List Letter) (x : Disks) (tree : T) : Type 0 where
+  -- They stand behind a course, by one that goes on from it, where a call was found, or none, and these calls are answered.
+  pub record StandsBehind (c : Course) (found : Option Point) (said : List Said) (machines : Machines G O S E T) (letters : List Letter) (x : Disks) (tree : T) : Type 0 where
     pub stands : Standing machines letters x tree
-    pub goes : DoubtsGo said machines.nodes.machines.items c stands.course
+    pub goes : DoubtsGo found said machines.nodes.machines.items c stands.course
+
+  -- Behind a turn of a node, or what is none: what is told leads to a tree, and the answers from there to one for which they stand. (`MayAct` says which calls might be answered.)
+  pub record StandsTurned (MayAct : ℕ → Type 0) (engine_is : E) (c : Course) (tree : T) (turn : Turn) (machines : Machines G O S E T) (letters : List Letter) (x : Disks) : Type 0 where
+    pub found : Option Point
+    pub between : T
+    pub next : T
+    pub finds : Finds (e.step engine_is) c tree turn.told.items found between
+    pub leads : LeadsBack (e.step engine_is) between (reverse turn.said.items) next
+    pub answers : AnswersThose MayAct found turn.said.items c
+    pub stands : StandsBehind c found turn.said.items machines letters x next

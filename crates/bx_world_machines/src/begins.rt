@@ -5,7 +5,7 @@ ghost use Rattle.bx_base.specs.declared.names.Actor.{Actor};
 ghost use Rattle.bx_disk.specs.Disks.{Disks};
 ghost use Rattle.bx_facts.specs.Chains.{last};
 ghost use Rattle.bx_facts.specs.Writes.{store_room};
-ghost use Rattle.bx_node_calls.specs.Waits.{AreTold, NoneWaits};
+ghost use Rattle.bx_node_calls.specs.Waits.{HaveCome, NoneWaits};
 ghost use Rattle.bx_node_calls.specs.bx_nodes.specs.Standing.{Stand};
 ghost use Rattle.bx_node_calls.specs.bx_nodes.specs.bx_node_openings.specs.Opening.{opening_clocks};
 ghost use Rattle.bx_places.specs.Places.{replica_sectors};
@@ -39,7 +39,7 @@ impl<G: Register, O: Owners, S: Store, E: Engine> Machines<G, O, S, E> {
         devices: u32,
     ) -> Result<Machines<G, O, S, E>, OutOfMemory>
         requires few { devices ≤ 4 }
-        ensures stands { (letters : List Letter) (x : Disks) (course : Course) (tree : E.Tree) → Stand G.Register O.Owners S.Store E.Engine nodes x letters opening_clocks course tree → AreTold 0 nodes.machines.items course.logs → ((session : ℕ) → course.doubts session ≡ None) → state ≡ last course.register.chain
+        ensures stands { (letters : List Letter) (x : Disks) (course : Course) (tree : E.Tree) → Stand G.Register O.Owners S.Store E.Engine nodes x letters opening_clocks course tree → HaveCome 0 course.logs → ((session : ℕ) → course.doubts session ≡ None) → state ≡ last course.register.chain
             → IfOk result (λ machines. StandsBy G.Register O.Owners S.Store E.Engine course machines letters x tree) }
         ensures ready { (sizes : List ℕ) → AreNodes G.Register O.Owners S.Store E.Engine nodes → length nodes.machines.items ≡ count → (S.made nodes.store).devices ≡ devices → NoneWaits nodes.machines.items
             → ((disk : ℕ) → disk < 3 → replica_sectors ≤ slice_index sizes disk) → ((disk : ℕ) → 3 ≤ disk → disk < 3 + 2 * devices → store_room (S.made nodes.store) ≤ slice_index sizes disk)

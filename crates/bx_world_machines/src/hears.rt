@@ -1,6 +1,6 @@
 //! What a machine does when it hears something.
 
-ghost use Rattle.std.specs.Prelude.{◌≡◌, ◌+◌, ◌≤◌, ◌++◌, ℕ, max, true, false, List, [], length, IfOk, IsErrOf, OnOk};
+ghost use Rattle.std.specs.Prelude.{◌≡◌, ◌+◌, ◌≤◌, ◌++◌, ℕ, max, true, false, List, [], length, IfOk, IsErrOf, None, OnOk};
 ghost use Rattle.bx_base.specs.declared.names.Actor.{Actor};
 ghost use Rattle.bx_calls.specs.Calls.{LeavesOnly};
 ghost use Rattle.bx_cluster.specs.Steps.{IsTime, greatest_reading};
@@ -9,7 +9,6 @@ ghost use Rattle.bx_facts.specs.Disks.{HasRoom};
 ghost use Rattle.bx_facts.specs.Inputs.{IsComing, IsSteady};
 ghost use Rattle.bx_facts.specs.Machines.{IsMachine};
 ghost use Rattle.bx_facts.specs.declared.input.FactError.TheVariants.{Disk as DiskFails, OutOfMemory as MemoryFails};
-ghost use Rattle.bx_node_calls.specs.Turns.{Rounded};
 ghost use Rattle.bx_node_calls.specs.Waits.{AreNumbered};
 ghost use Rattle.bx_node_calls.specs.bx_nodes.specs.Standing.{Stand};
 ghost use Rattle.bx_node_calls.specs.bx_nodes.specs.Stopping.{Empties, with_down};
@@ -17,16 +16,17 @@ ghost use Rattle.bx_node_calls.specs.bx_nodes.specs.Taking.{Hears, with_reading}
 ghost use Rattle.bx_node_calls.specs.bx_nodes.specs.Turns.{TurnedUnder};
 ghost use Rattle.bx_node_calls.specs.bx_nodes.specs.bx_world_volumes.specs.Left.{MayShow};
 ghost use Rattle.bx_post.specs.declared.packets.Letter.{Letter};
-ghost use Rattle.bx_world_machines.specs.Answering.{Answered, AtNode, reading_in};
+ghost use Rattle.bx_world_machines.specs.Acts.{MayActAt};
+ghost use Rattle.bx_world_machines.specs.Answering.{Answered, AtNode, MightNot, reading_in};
 ghost use Rattle.bx_world_machines.specs.Doubts.{IsUsed};
 ghost use Rattle.bx_world_machines.specs.Machines.{greater, is_up, up_without};
-ghost use Rattle.bx_world_machines.specs.Standing.{AreNodes, IsReady, Standing, StandsBehind, StandsBy};
+ghost use Rattle.bx_world_machines.specs.Standing.{AreNodes, IsReady, Standing, StandsBehind, StandsBy, StandsTurned};
 ghost use Rattle.bx_world_standing.specs.Parts.{Clocks};
 ghost use Rattle.bx_world_standing.specs.Standing.{Course};
 
 use crate::machines::Machines;
 use crate::up::leave_out;
-use crate::wakes::{no_turn, wake};
+use crate::wakes::wake;
 use bx_base::Actor;
 use bx_disk::Rack;
 use bx_facts::{FactError, Input, Outbox, Owners, Register, Store};
@@ -36,7 +36,7 @@ use std::alloc::Global;
 
 impl<G: Register, O: Owners, S: Store, E: Engine> Machines<G, O, S, E> {
     /// A machine that is up hears something: a packet, a tick of its clock, or that its disk has finished a sync. A node has its turn then, where its clock was read.
-    /// Says the answers, in the order in which the calls acted. At a disk fault the machine stops, and nothing in the box is sent.
+    /// At a disk fault the machine stops, and nothing in the box is sent.
     pub fn hear<R: Rack>(
         &mut self,
         rack: &mut R,
@@ -49,13 +49,13 @@ impl<G: Register, O: Owners, S: Store, E: Engine> Machines<G, O, S, E> {
         requires steady { IsSteady self.old.clock input.now }
         requires time { IsTime (reading_in input.now) }
         ensures stands { (letters : List Letter) (tree : E.Tree) (c : Course) → R.tells rack.old → IsComing (letters ++ out.old) input.now → StandsBy G.Register O.Owners S.Store E.Engine c self.old (letters ++ out.old) (R.state rack.old) tree
-            → IfOk result (λ said. Rounded E.Engine self.old.nodes.engine (StandsBehind G.Register O.Owners S.Store E.Engine c said.items self.new (letters ++ out.new) (R.state rack.new)) tree said.items) }
+            → IfOk result (λ turn. StandsTurned G.Register O.Owners S.Store E.Engine (λ number. AtNode at (λ node. MayActAt self.old.nodes.machines.items node number)) self.old.nodes.engine c tree turn self.new (letters ++ out.new) (R.state rack.new)) }
         ensures stopped { (letters : List Letter) (tree : E.Tree) (c : Course) → R.tells rack.old → IsComing (letters ++ out.old) input.now → StandsBy G.Register O.Owners S.Store E.Engine c self.old (letters ++ out.old) (R.state rack.old) tree
-            → IsErrOf result DiskFails → StandsBehind G.Register O.Owners S.Store E.Engine c [] self.new (letters ++ out.old) (R.state rack.new) tree }
+            → IsErrOf result DiskFails → StandsBehind G.Register O.Owners S.Store E.Engine c None [] self.new (letters ++ out.old) (R.state rack.new) tree }
         ensures any_moment { (letters : List Letter) (tree : E.Tree) → R.tells rack.old → IsComing (letters ++ out.old) input.now → (standing : Standing G.Register O.Owners S.Store E.Engine self.old (letters ++ out.old) (R.state rack.old) tree)
             → LeavesOnly (R.moment rack.old) (R.moment rack.new) (R.left_since rack.old) (R.left_since rack.new) (MayShow (G.reads_as (G.made self.old.nodes.register) (R.state rack.old).sizes) (S.made self.old.nodes.store) (R.state rack.old).sizes standing.course) }
         ensures ready { (sizes : List ℕ) → IsReady G.Register O.Owners S.Store E.Engine self.old sizes → (IsErrOf result MemoryFails → ⊥) → IsReady G.Register O.Owners S.Store E.Engine self.new sizes }
-        ensures answers { IfOk result (λ said. Answered (reading_in input.now) at self.old.nodes.machines.items self.new.nodes.machines.items said.items) }
+        ensures answers { IfOk result (λ turn. Answered (reading_in input.now) at self.old.nodes.machines.items self.new.nodes.machines.items turn.said.items) }
         ensures empties { IsErrOf result DiskFails → Empties at self.old.nodes.machines.items self.new.nodes.machines.items }
         ensures up { OnOk result (self.new.up.items ≡ self.old.up.items) }
         ensures down { IsErrOf result DiskFails → self.new.up.items ≡ up_without at self.old.up.items }
@@ -116,14 +116,14 @@ fn hear<G: Register, O: Owners, S: Store, E: Engine, R: Rack>(
     requires time { IsTime (reading_in input.now) }
     ensures stands { (letters : List Letter) (clocks : Clocks) (c : Course) (tree : E.Tree) → R.tells rack.old → clocks.down at ≡ false → IsSteady clocks.greatest input.now → IsComing (letters ++ out.old) input.now
         → Stand G.Register O.Owners S.Store E.Engine nodes.old (R.state rack.old) (letters ++ out.old) clocks c tree
-        → IfOk result (λ said. Hears (G.knows nodes.new.register at) (λ later. TurnedUnder (λ session. AtNode at (λ node. IsUsed O.Owners nodes.new node session)) (E.step nodes.old.engine) (Stand G.Register O.Owners S.Store E.Engine nodes.new (R.state rack.new) (letters ++ out.new) (with_reading clocks input.now)) later tree said.items) c) }
+        → IfOk result (λ turn. Hears (G.knows nodes.new.register at) (λ later. TurnedUnder (λ session. AtNode at (λ node. IsUsed O.Owners nodes.new node session)) (MightNot at nodes.old.machines.items) (E.step nodes.old.engine) (Stand G.Register O.Owners S.Store E.Engine nodes.new (R.state rack.new) (letters ++ out.new) (with_reading clocks input.now)) later tree turn) c) }
     ensures stopped { (letters : List Letter) (clocks : Clocks) (c : Course) (tree : E.Tree) → R.tells rack.old → clocks.down at ≡ false → IsSteady clocks.greatest input.now → IsComing (letters ++ out.old) input.now
         → Stand G.Register O.Owners S.Store E.Engine nodes.old (R.state rack.old) (letters ++ out.old) clocks c tree
         → IsErrOf result DiskFails → Hears (G.knows nodes.new.register at) (λ later. Stand G.Register O.Owners S.Store E.Engine nodes.new (R.state rack.new) (letters ++ out.old) (with_down (with_reading clocks input.now) at) later tree) c }
     ensures any_moment { (letters : List Letter) (clocks : Clocks) (c : Course) (tree : E.Tree) → R.tells rack.old → clocks.down at ≡ false → IsSteady clocks.greatest input.now → IsComing (letters ++ out.old) input.now
         → Stand G.Register O.Owners S.Store E.Engine nodes.old (R.state rack.old) (letters ++ out.old) clocks c tree
         → LeavesOnly (R.moment rack.old) (R.moment rack.new) (R.left_since rack.old) (R.left_since rack.new) (MayShow (G.reads_as (G.made nodes.old.register) (R.state rack.old).sizes) (S.made nodes.old.store) (R.state rack.old).sizes c) }
-    ensures answers { (latest : ℕ) → AreNumbered latest nodes.old.machines.items → IfOk result (λ said. Answered (reading_in input.now) at nodes.old.machines.items nodes.new.machines.items said.items) }
+    ensures answers { (latest : ℕ) → AreNumbered latest nodes.old.machines.items → IfOk result (λ turn. Answered (reading_in input.now) at nodes.old.machines.items nodes.new.machines.items turn.said.items) }
     ensures empties { IsErrOf result DiskFails → Empties at nodes.old.machines.items nodes.new.machines.items }
     ensures nodes { (IsErrOf result MemoryFails → ⊥) → AreNodes G.Register O.Owners S.Store E.Engine nodes.new }
     ensures parts { (G.nodes nodes.new.register ≡ G.nodes nodes.old.register) × (nodes.new.engine ≡ nodes.old.engine) × (S.made nodes.new.store ≡ S.made nodes.old.store) }
@@ -133,6 +133,6 @@ fn hear<G: Register, O: Owners, S: Store, E: Engine, R: Rack>(
     nodes.take(rack, at, input, out)?;
     match at {
         Actor::Node(node) => Ok(wake(alloc, nodes, node, input, out)?),
-        Actor::Replica(_) | Actor::Server(_) | Actor::Member(_) => Ok(no_turn(alloc)),
+        Actor::Replica(_) | Actor::Server(_) | Actor::Member(_) => Ok(Turn::none(alloc)),
     }
 }

@@ -1,6 +1,6 @@
 //! Machines that start again.
 
-ghost use Rattle.std.specs.Prelude.{◌≡◌, ◌+◌, ◌<◌, ◌≤◌, ◌++◌, ◌∷◌, [], ℕ, max, false, List, OnOk, IsErrOf};
+ghost use Rattle.std.specs.Prelude.{◌≡◌, ◌+◌, ◌<◌, ◌≤◌, ◌++◌, ◌∷◌, [], ℕ, max, false, List, None, OnOk, IsErrOf};
 ghost use Rattle.bx_base.specs.declared.names.Actor.TheVariants.{Node};
 ghost use Rattle.bx_calls.specs.Calls.{LeavesOnly};
 ghost use Rattle.bx_disk.specs.Kept.{Counted};
@@ -36,9 +36,9 @@ impl<G: Register, O: Owners, S: Store, E: Engine> Machines<G, O, S, E> {
         requires steady { self.old.clock ≤ reading + 500 }
         requires few { self.old.boots < 4611686018427387904 }
         ensures stands { (letters : List Letter) (tree : E.Tree) (c : Course) → R.tells rack.old → ((node : ℕ) → who ≡ Node node → MayStart O.by_boot (O.is_separate × S.is_separate) self.old.state node (self.old.boots + 1))
-            → StandsBy G.Register O.Owners S.Store E.Engine c self.old (letters ++ out.old) (R.state rack.old) tree → OnOk result (StandsBehind G.Register O.Owners S.Store E.Engine c [] self.new (letters ++ out.new) (R.state rack.new) tree) }
+            → StandsBy G.Register O.Owners S.Store E.Engine c self.old (letters ++ out.old) (R.state rack.old) tree → OnOk result (StandsBehind G.Register O.Owners S.Store E.Engine c None [] self.new (letters ++ out.new) (R.state rack.new) tree) }
         ensures failed { (letters : List Letter) (tree : E.Tree) (c : Course) → R.tells rack.old → StandsBy G.Register O.Owners S.Store E.Engine c self.old (letters ++ out.old) (R.state rack.old) tree
-            → IsErrOf result DiskFails → StandsBehind G.Register O.Owners S.Store E.Engine c [] self.new (letters ++ out.old) (R.state rack.new) tree }
+            → IsErrOf result DiskFails → StandsBehind G.Register O.Owners S.Store E.Engine c None [] self.new (letters ++ out.old) (R.state rack.new) tree }
         ensures any_moment { (letters : List Letter) (tree : E.Tree) → R.tells rack.old → (standing : Standing G.Register O.Owners S.Store E.Engine self.old (letters ++ out.old) (R.state rack.old) tree)
             → LeavesOnly (R.moment rack.old) (R.moment rack.new) (R.left_since rack.old) (R.left_since rack.new) (MayShow (G.reads_as (G.made self.old.nodes.register) (R.state rack.old).sizes) (S.made self.old.nodes.store) (R.state rack.old).sizes standing.course) }
         ensures ready { (sizes : List ℕ) → S.is_separate → IsReady G.Register O.Owners S.Store E.Engine self.old sizes → (IsErrOf result MemoryFails → ⊥) → IsReady G.Register O.Owners S.Store E.Engine self.new sizes }

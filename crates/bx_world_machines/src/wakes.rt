@@ -9,7 +9,7 @@ ghost use Rattle.bx_node_calls.specs.Waits.{AreNumbered};
 ghost use Rattle.bx_node_calls.specs.bx_nodes.specs.Standing.{Stand};
 ghost use Rattle.bx_node_calls.specs.bx_nodes.specs.Turns.{TurnedUnder};
 ghost use Rattle.bx_post.specs.declared.packets.Letter.{Letter};
-ghost use Rattle.bx_world_machines.specs.Answering.{Answered, reading_in};
+ghost use Rattle.bx_world_machines.specs.Answering.{Answered, MightNot, reading_in};
 ghost use Rattle.bx_world_machines.specs.Doubts.{IsUsed};
 ghost use Rattle.bx_world_machines.specs.Standing.{AreNodes};
 ghost use Rattle.bx_world_standing.specs.Parts.{Clocks};
@@ -22,7 +22,7 @@ use bx_views::Engine;
 use std::alloc::Global;
 
 /// A node that heard something has what it has under its own session. Where that came with a reading of its clock it has its turn, behind a tick of the clock its tidy
-/// goes on. Says the answers, in the order in which the calls acted.
+/// goes on.
 pub(crate) fn wake<G: Register, O: Owners, S: Store, E: Engine>(
     alloc: Global,
     nodes: &mut Nodes<G, O, S, E>,
@@ -35,8 +35,8 @@ pub(crate) fn wake<G: Register, O: Owners, S: Store, E: Engine>(
     requires time { IsTime (reading_in input.now) }
     ensures stands { (x : Disks) (letters : List Letter) (clocks : Clocks) (c : Course) (tree : E.Tree) → clocks.down (Node node) ≡ false → IsSteady clocks.greatest input.now
         → Stand G.Register O.Owners S.Store E.Engine nodes.old x (letters ++ out.old) clocks c tree
-        → IfOk result (λ said. TurnedUnder (IsUsed O.Owners nodes.new node) (E.step nodes.old.engine) (Stand G.Register O.Owners S.Store E.Engine nodes.new x (letters ++ out.new) clocks) c tree said.items) }
-    ensures answers { (latest : ℕ) → AreNumbered latest nodes.old.machines.items → IfOk result (λ said. Answered (reading_in input.now) (Node node) nodes.old.machines.items nodes.new.machines.items said.items) }
+        → IfOk result (λ turn. TurnedUnder (IsUsed O.Owners nodes.new node) (MightNot (Node node) nodes.old.machines.items) (E.step nodes.old.engine) (Stand G.Register O.Owners S.Store E.Engine nodes.new x (letters ++ out.new) clocks) c tree turn) }
+    ensures answers { (latest : ℕ) → AreNumbered latest nodes.old.machines.items → IfOk result (λ turn. Answered (reading_in input.now) (Node node) nodes.old.machines.items nodes.new.machines.items turn.said.items) }
     ensures nodes { OnOk result (AreNodes G.Register O.Owners S.Store E.Engine nodes.new) }
     ensures parts { (nodes.new.register ≡ nodes.old.register) × (nodes.new.engine ≡ nodes.old.engine) × (S.made nodes.new.store ≡ S.made nodes.old.store) }
     ensures count { length nodes.new.machines.items ≡ length nodes.old.machines.items }
@@ -45,7 +45,7 @@ pub(crate) fn wake<G: Register, O: Owners, S: Store, E: Engine>(
     match *input {
         Input::Packet(_, reading) => turn(nodes, node, reading, out),
         Input::Tick(reading) => tick(nodes, node, reading, out),
-        Input::Synced => Ok(no_turn(alloc)),
+        Input::Synced => Ok(Turn::none(alloc)),
     }
 }
 
@@ -61,13 +61,12 @@ fn tick<G: Register, O: Owners, S: Store, E: Engine>(
     requires time { reading ≤ 4294967295999 }
     ensures stands { (x : Disks) (letters : List Letter) (clocks : Clocks) (c : Course) (tree : E.Tree) → clocks.down (Node node) ≡ false → clocks.greatest ≤ reading + 500
         → Stand G.Register O.Owners S.Store E.Engine nodes.old x (letters ++ out.old) clocks c tree
-        → IfOk result (λ said. TurnedUnder (IsUsed O.Owners nodes.new node) (E.step nodes.old.engine) (Stand G.Register O.Owners S.Store E.Engine nodes.new x (letters ++ out.new) clocks) c tree said.items) }
-    ensures answers { (latest : ℕ) → AreNumbered latest nodes.old.machines.items → IfOk result (λ said. Answered (Some reading) (Node node) nodes.old.machines.items nodes.new.machines.items said.items) }
+        → IfOk result (λ turn. TurnedUnder (IsUsed O.Owners nodes.new node) (MightNot (Node node) nodes.old.machines.items) (E.step nodes.old.engine) (Stand G.Register O.Owners S.Store E.Engine nodes.new x (letters ++ out.new) clocks) c tree turn) }
+    ensures answers { (latest : ℕ) → AreNumbered latest nodes.old.machines.items → IfOk result (λ turn. Answered (Some reading) (Node node) nodes.old.machines.items nodes.new.machines.items turn.said.items) }
     ensures nodes { OnOk result (AreNodes G.Register O.Owners S.Store E.Engine nodes.new) }
     ensures parts { (nodes.new.register ≡ nodes.old.register) × (nodes.new.engine ≡ nodes.old.engine) × (S.made nodes.new.store ≡ S.made nodes.old.store) }
     ensures count { length nodes.new.machines.items ≡ length nodes.old.machines.items }
 {
-    nodes.propose_at_tick(node, out)?;
     nodes.tick(node);
     turn(nodes, node, reading, out)
 }
@@ -84,8 +83,8 @@ pub(crate) fn renew_and_turn<G: Register, O: Owners, S: Store, E: Engine>(
     requires time { reading ≤ 4294967295999 }
     ensures stands { (x : Disks) (letters : List Letter) (clocks : Clocks) (c : Course) (tree : E.Tree) → clocks.down (Node node) ≡ false → clocks.greatest ≤ reading + 500
         → Stand G.Register O.Owners S.Store E.Engine nodes.old x (letters ++ out.old) clocks c tree
-        → IfOk result (λ said. TurnedUnder (IsUsed O.Owners nodes.new node) (E.step nodes.old.engine) (Stand G.Register O.Owners S.Store E.Engine nodes.new x (letters ++ out.new) clocks) c tree said.items) }
-    ensures answers { (latest : ℕ) → AreNumbered latest nodes.old.machines.items → IfOk result (λ said. Answered (Some reading) (Node node) nodes.old.machines.items nodes.new.machines.items said.items) }
+        → IfOk result (λ turn. TurnedUnder (IsUsed O.Owners nodes.new node) (MightNot (Node node) nodes.old.machines.items) (E.step nodes.old.engine) (Stand G.Register O.Owners S.Store E.Engine nodes.new x (letters ++ out.new) clocks) c tree turn) }
+    ensures answers { (latest : ℕ) → AreNumbered latest nodes.old.machines.items → IfOk result (λ turn. Answered (Some reading) (Node node) nodes.old.machines.items nodes.new.machines.items turn.said.items) }
     ensures nodes { OnOk result (AreNodes G.Register O.Owners S.Store E.Engine nodes.new) }
     ensures parts { (nodes.new.register ≡ nodes.old.register) × (nodes.new.engine ≡ nodes.old.engine) × (S.made nodes.new.store ≡ S.made nodes.old.store) }
     ensures count { length nodes.new.machines.items ≡ length nodes.old.machines.items }
@@ -106,19 +105,11 @@ fn turn<G: Register, O: Owners, S: Store, E: Engine>(
     requires time { reading ≤ 4294967295999 }
     ensures stands { (x : Disks) (letters : List Letter) (clocks : Clocks) (c : Course) (tree : E.Tree) → clocks.down (Node node) ≡ false → clocks.greatest ≤ reading + 500
         → Stand G.Register O.Owners S.Store E.Engine nodes.old x (letters ++ out.old) clocks c tree
-        → IfOk result (λ said. TurnedUnder (IsUsed O.Owners nodes.new node) (E.step nodes.old.engine) (Stand G.Register O.Owners S.Store E.Engine nodes.new x (letters ++ out.new) clocks) c tree said.items) }
-    ensures answers { (latest : ℕ) → AreNumbered latest nodes.old.machines.items → IfOk result (λ said. Answered (Some reading) (Node node) nodes.old.machines.items nodes.new.machines.items said.items) }
+        → IfOk result (λ turn. TurnedUnder (IsUsed O.Owners nodes.new node) (MightNot (Node node) nodes.old.machines.items) (E.step nodes.old.engine) (Stand G.Register O.Owners S.Store E.Engine nodes.new x (letters ++ out.new) clocks) c tree turn) }
+    ensures answers { (latest : ℕ) → AreNumbered latest nodes.old.machines.items → IfOk result (λ turn. Answered (Some reading) (Node node) nodes.old.machines.items nodes.new.machines.items turn.said.items) }
     ensures nodes { OnOk result (AreNodes G.Register O.Owners S.Store E.Engine nodes.new) }
     ensures parts { (nodes.new.register ≡ nodes.old.register) × (nodes.new.engine ≡ nodes.old.engine) × (S.made nodes.new.store ≡ S.made nodes.old.store) }
     ensures count { length nodes.new.machines.items ≡ length nodes.old.machines.items }
 {
     nodes.turn(node, reading, out)
-}
-
-/// A turn of which nothing comes. It takes no memory.
-pub(crate) fn no_turn(alloc: Global) -> Turn {
-    Turn {
-        found: None,
-        said: Vec::new(alloc),
-    }
 }

@@ -7,7 +7,7 @@ use Rattle.bx_nodes.specs.Sending.{StepsLog}
 use Rattle.bx_node_tries.specs.declared.round.Said.{Said}
 use Rattle.bx_node_views.proofs.Knowing.{lease_lives}
 use Rattle.bx_nodes.specs.Standing.{Asking, IsUnderOwn, Stand}
-use Rattle.bx_nodes.specs.Turns.{TurnEnds, Turned, TurnedUnder, Waits}
+use Rattle.bx_nodes.specs.Turns.{TurnEnds, Turned, AnswersUnder, Waits}
 use Rattle.bx_nodes.specs.Turns.TurnEnds.{Worked, Writing}
 use Rattle.bx_nodes.proofs.Leading.{turned_on, under_none}
 use Rattle.bx_nodes.proofs.Calling.{AnswersThere, answers_then, is_fits, received_there, session_received, session_stepped, session_then, stepped_there, was_fits}
@@ -69,7 +69,7 @@ returns-clause-stands g c = λ x letters clocks course tree up steady stands.
     let both = turned_on (e.step middle.engine) (Stand g.G.Register g.O.Owners g.S.Store e stepped x (letters ++ c.step_log.new.out) clocks) Final course tree (option_to_list c.in_ok-acked.acked) c.in_ok-answers.answers.items two
     (subst (λ en. Turned (Some session) (e.step en) Final two.later two.next c.in_ok-answers.answers.items) c.in_ok-acked.ensures.parts.2 three) in
     let all = subst (λ en. Turned (Some session) (e.step en) Final course tree (option_to_list c.in_ok-acked.acked ++ c.in_ok-answers.answers.items)) c.in_ok-receive.ensures.parts.2 both in
-    if_ok_so _ _ c.together.result (λ said is. subst (λ (l : List Said). TurnedUnder (IsUnderOwn g.O.Owners old node) (e.step old.engine) Final course tree l) (sym is)
+    if_ok_so _ _ c.together.result (λ said is. subst (λ (l : List Said). AnswersUnder (IsUnderOwn g.O.Owners old node) (e.step old.engine) Final course tree l) (sym is)
     (record { own = Some session; is_own = ((has.is_own, has.is_under), live); quiet = λ none. absurd (some_not session none); turned = all })) c.together.ensures
 
 pub returns-clause-waits : goal.returns-clause-waits

@@ -1,16 +1,17 @@
-use Rattle.std.proofs.Common.{◌≡◌, ◌∙◌, ℕ, ◌<◌, ◌++◌, [], Bool, true, Option, Some, None, IfSome, IsSome, refl, sym, ap, subst, arith}
+use Rattle.std.proofs.Common.{◌≡◌, ◌∙◌, ℕ, ◌<◌, ◌++◌, [], Bool, true, Option, Some, None, IfSome, IsSome, IsSomeAnd, refl, sym, ap, subst, arith}
 use Rattle.std.specs.Prelude.{◌==◌, ◌&&◌, if◌then◌else◌, slice_get}
 use Rattle.std.proofs.lemmas.Bool.Decides.{nat_tests}
 use Rattle.bx_facts.specs.Holds.{first_of}
 use Rattle.bx_node_steps.specs.Gives.{marked, newest, since}
 use Rattle.bx_node_steps.specs.declared.machine.Machine.{Machine}
 use Rattle.bx_nodes.specs.Cleaning.{IsHeldUp}
-use Rattle.bx_nodes.specs.Standing.{Asking, IsUnderOwn, Stand}
-use Rattle.bx_nodes.specs.Turns.{OnlyStore, TurnEnds, TurnedUnder, noting}
-use Rattle.bx_nodes.proofs.Leading.{under_as}
+use Rattle.bx_nodes.specs.Standing.{Asking, IsUnderOwn, OpensThere, Stand}
+use Rattle.bx_nodes.specs.Turns.{AnswersUnder, OnlyStore, TurnEnds, noting}
+use Rattle.bx_nodes.proofs.Leading.{turned_whole, under_as}
 use Rattle.bx_nodes.proofs.Calling.{answers_still, answers_then, noted_there, session_noted, session_then, was_fits}
 use Rattle.bx_nodes.proofs.HoldingUp.{held_noted}
 use Rattle.bx_nodes.proofs.Machines.{is_some_there, of_there, there_is, two_there, was_there}
+use Rattle.bx_nodes.proofs.Opened.{in_doubt_at}
 use Rattle.bx_nodes.proofs.Noting.{asking_noted, ends_as, lease_noted, ready_noted, stands_noted}
 use Rattle.bx_nodes.proofs.Cleaning.{Cleans, cleans_then, goes_asked, goes_noted, then_cleans}
 use Rattle.bx_nodes.proofs.Tidying.{tidy_noted}
@@ -41,14 +42,17 @@ returns-clause-stands g c = λ x letters clocks course tree up steady stands.
     let two = c.in_ok-said.ensures.stands x letters clocks course tree up steady one in
     let Acted = Stand g.G.Register g.O.Owners g.S.Store e acted x (letters ++ c.act.new.out) clocks in
     let Final = Stand g.G.Register g.O.Owners g.S.Store e new x (letters ++ c.act.new.out) clocks in
-    subst (λ en. TurnedUnder (IsUnderOwn g.O.Owners old node) (e.step en) Final course tree c.in_ok-said.said.items) c.note_asked.ensures.parts.3
+    turned_whole (IsUnderOwn g.O.Owners old node) (OpensThere old node) (e.step old.engine) Final course tree _ c.new.ensures.items
+    (λ session number is lives opening. in_doubt_at g.G.Register g.O.Owners g.S.Store (e.stands old.engine) (e.step old.engine) old.register old.owners old.store x (letters ++ c.args.out.now) clocks old.machines.items course tree stands node up session number is.0
+    (subst (λ (m : Option Machine). IsSomeAnd m (λ machine. machine.session ≡ Some session)) (sym found.1) (of_there (λ (m : Machine). m.session ≡ Some session) (slice_get old.machines.items node) found.0 found.1 is.1)) lives opening)
+    (subst (λ en. AnswersUnder (IsUnderOwn g.O.Owners old node) (e.step en) Final course tree c.in_ok-said.said.items) c.note_asked.ensures.parts.3
     (under_as (IsUnderOwn g.O.Owners noted node) (IsUnderOwn g.O.Owners old node) (e.step noted.engine) Acted Final course tree c.in_ok-said.said.items
     (λ session is. (
       sym (ap (λ w. g.O.Owners.own w node) c.note_asked.ensures.parts.1) ∙ is.0,
       was_there (λ (m : Machine). m.session ≡ Some session) (slice_get old.machines.items node) found.0 found.1
           (of_there (λ (m : Machine). m.session ≡ Some session) (slice_get noted.machines.items node) (record found.0 { mark = mark }) is_noted is.1),
     ))
-    (λ later next stood. stands_noted g.G.Register g.O.Owners g.S.Store e acted new c.note_asked-2.ensures.parts x (letters ++ c.act.new.out) clocks later next c.note_asked-2.ensures.seen stood) two)
+    (λ later next stood. stands_noted g.G.Register g.O.Owners g.S.Store e acted new c.note_asked-2.ensures.parts x (letters ++ c.act.new.out) clocks later next c.note_asked-2.ensures.seen stood) two))
 
 pub returns-clause-waits : goal.returns-clause-waits
 returns-clause-waits g c = λ lease has.

@@ -7,7 +7,7 @@ use Rattle.bx_world_machines.proofs.Beginning.{all_there, only_there}
 use Rattle.bx_world_machines.proofs.machines.Machines.begin.Goals as goal
 
 pub returns-clause-stands : goal.returns-clause-stands
-returns-clause-stands g c = λ letters x course tree stands told none known. (
+returns-clause-stands g c = λ letters x course tree stands came none known. (
   record {
     clocks = opening_clocks;
     course = course;
@@ -17,7 +17,7 @@ returns-clause-stands g c = λ letters x course tree stands told none known. (
       greatest = sym c.new.ensures;
     };
     stands = stands;
-    told = told;
+    came = came;
     doubts = in_doubt_none 0 c.args.nodes.machines.items course none;
     known = known;
   },

@@ -1,4 +1,4 @@
-use Rattle.std.proofs.Common.{◌∙◌, [], inl, refl, sym, ap, subst}
+use Rattle.std.proofs.Common.{◌∙◌, [], inl, refl, sym, ap, subst, None}
 use Rattle.bx_facts.specs.Chains.{Chain, last}
 use Rattle.bx_facts.specs.declared.input.Input.TheVariants.{Synced}
 use Rattle.bx_world_machines.specs.Standing.{StandsBehind}
@@ -15,7 +15,7 @@ returns-clause-stands g c = λ letters x tree course by_it.
     let said = c.crash.ensures in
     let new = record old { nodes = c.crash.new.self; up = c.leave_out.new.up } in
     let stopped = said.stands x letters standing.clocks standing.course tree standing.stands in
-    subst (λ (k : Course). StandsBehind g.G.Register g.O.Owners g.S.Store g.E.Engine k [] new letters x tree) by_it.1
+    subst (λ (k : Course). StandsBehind g.G.Register g.O.Owners g.S.Store g.E.Engine k None [] new letters x tree) by_it.1
     (stands_stopped g.G.Register g.O.Owners g.S.Store g.E.Engine old new Synced refl refl refl refl refl c.args.who c.leave_out.ensures said.empties letters x x tree standing old.state
     (record { later = stopped.later; grows = inl stopped.chain; told = inl stopped.chain; logs = stopped.logs; works = stopped.works; stands = stopped.stands }) (open_kept standing.course stopped.later stopped.works stopped.chain) (standing.known ∙ ap (λ (chain : Chain). last chain) (sym stopped.chain)))
 

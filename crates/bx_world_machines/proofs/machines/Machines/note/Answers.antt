@@ -47,7 +47,7 @@ returns-clause-stands g c = λ letters x tree course by_it.
         course = standing.course;
         are_clocks = record { down = standing.are_clocks.down; boots = standing.are_clocks.boots; greatest = ap (λ n. max n c.args.reading) standing.are_clocks.greatest };
         stands = stands_later g.G.Register g.O.Owners g.S.Store g.E.Engine laws old.nodes x letters standing.clocks (Tick c.args.reading) standing.course tree standing.stands;
-        told = standing.told;
+        came = standing.came;
         doubts = standing.doubts;
         known = standing.known;
       },

@@ -1,4 +1,4 @@
-use Rattle.std.proofs.Common.{◌≡◌, ◌∙◌, ◌+◌, ◌<◌, ◌≤◌, ◌++◌, [], refl, rules, sym, ap, subst, arith}
+use Rattle.std.proofs.Common.{◌≡◌, ◌∙◌, ◌+◌, ◌<◌, ◌≤◌, ◌++◌, [], refl, rules, sym, ap, subst, arith, None}
 use Rattle.std.specs.Prelude.{not, true}
 use Rattle.bx_facts.specs.Machines.{IsMachine}
 use Rattle.bx_node_calls.specs.bx_nodes.specs.Starting.{MayStart}
@@ -42,7 +42,7 @@ returns-in_err-restart-clause-failed g c = λ letters tree course tells by_it fa
     let steady : clocks.greatest ≤ c.args.reading + 500 = let same = standing.are_clocks.greatest in let rule = c.requires.steady in omega (arith, same, rule) in
     let fails = err_back c.from_residual.result _ c.from_residual.ensures.1 fault in
     let starts = rw c.read.ensures at (c.in_err-restart.ensures.failed letters clocks standing.course tree tells down (rw c.read.ensures above) steady (rw c.read.ensures standing.stands) fails) in
-    subst (λ (k : Course). StandsBehind g.G.Register g.O.Owners g.S.Store g.E.Engine k [] new (letters ++ c.args.out.now) (g.R.Rack.state c.restart.new.rack) tree) by_it.1
+    subst (λ (k : Course). StandsBehind g.G.Register g.O.Owners g.S.Store g.E.Engine k None [] new (letters ++ c.args.out.now) (g.R.Rack.state c.restart.new.rack) tree) by_it.1
     (stands_down g.G.Register g.O.Owners g.S.Store g.E.Engine old new who c.args.reading (rw c.read.ensures refl) (rw c.read.ensures refl) (rw c.read.ensures refl) (rw c.read.ensures refl) (rw c.read.ensures refl) (rw c.read.ensures refl) (rw c.read.ensures at c.restart.ensures.empties)
     (rw c.read.ensures refl) (letters ++ c.args.out.now) (g.R.Rack.state c.args.rack.now) (g.R.Rack.state c.restart.new.rack) tree standing starts)
 
@@ -72,7 +72,7 @@ returns-clause-stands g c = λ letters tree course tells may_start by_it.
     let steady : clocks.greatest ≤ c.args.reading + 500 = let same = standing.are_clocks.greatest in let rule = c.requires.steady in omega (arith, same, rule) in
     let starts = rw c.read.ensures at (c.in_ok-restart.ensures.stands letters clocks standing.course tree tells down (rw c.read.ensures above) steady
     (λ node same. rw c.read.ensures (subst (λ s. MayStart g.O.Owners.by_boot (g.O.Owners.is_separate × g.S.Store.is_separate) s node (old.boots + 1)) standing.known (may_start node same))) (rw c.read.ensures standing.stands)) in
-    subst (λ (k : Course). StandsBehind g.G.Register g.O.Owners g.S.Store g.E.Engine k [] new (letters ++ c.restart.new.out) (g.R.Rack.state c.restart.new.rack) tree) by_it.1
+    subst (λ (k : Course). StandsBehind g.G.Register g.O.Owners g.S.Store g.E.Engine k None [] new (letters ++ c.restart.new.out) (g.R.Rack.state c.restart.new.rack) tree) by_it.1
     (stands_started g.G.Register g.O.Owners g.S.Store g.E.Engine old new who c.args.reading (rw c.read.ensures refl) (rw c.read.ensures refl) (rw c.read.ensures refl) (rw c.read.ensures refl) (rw c.read.ensures refl) (rw c.read.ensures refl) (rw c.read.ensures at c.restart.ensures.empties)
     (rw c.read.ensures at c.in_ok-bring_in.ensures) (letters ++ c.args.out.now) (letters ++ c.restart.new.out) (g.R.Rack.state c.args.rack.now) (g.R.Rack.state c.restart.new.rack) tree standing starts)
 

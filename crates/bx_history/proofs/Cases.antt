@@ -7,6 +7,8 @@ use Rattle.bx_history.specs.Trace.{Taking, IsSentBefore}
 use Rattle.bx_history.specs.Parts.{Arrival, Happening, Part}
 use Rattle.bx_history.specs.Placed.{Rules, HasReadingSince, HasSpare, IsAnsweredAtOnce, IsClosing, IsPrompt, again_by, is_taken, taken_by}
 use Rattle.bx_history.specs.Along.{none_ends}
+use Rattle.bx_history.proofs.OnePart.{IsServed, going}
+use Rattle.bx_history.proofs.Serving.{Served}
 
 -- all bytes are calls, none is answered at once, and a node keeps two answers
 abbrev rules : Rules
@@ -34,6 +36,13 @@ abbrev answered : ℕ → ℕ → ℕ → ℕ → Part
 answered call reading client byte = record {
   what = arrival reading client byte;
   lines = Reply call (byte ∷ []) ∷ Acted (record { call = call; moment = reading; spare = 8; made = 0 }) ∷ Took call 0 client (byte ∷ []) ∷ [];
+}
+
+-- the point of a call, found by a node that recovers its record
+abbrev found : ℕ → ℕ → ℕ → Part
+found call reading moment = record {
+  what = record { arrives = None; reading = Some reading; ends = none_ends; runs = true };
+  lines = Acted (record { call = call; moment = moment; spare = 8; made = 0 }) ∷ [];
 }
 
 -- ---- what is sent again
@@ -101,6 +110,15 @@ what_waits_is_not_sent = refl
 pub what_waited_is_taken_after_a_crash : taken_by rules (crash ∷ waits 1 10 5 7 ∷ []) (Some (from 5 7)) ≡ from 5 7 ∷ []
 what_waited_is_taken_after_a_crash = refl
 
+pub what_was_found_is_not_taken : taken_by rules (found 1 30 10 ∷ waits 1 10 5 7 ∷ []) (Some (from 5 7)) ≡ []
+what_was_found_is_not_taken = refl
+
+pub what_was_found_is_not_sent : again_by rules (found 1 30 10 ∷ waits 1 10 5 7 ∷ []) (Some (from 5 7)) ≡ []
+what_was_found_is_not_sent = refl
+
+pub what_was_found_is_taken_after_a_crash : taken_by rules (crash ∷ found 1 30 10 ∷ waits 1 10 5 7 ∷ []) (Some (from 5 7)) ≡ from 5 7 ∷ []
+what_was_found_is_taken_after_a_crash = refl
+
 abbrev many : ℕ → List Part
 many zero = []
 many (suc n) = waits (suc n) 10 n 7 ∷ many n
@@ -110,6 +128,9 @@ a_64th_is_taken = refl
 
 pub a_65th_is_not : is_taken rules (many 64) (from 100 7) ≡ false
 a_65th_is_not = refl
+
+pub one_that_was_found_counts : is_taken rules (found 1 30 10 ∷ many 64) (from 100 7) ≡ false
+one_that_was_found_counts = refl
 
 -- ---- when a call acts
 
@@ -150,6 +171,54 @@ never_waiting_behind_a_run h = let none = h.answered refl 0 in cc
 
 pub never_short_of_blocks : HasSpare (Acted (record { call = 1; moment = 10; spare = 7; made = 0 })) → ⊥
 never_short_of_blocks h = omega arith
+
+-- ---- what one part may tell
+
+-- the first call, which acted at this reading
+abbrev acted : ℕ → Served
+acted moment = record { taking = first; point = record { call = 1; moment = moment; spare = 8; made = 0 }; reply = 7 ∷ [] }
+
+pub the_point_of_one_that_waits : IsServed rules (waits 1 10 5 7 ∷ []) (going None (Some 30) false) None (Some (acted 10)) [] None
+the_point_of_one_that_waits = record {
+  takes = refl;
+  number = tt;
+  found = (refl, record { taken = refl; no_point = refl }, inr (refl, inl refl));
+  of = tt;
+  waits = tt;
+  unpointed = tt;
+  others = tt;
+  moments = tt;
+  immediate = tt;
+  repeats = refl;
+  sent = tt;
+}
+
+pub the_point_of_one_whose_node_ended : IsServed rules (crash ∷ waits 1 10 5 7 ∷ []) (going None (Some 30) false) None (Some (acted 10)) [] None
+the_point_of_one_whose_node_ended = record {
+  takes = refl;
+  number = tt;
+  found = (refl, record { taken = refl; no_point = refl }, inr (refl, inr (refl, inl refl)));
+  of = tt;
+  waits = tt;
+  unpointed = tt;
+  others = tt;
+  moments = tt;
+  immediate = tt;
+  repeats = refl;
+  sent = tt;
+}
+
+pub never_a_point_twice : IsServed rules (found 1 30 10 ∷ waits 1 10 5 7 ∷ []) (going None (Some 40) false) None (Some (acted 10)) [] None → ⊥
+never_a_point_twice h = let none = h.found.1.no_point in cc
+
+pub never_answered_once_found : IsServed rules (found 1 30 10 ∷ waits 1 10 5 7 ∷ []) (going None (Some 40) false) None None (acted 40 ∷ []) None → ⊥
+never_answered_once_found h = let none = h.unpointed.0 in cc
+
+pub never_found_and_answered : IsServed rules (waits 1 10 5 7 ∷ []) (going None (Some 30) false) None (Some (acted 10)) (acted 30 ∷ []) None → ⊥
+never_found_and_answered h = let none = h.unpointed.0 in cc
+
+pub never_found_before_it_was_taken : IsServed rules [] (going None (Some 30) false) None (Some (acted 30)) [] None → ⊥
+never_found_before_it_was_taken h = let none = h.found.1.taken in cc
 
 -- ---- what comes behind the last part
 

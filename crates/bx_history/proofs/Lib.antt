@@ -4,11 +4,8 @@ pub mod Lists
 pub mod Unanswered
 pub mod Serving
 pub mod OnePart
-pub mod Waiting
-pub mod Taking
 pub mod Whole
 pub mod Spelled
 pub mod Once
-pub mod Ended
 pub mod Fronts
 pub mod Cases

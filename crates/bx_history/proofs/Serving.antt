@@ -10,11 +10,11 @@ use Rattle.bx_history.specs.Trace.{Answer, Entry, FitsNewest, IsIn, Taking, answ
 use Rattle.bx_history.specs.Parts.{unanswered}
 use Rattle.bx_history.specs.Account.{AreNewestFirst, IsPending, IsSplit, answers_at, entry_for}
 use Rattle.bx_history.proofs.Lists.{all_mapped, all_passed, order_passed, one_of}
-use Rattle.bx_history.proofs.Numbering.{next_has_no_point, next_has_no_reply, taking_bound}
+use Rattle.bx_history.proofs.Numbering.{next_has_no_reply, taking_bound}
 use Rattle.bx_history.proofs.Since.{IsFront, found_there, known_there}
 use Rattle.bx_history.proofs.Unanswered.{fewer_but, no_reply_front, same}
 
--- A call that is answered: as it was taken, at its point, with its reply.
+-- A call that acts: as it was taken, at its point, with the reply of its entry, which is sent where it is answered.
 pub record Served : Type 0 where
   pub taking : Taking
   pub point : Point
@@ -41,6 +41,7 @@ AreOfOthers (one ∷ earlier) = AllByRecursion (λ other. other.point.call ≢ o
 pub record IsDue (trace : List TraceLine) (one : Served) : Type 0 where
   pub of : one.point.call ≡ one.taking.call
   pub pending : IsPending trace one.taking.node one.taking
+  pub no_point : has_point trace one.point.call ≡ false
 
 -- Some of the calls that have their points have their replies too; of all these calls, the newest first.
 abbrev pub served : List Served → List Served → List TraceLine → List TraceLine
@@ -95,9 +96,6 @@ module _ (trace : List TraceLine) (one : Served) (due : IsDue trace one) where
   due_taken : taking_of trace one.point.call ≡ Some one.taking
   due_taken = ap (λ (n : ℕ). taking_of trace n) due.of ∙ due.pending.taken
 
-  due_no_point : has_point trace one.point.call ≡ false
-  due_no_point = ap (has_point trace) due.of ∙ due.pending.no_point
-
   due_no_reply : has_reply trace one.point.call ≡ false
   due_no_reply = ap (has_reply trace) due.of ∙ due.pending.no_reply
 
@@ -110,7 +108,7 @@ module _ (kept : ℕ) (trace : List TraceLine) (history : List Entry) where
       taken = ap (λ (ts : List Taking). taking_in ts one.point.call) (acted_takings all trace) ∙ due_taken trace one due.0;
       client = refl;
       bytes = refl;
-      first = acted_pointed all trace one.point.call ∙ or_from _ _ (none_among all one.point.call apart.0) (due_no_point trace one due.0);
+      first = acted_pointed all trace one.point.call ∙ or_from _ _ (none_among all one.point.call apart.0) due.0.no_point;
       call = refl;
       moment = refl;
       spare = refl;
@@ -172,7 +170,7 @@ module _ (since : List TraceLine) (node : ℕ) where
       let found : taking_of (served some all since) one.point.call ≡ taking_of since one.point.call = ap (λ (ts : List Taking). taking_in ts one.point.call) (served_takings some all since) in
       record { here = λ at. found ∙ known.here at; only = λ other is. known.only other (sym found ∙ is) }
 
-acted_answers : (all : List Served) (older : List TraceLine) → answers (map acted_line all ++ older) ≡ answers older
+pub acted_answers : (all : List Served) (older : List TraceLine) → answers (map acted_line all ++ older) ≡ answers older
 acted_answers [] older = refl
 acted_answers (one ∷ all) older = acted_answers all older
 
@@ -214,7 +212,6 @@ module _ (node : ℕ) (trace since : List TraceLine) (all : List Served) (apart 
       record {
         taken = ap (λ (ts : List Taking). taking_in ts t.call) (served_takings all all trace) ∙ pending.taken;
         at = pending.at;
-        no_point = served_pointed all all trace t.call ∙ or_from _ _ none pending.no_point;
         no_reply = served_replied all all trace t.call ∙ or_from _ _ none pending.no_reply;
       }
 
@@ -261,7 +258,7 @@ module _ (kept : ℕ) (trace : List TraceLine) (history : List Entry) (fits : Fi
   taken_no_reply = rw next_number (next_has_no_reply kept trace history fits)
 
   pub taken_pending : IsPending (took_line ∷ trace) taking.node taking
-  taken_pending = record { taken = rw (same taking.call) refl; at = refl; no_point = rw next_number (next_has_no_point kept trace history fits); no_reply = taken_no_reply }
+  taken_pending = record { taken = rw (same taking.call) refl; at = refl; no_reply = taken_no_reply }
 
   pub older : (node : ℕ) (other : Taking) → IsPending trace node other → other.call < taking.call
   older node other pending = omega (arith, number, taking_bound kept trace history other.call other fits pending.taken)
@@ -271,12 +268,16 @@ module _ (kept : ℕ) (trace : List TraceLine) (history : List Entry) (fits : Fi
   not_this false found is = refl
   not_this true found is = absurd cc
 
+  -- a call that was taken before is found still
+  pub taken_before : (call : ℕ) (other : Taking) → taking_of trace call ≡ Some other → taking_of (took_line ∷ trace) call ≡ Some other
+  taken_before call other found =
+      not_this (taking.call == call) (taking_of trace call) (ne_eqb taking.call call (λ is. omega (arith, number, is, taking_bound kept trace history call other fits found))) ∙ found
+
   -- a call that waited does so still
   goes_on : (node : ℕ) (other : Taking) → IsPending trace node other → IsPending (took_line ∷ trace) node other
   goes_on node other pending = record {
-    taken = not_this (taking.call == other.call) (taking_of trace other.call) (ne_eqb taking.call other.call (λ is. omega (arith, older node other pending, is))) ∙ pending.taken;
+    taken = taken_before other.call other pending.taken;
     at = pending.at;
-    no_point = pending.no_point;
     no_reply = pending.no_reply;
   }
 

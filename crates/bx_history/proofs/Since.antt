@@ -59,10 +59,3 @@ since_front (part ∷ older) node = by (part.what.ends node) (since_front older 
     by : (b : Bool) → IsFront (trace_since older node) (trace_of older) → IsFront (part.lines ++ (if b then [] else trace_since older node)) (part.lines ++ trace_of older)
     by true on = record { rest = trace_of older; is = sym (append_assoc part.lines [] (trace_of older)) }
     by false on = record { rest = on.rest; is = ap (λ (l : List TraceLine). part.lines ++ l) on.is ∙ sym (append_assoc part.lines (trace_since older node) on.rest) }
-
-pub taken_since : (parts : List Part) (node : ℕ) (taking other : Taking) → IsIn taking (takings (trace_since parts node)) → taking_of (trace_of parts) taking.call ≡ Some other
-    → taking_of (trace_since parts node) taking.call ≡ Some other
-taken_since parts node = known_there (trace_since parts node) (trace_of parts) (since_front parts node)
-
-pub found_whole : (parts : List Part) (node call : ℕ) (other : Taking) → taking_of (trace_since parts node) call ≡ Some other → taking_of (trace_of parts) call ≡ Some other
-found_whole parts node = found_there (trace_since parts node) (trace_of parts) (since_front parts node)

@@ -6,9 +6,9 @@ use Rattle.std.proofs.lemmas.List.{append-nil}
 use Rattle.bx_script.specs.declared.trace_line.TraceLine.{TraceLine}
 use Rattle.bx_script.specs.declared.trace_line.TraceLine.TheVariants.{Took, Acted, Reply, Again}
 use Rattle.bx_history.specs.Trace.{Taking, has_reply, takings}
-use Rattle.bx_history.specs.Parts.{Part, trace_of, trace_since, unanswered}
+use Rattle.bx_history.specs.Parts.{unanswered}
 use Rattle.bx_history.proofs.Lists.{filter_both}
-use Rattle.bx_history.proofs.Since.{IsFront, since_front}
+use Rattle.bx_history.proofs.Since.{IsFront}
 
 pub same : (n : ℕ) → eqb n n ≡ true
 same n = eq-eqb n n refl
@@ -27,9 +27,6 @@ behind (Again at client reply ∷ lines) trace other call gives none = behind li
 pub no_reply_front : (since trace : List TraceLine) → IsFront since trace → (call : ℕ) → has_reply trace call ≡ false → has_reply since call ≡ false
 no_reply_front since trace front call none =
     ap (λ (l : List TraceLine). has_reply l call) (sym (append-nil since)) ∙ behind since front.rest [] call (λ _. refl) (ap (λ (l : List TraceLine). has_reply l call) (sym front.is) ∙ none)
-
-pub no_reply_since : (parts : List Part) (node call : ℕ) → has_reply (trace_of parts) call ≡ false → has_reply (trace_since parts node) call ≡ false
-no_reply_since parts node = no_reply_front (trace_since parts node) (trace_of parts) (since_front parts node)
 
 -- ---- calls are answered
 

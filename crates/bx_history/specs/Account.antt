@@ -1,5 +1,5 @@
 -- The trace of a run is that of one history.
-use Rattle.std.specs.Prelude.{◌≡◌, ℕ, ◌<◌, ◌==◌, if◌then◌else◌, false, List, [], ◌∷◌, ◌++◌, filter, Some}
+use Rattle.std.specs.Prelude.{◌≡◌, ℕ, ◌<◌, ◌==◌, false, List, [], ◌∷◌, ◌++◌, filter, Some}
 use Rattle.std.specs.List.{AllByRecursion}
 use Rattle.bx_base.specs.declared.names.Point.{Point}
 use Rattle.bx_script.specs.declared.line.Line.{Line}
@@ -10,11 +10,10 @@ use Rattle.bx_history.specs.Parts.{Happening, Part, trace_of, trace_since, waiti
 use Rattle.bx_history.specs.Placed.{Rules, PlacedNewest}
 use Rattle.bx_history.specs.Along.{IsPlaced}
 
--- A call waits at a node, behind this trace: it was taken there, and has neither point nor reply.
+-- A call waits at a node, behind this trace: it was taken there, and has no reply. It may have its point: where its record was found by a node that recovered it, it acted, and isn't answered.
 pub record IsPending (trace : List TraceLine) (node : ℕ) (taking : Taking) : Type 0 where
   pub taken : taking_of trace taking.call ≡ Some taking
   pub at : taking.node ≡ node
-  pub no_point : has_point trace taking.call ≡ false
   pub no_reply : has_reply trace taking.call ≡ false
 
 -- A call was taken, and has no point behind this trace: whether it waits or its node ended.
@@ -37,7 +36,7 @@ pub record IsSplit (all newest : List Answer) : Type 0 where
   pub whole : all ≡ newest ++ before
 
 -- Parts so far, the newest first, fit one history, which leads from the one tree to the other. These calls wait at each node, the newest
--- first, and none of them has a point. What a node sent since it last ended is the newest of all that it sent.
+-- first, and none of them has a reply. What a node sent since it last ended is the newest of all that it sent.
 pub record AwaitsNewest {Tree : Type 0} (Step : Tree → Entry → Tree → Type 0) (rules : Rules) (first : Tree) (parts : List Part) (history : List Entry) (last : Tree) (waits : ℕ → List Taking) : Type 0 where
   pub fits : FitsNewest rules.kept (trace_of parts) history
   pub leads : LeadsNewest Step first history last
@@ -51,10 +50,6 @@ pub record AwaitsNewest {Tree : Type 0} (Step : Tree → Entry → Tree → Type
 abbrev pub entry_for : Taking → Point → List ℕ → Entry
 entry_for taking point reply =
     record { call = point.call; client = taking.client; bytes = taking.bytes; moment = point.moment; spare = point.spare; made = point.made; reply = reply }
-
--- what waits at each node once a call more does at one
-abbrev pub waits_with : Taking → (ℕ → List Taking) → ℕ → List Taking
-waits_with taking waits node = if taking.node == node then taking ∷ waits node else waits node
 
 -- A stage in which nothing is promised of what waits behind a run, nor of blocks.
 pub record IsPatient (rules : Rules) : Type 0 where

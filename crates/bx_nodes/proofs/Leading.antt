@@ -86,7 +86,7 @@ pub under_none : {T : Type 0} (IsOwn : ℕ → Type 0) (Step : T → Deed → T 
 under_none IsOwn Step Stands_then c tree stands = record { own = None; is_own = tt; quiet = λ none. refl; turned = turned_none Step Stands_then c tree stands }
 
 -- Where nothing is told the answers make a whole turn.
-pub turned_whole : {T : Type 0} (IsOwn Opens : ℕ → Type 0) (Step : T → Deed → T → Type 0) (Stands_then : Course → T → Type 0) (c : Course) (tree : T) (turn : Turn) → turn.told.items ≡ []
+pub turned_whole : {T : Type 0} (IsOwn Opens : ℕ → Type 0) (Step : T → Deed → T → Type 0) (Stands_then : Course → T → Type 0) (c : Course) (tree : T) (turn : Turn) → turn.told ≡ []
     → ((session number : ℕ) → IsOwn session → LivesIn (last c.register.chain) session → Opens number → IsInDoubt c session number) → AnswersUnder IsOwn Step Stands_then c tree turn.said.items → TurnedUnder IsOwn Opens Step Stands_then c tree turn
 turned_whole IsOwn Opens Step Stands_then c tree turn none in_doubt one = record {
   own = one.own;
@@ -140,7 +140,7 @@ whole_as IsOwn IsOwn_then Opens Opens_then Step Stands Stands_then c tree turn o
     by (Some session) is = (owns session is.0, is.1)
 
 -- nothing is done in it, under no session
-pub whole_none : {T : Type 0} (IsOwn Opens : ℕ → Type 0) (Step : T → Deed → T → Type 0) (Stands_then : Course → T → Type 0) (c : Course) (tree : T) (turn : Turn) → turn.told.items ≡ [] → turn.said.items ≡ [] → Stands_then c tree → TurnedUnder IsOwn Opens Step Stands_then c tree turn
+pub whole_none : {T : Type 0} (IsOwn Opens : ℕ → Type 0) (Step : T → Deed → T → Type 0) (Stands_then : Course → T → Type 0) (c : Course) (tree : T) (turn : Turn) → turn.told ≡ [] → turn.said.items ≡ [] → Stands_then c tree → TurnedUnder IsOwn Opens Step Stands_then c tree turn
 whole_none IsOwn Opens Step Stands_then c tree turn told said stands = record {
   own = None;
   is_own = tt;

@@ -114,7 +114,7 @@ pub record IsToldOf (told : List Point) (number : ℕ) : Type 0 where
 
 -- A call has its point by a turn: it is answered, or its point is told.
 abbrev pub IsSaidIn : Turn → ℕ → Type 0
-IsSaidIn turn number = IsAnswered turn.said.items number ⊎ IsToldOf turn.told.items number
+IsSaidIn turn number = IsAnswered turn.said.items number ⊎ IsToldOf turn.told number
 
 -- A record in a log was in it before; or it is of no call; or its call has its point by the turn.
 abbrev pub IsOldOrSaid : Logs → Turn → ℕ → Logged → Type 0
@@ -131,7 +131,7 @@ pub record TakesTurn {T : Type 0} (own : Option ℕ) (Step : T → Deed → T �
   pub later : Course
   pub between : T
   pub next : T
-  pub tells : Tells Step c later tree turn.told.items between
+  pub tells : Tells Step c later tree turn.told between
   pub leads : LeadsBack Step between (reverse turn.said.items) next
   pub chain : later.register.chain ≡ c.register.chain
   pub logged : (slot : ℕ) (one : Logged) → Contains (later.logs slot) one → IsOldOrSaid c.logs turn slot one
@@ -143,7 +143,7 @@ pub record TakesTurn {T : Type 0} (own : Option ℕ) (Step : T → Deed → T �
 pub record TurnedUnder {T : Type 0} (IsOwn Opens : ℕ → Type 0) (Step : T → Deed → T → Type 0) (Stands_then : Course → T → Type 0) (c : Course) (tree : T) (turn : Turn) : Type 0 where
   pub own : Option ℕ
   pub is_own : IfSome own (λ session. IsOwn session × LivesIn (last c.register.chain) session)
-  pub quiet : own ≡ None → (turn.told.items ≡ []) × (turn.said.items ≡ [])
+  pub quiet : own ≡ None → (turn.told ≡ []) × (turn.said.items ≡ [])
   pub opened : (number : ℕ) → Opens number → IsAnswered turn.said.items number → IfSome own (λ session. IsInDoubt c session number)
   pub turned : TakesTurn own Step Stands_then c tree turn
 

@@ -2,7 +2,7 @@
 
 use crate::nodes::Nodes;
 use crate::turns::Lease;
-use bx_base::{Actor, List, OutOfMemory, Point};
+use bx_base::{Actor, List, OutOfMemory, Points};
 use bx_facts::{FactError, Outbox, Owners, Register, Store};
 use bx_global::Change;
 use bx_node_steps::{Fetch, Stage, to_claim};
@@ -17,10 +17,10 @@ impl<G: Register, O: Owners, S: Store, E: Engine> Nodes<G, O, S, E> {
         node: u32,
         lease: Lease,
         out: &mut Outbox,
-    ) -> Result<Vec<Point>, OutOfMemory> {
+    ) -> Result<Points, OutOfMemory> {
         self.begin_recovery(node, lease.session);
         if self.machines[node as usize].recovers().is_none() {
-            return Ok(Vec::new(self.alloc));
+            return Ok(List::new(self.alloc));
         }
         self.step_recovery(node, lease, out)
     }
@@ -51,33 +51,34 @@ impl<G: Register, O: Owners, S: Store, E: Engine> Nodes<G, O, S, E> {
         node: u32,
         lease: Lease,
         out: &mut Outbox,
-    ) -> Result<Vec<Point>, OutOfMemory> {
+    ) -> Result<Points, OutOfMemory> {
         let arrived = self.store.arrived(node);
         let done = self.store.done(node);
         let said = self.machines[node as usize].recover_on(arrived.as_ref(), done)?;
-        let found = self.found(node, &said);
-        self.say_read(node);
-        self.follow(node, lease, said, out)?;
-        Ok(found)
+        self.follow(node, lease, said, out)
     }
 
-    /// Sends what the recovery of a node asks for. Behind the points that it tells come the homes of the blocks, at once.
+    /// Sends what the recovery of a node asks for, and gives out the points that it tells. Behind these come the homes of the blocks, at once.
     fn follow(
         &mut self,
         node: u32,
         lease: Lease,
         said: Move,
         out: &mut Outbox,
-    ) -> Result<(), OutOfMemory> {
+    ) -> Result<Points, OutOfMemory> {
         match said {
-            Move::Write(runs) => self.store.write(node, &runs, lease.until, out),
+            Move::Write(runs) => self.store.write(node, &runs, lease.until, out)?,
             Move::Read(device, place, sectors) => {
-                self.store.read(node, device, place, sectors, out)
+                self.store.read(node, device, place, sectors, out)?
             }
-            Move::Acked(_) => self.bring_home(node, lease, out),
-            Move::Closed => self.end_recovery(node, lease.session, out),
-            Move::Wait => Ok(()),
+            Move::Acked(points) => {
+                self.bring_home(node, lease, out)?;
+                return Ok(points);
+            }
+            Move::Closed => self.end_recovery(node, lease.session, out)?,
+            Move::Wait => {}
         }
+        Ok(List::new(self.alloc))
     }
 
     /// Sends the blocks of the records that a node's recovery has read to their homes.

@@ -17,7 +17,7 @@ ghost use Rattle.bx_world_standing.specs.Standing.{Course};
 
 use crate::answers::Attempted;
 use crate::nodes::Nodes;
-use bx_base::{CallNo, OutOfMemory, Point};
+use bx_base::{CallNo, List, OutOfMemory, Points};
 use bx_facts::{Outbox, Owners, Register, Store};
 use bx_node_steps::Stage;
 use bx_node_tries::Said;
@@ -37,7 +37,7 @@ pub struct Lease {
 #[derive(Drop)]
 pub struct Turn {
     /// The points of the records of a log that a recovery has read, in their order: those of records that acted before, and behind them perhaps that of one that was in doubt.
-    pub told: Vec<Point>,
+    pub told: Points,
     /// The answers, in the order in which the calls acted, behind what is told.
     pub said: Vec<Said>,
 }
@@ -45,10 +45,10 @@ pub struct Turn {
 impl Turn {
     /// A turn in which nothing is told or said. It takes no memory.
     pub fn none(alloc: Global) -> Turn
-        ensures { (result.told.items ≡ []) × (result.said.items ≡ []) }
+        ensures { (result.told ≡ []) × (result.said.items ≡ []) }
     {
         Turn {
-            told: Vec::new(alloc),
+            told: List::new(alloc),
             said: Vec::new(alloc),
         }
     }

@@ -74,8 +74,8 @@ module _ {G O S E T : Type 0} (g : register.Ghosts G) (o : owners.Ghosts O) (st 
     known = standing.known;
   }
 
-  module _ (MayAct : ℕ → Type 0) (engine_is : E) (c : Course) (first : T) (turn turn_then : Turn) (latest : ℕ) (old : List Machine) (before : latest < one.point.call) (was : AreInDoubt latest old c) (told : turn_then.told.items ≡ turn.told.items) (said : turn_then.said.items ≡ turn.said.items ++ one ∷ []) where
-    answers_then : (between : T) (found : Option Point) → Finds (e.step engine_is) c first turn.told.items found between → AnswersThose MayAct found turn.said.items c → AnswersThose (λ number. MayAct number ⊎ (one.point.call ≡ number)) found turn_then.said.items c
+  module _ (MayAct : ℕ → Type 0) (engine_is : E) (c : Course) (first : T) (turn turn_then : Turn) (latest : ℕ) (old : List Machine) (before : latest < one.point.call) (was : AreInDoubt latest old c) (told : turn_then.told ≡ turn.told) (said : turn_then.said.items ≡ turn.said.items ++ one ∷ []) where
+    answers_then : (between : T) (found : Option Point) → Finds (e.step engine_is) c first turn.told found between → AnswersThose MayAct found turn.said.items c → AnswersThose (λ number. MayAct number ⊎ (one.point.call ≡ number)) found turn_then.said.items c
     answers_then between found finds were = record {
       acted = λ number is might. ⊎_elim
           (λ there. were.acted number there (λ may. might (inl may)))
@@ -87,7 +87,7 @@ module _ {G O S E T : Type 0} (g : register.Ghosts G) (o : owners.Ghosts O) (st 
           (answered_or_last turn.said.items one number (subst (λ (l : List Said). IsAnswered l number) said is));
     }
       where
-        found_low : (it : Option Point) → Finds (e.step engine_is) c first turn.told.items it between → (number : ℕ) → IsFoundOf it number → one.point.call ≡ number → ⊥
+        found_low : (it : Option Point) → Finds (e.step engine_is) c first turn.told it between → (number : ℕ) → IsFoundOf it number → one.point.call ≡ number → ⊥
         found_low None is number none same = none
         found_low (Some point) is number acts same =
             let its : FoundIn (e.step engine_is) c first point between = is.3 in

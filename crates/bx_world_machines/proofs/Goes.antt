@@ -128,7 +128,7 @@ its_session (Some machine) session is = (machine, refl, let e : machine.session 
 -- What comes of calls in doubt, of a call that is found and of those that are answered, from the one course to the later one.
 pub record CallsGo {T : Type 0} (Step : T → Deed → T → Type 0) (latest : ℕ) (at : Actor) (old new : List Machine) (turn : Turn) (c later : Course) (tree between : T) : Type 0 where
   pub found : Option Point
-  pub finds : Finds Step c tree turn.told.items found between
+  pub finds : Finds Step c tree turn.told found between
   pub answers : AnswersThose (λ number. AtNode at (λ node. MayActAt old node number)) found turn.said.items c
   pub goes : DoubtsGo found turn.said.items new c later
   pub in_doubt : AreInDoubt latest new later
@@ -301,7 +301,7 @@ module _ {G O S E T : Type 0} (g : register.Ghosts G) (o : owners.Ghosts O) (st 
   -- ---- what was found
 
   -- the point of the call that was, where one was
-  abbrev found_by : (between : T) → Tells Step middle later tree turn.told.items between → Option Point
+  abbrev found_by : (between : T) → Tells Step middle later tree turn.told between → Option Point
   found_by between (OfKnown known same) = None
   found_by between (WithDoubt earlier point is known acts) = Some point
 
@@ -311,10 +311,10 @@ module _ {G O S E T : Type 0} (g : register.Ghosts G) (o : owners.Ghosts O) (st 
   known_in : (point : Point) → IsKnown middle.logs point → IsKnown c.logs point
   known_in point is = subst (λ (l : Logs). IsKnown l point) logs is
 
-  finds : Finds Step c tree turn.told.items found turned.turned.between
+  finds : Finds Step c tree turn.told found turned.turned.between
   finds = by turned.turned.between turned.turned.tells
     where
-      by : (between : T) → (tells : Tells Step middle later tree turn.told.items between) → Finds Step c tree turn.told.items (found_by between tells) between
+      by : (between : T) → (tells : Tells Step middle later tree turn.told between) → Finds Step c tree turn.told (found_by between tells) between
       by between (OfKnown known same) = (λ point has. known_in point (known point has), same)
       by between (WithDoubt earlier point is known acts) = (earlier, is, λ one has. known_in one (known one has), record {
         session = acts.session;
@@ -339,7 +339,7 @@ module _ {G O S E T : Type 0} (g : register.Ghosts G) (o : owners.Ghosts O) (st 
   was_found : (number : ℕ) → IsFoundOf found number → WasFound number
   was_found number is = by turned.turned.between turned.turned.tells is
     where
-      by : (between : T) → (tells : Tells Step middle later tree turn.told.items between) → IsFoundOf (found_by between tells) number → WasFound number
+      by : (between : T) → (tells : Tells Step middle later tree turn.told between) → IsFoundOf (found_by between tells) number → WasFound number
       by between (OfKnown known same) none = absurd none
       by between (WithDoubt earlier point told known acts) same = record {
         session = acts.session;
@@ -378,7 +378,7 @@ module _ {G O S E T : Type 0} (g : register.Ghosts G) (o : owners.Ghosts O) (st 
   -- ---- from the one course to the other
 
   -- what is told is known, or was found
-  told_before : (number : ℕ) → IsToldOf turn.told.items number → IsOldOrPointed c.logs found said number
+  told_before : (number : ℕ) → IsToldOf turn.told number → IsOldOrPointed c.logs found said number
   told_before number is = by turned.turned.between turned.turned.tells
     where
       known_of : (point : Point) → IsKnown c.logs point → point.call ≡ number → (one : Option Point) → IsOldOrPointed c.logs one said number
@@ -387,7 +387,7 @@ module _ {G O S E T : Type 0} (g : register.Ghosts G) (o : owners.Ghosts O) (st 
           (λ zero. inr (inl (sym same ∙ zero)))
           known
 
-      by : (between : T) → (tells : Tells Step middle later tree turn.told.items between) → IsOldOrPointed c.logs (found_by between tells) said number
+      by : (between : T) → (tells : Tells Step middle later tree turn.told between) → IsOldOrPointed c.logs (found_by between tells) said number
       by between (OfKnown known same) = known_of is.one (known_in is.one (known is.one is.there)) is.same None
       by between (WithDoubt earlier point told known acts) = ⊎_elim
           (λ there. known_of is.one (known_in is.one (known is.one there)) is.same (Some point))

@@ -88,7 +88,7 @@ module _ {G O S E T : Type 0} (g : register.Ghosts G) (o : owners.Ghosts O) (st 
     pub found : Option Point
     pub between : T
     pub next : T
-    pub finds : Finds (e.step engine_is) c tree turn.told.items found between
+    pub finds : Finds (e.step engine_is) c tree turn.told found between
     pub leads : LeadsBack (e.step engine_is) between (reverse turn.said.items) next
     pub answers : AnswersThose MayAct found turn.said.items c
     pub stands : StandsBehind c found turn.said.items machines letters x next

@@ -68,6 +68,7 @@ fn tick<G: Register, O: Owners, S: Store, E: Engine>(
     ensures count { length nodes.new.machines.items ≡ length nodes.old.machines.items }
 {
     nodes.tick(node);
+    nodes.propose_at_tick(node, out)?;
     turn(nodes, node, reading, out)
 }
 

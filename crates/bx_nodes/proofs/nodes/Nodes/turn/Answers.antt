@@ -42,7 +42,7 @@ returns-clause-stands g c = λ x letters clocks course tree up steady stands.
     let two = c.in_ok-said.ensures.stands x letters clocks course tree up steady one in
     let Acted = Stand g.G.Register g.O.Owners g.S.Store e acted x (letters ++ c.act.new.out) clocks in
     let Final = Stand g.G.Register g.O.Owners g.S.Store e new x (letters ++ c.act.new.out) clocks in
-    turned_whole (IsUnderOwn g.O.Owners old node) (OpensThere old node) (e.step old.engine) Final course tree _ c.new.ensures.items
+    turned_whole (IsUnderOwn g.O.Owners old node) (OpensThere old node) (e.step old.engine) Final course tree _ c.new.ensures
     (λ session number is lives opening. in_doubt_at g.G.Register g.O.Owners g.S.Store (e.stands old.engine) (e.step old.engine) old.register old.owners old.store x (letters ++ c.args.out.now) clocks old.machines.items course tree stands node up session number is.0
     (subst (λ (m : Option Machine). IsSomeAnd m (λ machine. machine.session ≡ Some session)) (sym found.1) (of_there (λ (m : Machine). m.session ≡ Some session) (slice_get old.machines.items node) found.0 found.1 is.1)) lives opening)
     (subst (λ en. AnswersUnder (IsUnderOwn g.O.Owners old node) (e.step en) Final course tree c.in_ok-said.said.items) c.note_asked.ensures.parts.3

@@ -306,7 +306,7 @@ module _ {G O S T : Type 0} (g : register.Ghosts G) (o : owners.Ghosts O) (st : 
             reads = λ asks s content was_asked is near is_sure read. read;
           }))
           (claims_stay g o st Stands Step register_is owners_are old x known c tree machines stands.at live.allowed (IsActive Middle) (λ n. c.store.told.knew (Node n)) (λ other its_session one its_row active. omega arith))
-          (λ gone by has. has);
+          (λ other its_session one its_row gone stage active of under_way has. has);
       single = stands.single;
       told = stands.told;
       given = given_on machines later (last c.register.chain).next_session node before (machine_then before to) stands.given live.there changed.here refl changed.others;
@@ -459,7 +459,7 @@ module _ {G O S T : Type 0} (g : register.Ghosts G) (o : owners.Ghosts O) (st : 
           c.register.proposed Then stands.recovering (were_active Then refl (λ other. refl) refl) (omega arith) (λ gone few has. has)
           (λ other its_session one was its_row row_was gone slot stage active active_was of few claimed ne. spares other its_session one was its_row row_was gone slot stage (eqb other node) refl active active_was of few claimed ne)
           (claims_stay g o st Stands Step register_is owners_are old x known c tree machines stands.at live.allowed (IsActive Then) (λ n. c.store.told.knew (Node n)) (λ other its_session one its_row active. omega arith))
-          (λ gone by has. has)
+          (λ other its_session one its_row gone stage active of under_way has. has)
 
       -- The nodes stand with what came of it, and the write that is out.
       pub sends_on : (((runs : List Run) → write.runs ≡ runs → IsFlying session runs (st.out_of new node) (write ∷ c.store.writes)) → IsAtWork (st.made old).devices (st.made old).areas (SureBy (st.made old)) Then node session row.slot after to.stage)

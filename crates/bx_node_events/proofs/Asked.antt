@@ -239,7 +239,7 @@ module _ {G O S T : Type 0} (g : register.Ghosts G) (o : owners.Ghosts O) (st : 
           (one_changes Before Then node before machine there then_there others (λ other. refl) refl refl refl (λ gone recovery is_it. is_it) (λ was. subst (λ (stage : Stage). RecoversNone stage) (sym rests) tt)) (omega arith) (λ gone low has. has)
           (λ other its_session one was row_then row_was gone slot its_stage active active_was of low claimed apart. spares other its_session one row_then gone slot its_stage (eqb other node) refl active of)
           (claims_stay g o st Stands Step register_is owners_are old x known c tree machines stands.at (allowed.each (last c.register.chain) (last_place c.register.chain)) (IsActive Then) (λ n. c.store.told.knew (Node n)) (λ other its_session one row_then active. omega arith))
-          (λ gone by has. has));
+          (λ other its_session one row_then gone its_stage active of under_way has. has));
       single = stands.single;
       told = stands.told;
       given = given_on machines later (last c.register.chain).next_session node before machine stands.given there then_there refl others;

@@ -203,7 +203,7 @@ module _ {G O S T : Type 0} (g : register.Ghosts G) (o : owners.Ghosts O) (st : 
       (λ node its machine one row row_one gone slot stage active active_was ended unproposed claimed known.
       claimed_after c.register.chain change (c.store.told.knew (Node node)) gone slot its allowed_last legal (lives_of (last (grown c.register.chain change)) its row active.is_row active.lives)
       (keeps_row gone slot its stage claimed unproposed ended) claimed known)
-      (λ gone by there. there)
+      (λ node its machine row gone stage active of under_way there. there)
 
   pub given_grown : (node its : ℕ) (machine : MachineView) → slice_get machines node ≡ Some machine → machine.session ≡ Some its → its < (last (grown c.register.chain change)).next_session
   given_grown node its machine there marked = let less = given_first node its machine there marked in let more = next_rises (last c.register.chain) change in omega (arith, less, more)

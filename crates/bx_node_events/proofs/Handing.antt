@@ -8,7 +8,7 @@ use Rattle.bx_facts.specs.Chains.{AreLegal, Chain, HasRow, IsPlace, LivesIn, las
 use Rattle.bx_facts.specs.Holds.{Hold, OwnersPast, leased}
 use Rattle.bx_facts.specs.Inputs.{AreAmong, IsOwners, IsRegisters, IsStores, SendsOnly}
 use Rattle.bx_facts.specs.Pasts.{RegisterPast}
-use Rattle.bx_facts.specs.Writes.{AreRuns, GoesOn, IsOnly, MayWrite, Sent, StorePast, store_with, without_session, writing}
+use Rattle.bx_facts.specs.Writes.{AreRuns, GoesOn, MayWrite, Sent, StorePast, store_with, without_session, writing}
 use Rattle.bx_facts.proofs.Following.{none_new}
 use Rattle.bx_facts.proofs.Lists.{front}
 use Rattle.bx_global.specs.Allowed.{IsAllowed}
@@ -16,7 +16,7 @@ use Rattle.bx_global.specs.declared.state.GlobalState.{GlobalState}
 use Rattle.bx_node_events.proofs.Leased.{leased_course}
 use Rattle.bx_node_events.proofs.Quieted.{none_sent, quieted}
 use Rattle.bx_node_events.proofs.Working.{IsHanded, IsSending, store_sent}
-use Rattle.bx_node_machines.specs.Machines.{MachineView, home_of}
+use Rattle.bx_node_machines.specs.Machines.{MachineView}
 use Rattle.bx_node_machines.specs.Nodes.{NodesStand}
 use Rattle.bx_facts.specs.declared.owners.Owners as owners
 use Rattle.bx_post.specs.declared.packets.Letter.{Letter}

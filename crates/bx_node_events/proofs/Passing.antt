@@ -234,9 +234,12 @@ module _ {G O S T : Type 0} (g : register.Ghosts G) (o : owners.Ghosts O) (st : 
       before = λ d s inside. refl;
       asked = ⊎_elim (λ none. inr none) (λ same. inl same) (asked node its active.own);
       out = ⊎_elim
-          (λ none. inr (none, λ runs near flying d s content w. done_sure node its row runs active.own active.is_row active.lives
-          (λ device sector bytes brings. near_touches (st.made store_is).devices (st.made store_is).areas (last c.register.chain) c.owners.holding c.logs c.slots gone slot its device sector low claimed (near device sector bytes brings))
-          flying none d s content w))
+          (λ none. inr (
+            none,
+            λ runs near flying d s content w. done_sure node its row runs active.own active.is_row active.lives
+                (λ device sector bytes brings. near_touches (st.made store_is).devices (st.made store_is).areas (last c.register.chain) c.owners.holding c.logs c.slots gone slot its device sector low claimed (near device sector bytes brings))
+                flying none d s content w,
+          ))
           (λ same. inl same)
           (out node its active.own);
       sent = λ write there whose. sent write there;
@@ -252,7 +255,7 @@ module _ {G O S T : Type 0} (g : register.Ghosts G) (o : owners.Ghosts O) (st : 
         (λ node its machine one row row_one gone slot stage active active_was of low claimed other. inl (spares node its machine row gone slot active low claimed))
         (claims_stay g o st Stands Step register_is owners_are store_is x (known_of g o st Stands Step register_is owners_are store_is x letters clocks machines) c tree machines at_first allowed_last
         (IsActive Then) (λ n. sp.told.knew (Node n)) (λ node its machine row active. (fewer node its row active.is_row active.lives (its_of node its row active.own active.is_row active.lives)).1))
-        back
+        (λ node its machine row gone stage active of under_way there. back gone its there)
 
     -- All recover what they recovered.
     pub recovering_passes : AreRecovering (st.made store_then).devices (st.made store_then).areas (SureOf g o st Stands Step register_then owners_then store_then y (known_of g o st Stands Step register_then owners_then store_then y then_letters clocks_then machines) then_is)

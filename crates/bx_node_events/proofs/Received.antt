@@ -153,7 +153,7 @@ module _ {G O S T : Type 0} (g : register.Ghosts G) (o : owners.Ghosts O) (st : 
         reads = λ asks s content was_asked is near sure read. goes.reading other s content asks is sure.only read;
       }))
       (claims_stay g o st Stands Step register_is owners_are old x known c tree machines stands.at allowed (IsActive (scene_of g o st Stands Step register_is owners_are new x clocks.down later c)) (λ n. c.store.told.knew (Node n)) (λ other its_session one its_row active. omega arith))
-      (λ gone by has. has))
+      (λ other its_session one its_row gone stage active of under_way has. has))
 
   -- each other node's read is as it was
   asked_by : (st.asked new node ≡ st.asked old node) ⊎ (st.asked new node ≡ None) → (other : ℕ) → (st.asked new other ≡ st.asked old other) ⊎ (st.asked new other ≡ None)

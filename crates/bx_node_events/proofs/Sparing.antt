@@ -1,6 +1,5 @@
 -- What nodes recover, they recover on where an event spares the slots of the logs.
 use Rattle.std.proofs.Common.{◌≡◌, ◌≢◌, ◌⊎◌, ⊎_elim, inl, inr, ◌∙◌, ℕ, ◌<◌, ◌≤◌, true, Bool, List, Contains, length, Option, Some, sym, ap, subst, arith}
-use Rattle.std.specs.Prelude.{slice_get}
 use Rattle.bx_base.specs.declared.names.Actor.TheVariants.{Node}
 use Rattle.bx_disk.specs.Disks.{Disks}
 use Rattle.bx_facts.specs.declared.owners.Owners as owners
@@ -30,7 +29,7 @@ use Rattle.bx_volume.specs.Overlay.{Logs}
 use Rattle.bx_volume.specs.Records.{LogWhere, Logged}
 use Rattle.bx_world_chains.specs.Entitled.{IsEntitled}
 use Rattle.bx_world_chains.proofs.Changed.{closed_or}
-use Rattle.bx_world_chains.proofs.Rows.{all_row, entitled_after, has_of, lives_of, lives_row, one_entitled, one_slot, taken_of}
+use Rattle.bx_world_chains.proofs.Rows.{all_row, entitled_after, has_of, one_entitled, one_slot, taken_of}
 use Rattle.bx_world_logs.specs.Logs.{IsLogOf, Slot, SlotStands}
 use Rattle.bx_world_standing.specs.Rights.{MayTouch}
 use Rattle.bx_world_standing.specs.Rights.MayTouch.{OfLogged, OfSlot}
@@ -128,7 +127,8 @@ module _ {G O S T : Type 0} (g : register.Ghosts G) (o : owners.Ghosts O) (st : 
       (claims : (node session : ℕ) (machine one : MachineView) (row row_one : SessionRow) (gone slot : ℕ) (stage : Stage) → IsActive new node session machine row → IsActive Before node session one row_one → (HasEnded stage → HasRow (last later) gone)
       → ((HasEnded stage → ⊥) → Contains c.register.proposed (Close gone session) → ⊥) → IsEntitled (last c.register.chain) gone slot session → ((s : GlobalState) → IsPlace c.register.chain s → knew node ≤ s.index → IsEntitled s gone slot session)
       → IsEntitled (last later) gone slot session × ((s : GlobalState) → IsPlace later s → knew_then node ≤ s.index → IsEntitled s gone slot session))
-      (back : (gone session : ℕ) → Contains proposed_then (Close gone session) → Contains c.register.proposed (Close gone session)) where
+      (back : (node session : ℕ) (machine : MachineView) (row : SessionRow) (gone : ℕ) (stage : Stage) → IsActive new node session machine row → HasEnded stage ⊎ ((recovery : RecoveryView) × (machine.stage ≡ words.Recovers gone recovery)) → (HasEnded stage → ⊥)
+      → Contains proposed_then (Close gone session) → Contains c.register.proposed (Close gone session)) where
     goes : (node session : ℕ) (machine one : MachineView) (row row_one : SessionRow) (gone slot : ℕ) (stage : Stage) (records : List Logged) → IsActive new node session machine row → IsActive Before node session one row_one
         → HasEnded stage ⊎ ((recovery : RecoveryView) × (machine.stage ≡ words.Recovers gone recovery)) → (HasEnded stage → HasRow (last later) gone)
         → IsRecovering (st.made store_is).devices (st.made store_is).areas Sure (st.will_read store_is x c.store node) c.register.chain (knew node) c.register.proposed (around_in Before node) session gone slot stage records
@@ -140,7 +140,7 @@ module _ {G O S T : Type 0} (g : register.Ghosts G) (o : owners.Ghosts O) (st : 
         (λ spared. goes_on (st.made store_is).devices (st.made store_is).areas Sure Sure_then (st.will_read store_is x c.store node) (Reads_then node) (around_in Before node) (around_in new node) session slot spared low
         (log_of g o st Stands Step_is register_is owners_are store_is x known c tree at gone slot session allowed_last it.claimed)
         (few_records g o st Stands Step_is register_is owners_are store_is x known c tree at gone slot session allowed_last it.claimed)
-        c.register.chain later (knew node) (knew_then node) c.register.proposed proposed_then gone stage records it claim.0 claim.1 (λ there. back gone session there))
+        c.register.chain later (knew node) (knew_then node) c.register.proposed proposed_then gone stage records it claim.0 claim.1 (λ under_way there. back node session machine row gone stage active of under_way there))
         (λ over. ended_on (st.made store_is).devices (st.made store_is).areas Sure Sure_then (st.will_read store_is x c.store node) (Reads_then node) (around_in Before node) (around_in new node) session slot over.1
         c.register.chain later (knew node) (knew_then node) c.register.proposed proposed_then gone stage records over.0 it claim.0 claim.1)
         (spares node session machine one row row_one gone slot stage active active_was of low it.claimed it.other)

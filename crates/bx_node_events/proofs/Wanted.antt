@@ -196,7 +196,7 @@ module _ {G O S T : Type 0} (g : register.Ghosts G) (o : owners.Ghosts O) (st : 
           stands.recovering (one_changes Before Then node before machine there then_there others same_up refl refl refl (λ gone recovery is. is) (suits fetch reads)) (omega arith) (λ gone low has. has)
           (λ other its_session one was row_then row_was gone slot its_stage active active_was of low claimed apart_is. inl (spares other its_session slot))
           (claims_stay g o st Stands Step register_is owners_are store_is x known c tree machines stands.at allowed (IsActive Then) (λ n. c.store.told.knew (Node n)) (λ other its_session one row_then active. omega arith))
-          (λ gone by there. there);
+          (λ other its_session one row_then gone its_stage active of under_way has. has);
       single = λ n other s is is_other. stands.single n other s (sym (same_up n) ∙ is) (sym (same_up other) ∙ is_other);
       told = λ n s is. stands.told n s (sym (same_up n) ∙ is);
       given = given_on machines later (last c.register.chain).next_session node before machine stands.given there then_there refl others;

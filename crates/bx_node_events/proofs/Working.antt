@@ -8,9 +8,7 @@ use Rattle.bx_facts.specs.Chains.{HasRow, LivesIn, last, oldest}
 use Rattle.bx_facts.specs.Holds.{Hold}
 use Rattle.bx_facts.specs.Writes.{Asked, IsOnly, Made, MayWrite, Sent, StorePast, WritesIn, WritesTo}
 use Rattle.bx_global.specs.Allowed.{IsAllowed}
-use Rattle.bx_global.specs.declared.change.Change.TheVariants.{Close}
 use Rattle.bx_node_landings.specs.bx_node_closings.proofs.Sends.{sends}
-use Rattle.bx_node_machines.specs.Machines.{home_of}
 use Rattle.bx_node_machines.proofs.Owning as owning
 use Rattle.bx_node_sends.proofs.Sent.{surely_on, with_write}
 use Rattle.bx_facts.specs.declared.owners.Owners as owners

@@ -1,5 +1,5 @@
 -- A recovery goes on where nothing happens to the slot that it recovers, nor to the homes of the blocks of its log.
-use Rattle.std.proofs.Common.{◌≡◌, ◌≢◌, ◌⊎◌, ⊎_elim, inl, inr, ◌∙◌, ℕ, ◌+◌, ◌*◌, ◌-◌, ◌/◌, ◌<◌, ◌≤◌, Bool, true, false, List, [], ◌∷◌, Contains, length, reverse, Option, Some, None, IsSome, refl, sym, ap, subst, arith}
+use Rattle.std.proofs.Common.{◌≡◌, ◌⊎◌, ⊎_elim, inl, inr, ◌∙◌, ℕ, ◌+◌, ◌-◌, ◌/◌, ◌<◌, ◌≤◌, true, false, List, ◌∷◌, Contains, length, reverse, Option, Some, None, IsSome, refl, sym, ap, subst, arith}
 use Rattle.bx_facts.specs.Chains.{Chain, IsPlace, last}
 use Rattle.bx_facts.specs.Writes.{Asked, Sent, Writes, WritesIn, WritesTo}
 use Rattle.bx_global.specs.declared.change.Change.{Change}
@@ -23,7 +23,6 @@ use Rattle.bx_node_views.specs.bx_volume.specs.Records.{Logged, gate_of, logged_
 use Rattle.bx_node_views.specs.bx_volume.proofs.Sizes.{filled_below, filled_there, length-block_text}
 use Rattle.bx_node_views.specs.bx_world_chains.specs.Entitled.{IsEntitled}
 use Rattle.bx_node_views.specs.bx_world_logs.specs.Logs.{Activity, Finds, Found, IsLogOf, OfLog, Slot, opens, view_of, writes_in}
-use Rattle.bx_node_views.specs.bx_world_standing.specs.Closings.{IsClosed}
 use Rattle.bx_node_views.specs.bx_world_standing.specs.Rights.{IsOfHome, IsOfSlot}
 
 -- ---- what its writes touch
@@ -236,17 +235,17 @@ module _ (devices areas : ℕ) (Sure Sure_then : ℕ → ℕ → List ℕ → Ty
       unwritten = λ write d s content has its w inside. at.unwritten write d s content (leaves.sent write has its) its w inside;
     }
 
-    -- So a recovery goes on, where its session may write the slot still, and hasn't proposed that the dead one is closed.
+    -- So a recovery goes on, where its session may write the slot still, and has proposed no more than it had that the dead one is closed, if it is under way.
     pub goes_on : (chain later : Chain) (knew knew_then : ℕ) (proposed proposed_then : List Change) (gone : ℕ) (stage : Stage) (records : List Logged)
         → IsRecovering devices areas Sure Reads chain knew proposed a session gone slot stage records
         → IsEntitled (last later) gone slot session → ((s : GlobalState) → IsPlace later s → knew_then ≤ s.index → IsEntitled s gone slot session)
-        → (Contains proposed_then (Close gone session) → Contains proposed (Close gone session))
+        → ((HasEnded stage → ⊥) → Contains proposed_then (Close gone session) → Contains proposed (Close gone session))
         → IsRecovering devices areas Sure_then Reads_then later knew_then proposed_then b session gone slot stage records
     goes_on chain later knew knew_then proposed proposed_then gone stage records was claimed known back = record {
       claimed = claimed;
       known = known;
       other = was.other;
-      unproposed = λ under_way there. was.unproposed under_way (back there);
+      unproposed = λ under_way there. was.unproposed under_way (back under_way there);
       steps = was.steps;
       done = was.done;
       at = stage_on records was.steps stage was.done was.at;

@@ -1,5 +1,5 @@
 -- A recovery is new: its node knows a state by which its session has claimed one that is dead.
-use Rattle.std.proofs.Common.{◌≡◌, ◌≢◌, inl, inr, ◌∙◌, ℕ, ◌<◌, ◌≤◌, List, [], ◌∷◌, Contains, None, refl, sym, ap, subst, arith}
+use Rattle.std.proofs.Common.{◌≡◌, ◌≢◌, inl, inr, ◌∙◌, ℕ, ◌≤◌, List, [], ◌∷◌, Contains, None, refl, sym, ap, subst, arith}
 use Rattle.bx_base.specs.declared.names.Actor.TheVariants.{Node}
 use Rattle.bx_disk.specs.Disks.{Disks}
 use Rattle.bx_facts.specs.declared.owners.Owners as owners

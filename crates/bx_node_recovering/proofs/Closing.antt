@@ -1,41 +1,36 @@
 -- A recovery writes the blocks home, and closes the log: gate 0, then the others.
-use Rattle.std.proofs.Common.{◌≡◌, ◌≢◌, ◌⊎◌, ⊎_elim, inl, inr, ◌∙◌, ℕ, ◌<◌, Bool, true, false, List, [], ◌∷◌, Contains, length, map, reverse, Some, None, refl, sym, ap, subst, arith}
+use Rattle.std.proofs.Common.{◌≡◌, ◌≢◌, inl, inr, ◌∙◌, ℕ, ◌<◌, true, false, List, [], ◌∷◌, Contains, length, Some, None, refl, sym, ap, subst, arith}
 use Rattle.std.specs.List.{AllByRecursion}
 use Rattle.std.proofs.lemmas.List.{length-reverse}
 use Rattle.bx_base.specs.declared.names.Actor.TheVariants.{Node}
-use Rattle.bx_disk.specs.Disks.{Disks, Image, sector_of}
+use Rattle.bx_disk.specs.Disks.{Disks, Image}
 use Rattle.bx_facts.specs.declared.owners.Owners as owners
 use Rattle.bx_facts.specs.declared.register.Register as register
 use Rattle.bx_facts.specs.declared.store.Store as store
 use Rattle.bx_facts.specs.Chains.{last}
-use Rattle.bx_facts.specs.Writes.{IsSettled, Sent, WritesIn}
+use Rattle.bx_facts.specs.Writes.{Sent, WritesIn}
 use Rattle.bx_global.specs.Allowed.{IsAllowed}
-use Rattle.bx_layout.specs.Labels.{gate_text}
-use Rattle.bx_layout.specs.declared.gate.Gate.TheVariants.{Closed as Shut}
-use Rattle.bx_logs.specs.Bodies.{point_of}
 use Rattle.bx_node_events.proofs.Landed.{acknowledged}
-use Rattle.bx_node_events.proofs.Working.{IsHanded, IsSending}
+use Rattle.bx_node_events.proofs.Working.{IsSending}
 use Rattle.bx_node_landings.proofs.Landed.{with_landed}
 use Rattle.bx_node_machines.specs.Machines.{IsWriting}
-use Rattle.bx_node_machines.specs.Recovering.{AreSettled, Recovers, around, gates_back, gates_shut}
+use Rattle.bx_node_machines.specs.Recovering.{Recovers, gates_shut}
 use Rattle.bx_node_recovering.proofs.Sending as sends
 use Rattle.bx_node_events.proofs.Sparing.{log_of}
-use Rattle.bx_node_recovering.proofs.Telling as tells
 use Rattle.bx_node_recovers.proofs.Homed.{homed_at, homes_are}
-use Rattle.bx_node_recovers.proofs.Landed.{first_at, none_at, others_at}
+use Rattle.bx_node_recovers.proofs.Landed.{first_at, others_at}
 use Rattle.bx_node_machines.specs.Recovering.{recovery_of}
 use Rattle.bx_node_sends.proofs.Sent.{with_write}
-use Rattle.bx_places.specs.Places.{gate_place, log_device, log_start}
 use Rattle.bx_post.specs.declared.packets.Letter.{Letter}
 use Rattle.bx_records.specs.Drafts.{Changed}
 use Rattle.bx_records.specs.declared.runs.Run.{Run}
-use Rattle.bx_recover.specs.Done.{HasRun, RecoveryStep}
+use Rattle.bx_recover.specs.Done.{RecoveryStep}
 use Rattle.bx_recover.specs.HomesOf.{AreNewestOf, home_runs}
 use Rattle.bx_recover.specs.Recovering.{RecoveryView, brings_home, closes}
 use Rattle.bx_recover.specs.declared.moves.Move.TheVariants.{Closed as Ended}
 use Rattle.bx_recover.specs.declared.stage.Stage.{Stage}
-use Rattle.bx_recover.specs.declared.stage.Stage.TheVariants.{Closed, Closes, Homes, Settles, Shuts, Told}
-use Rattle.bx_recover.proofs.Done.{later_first, later_home, later_run, none_read, quiet, settled}
+use Rattle.bx_recover.specs.declared.stage.Stage.TheVariants.{Closed, Closes, Homes, Shuts, Told}
+use Rattle.bx_recover.proofs.Done.{later_first, later_home, later_run, quiet}
 use Rattle.bx_redo.specs.Homes.{AreItsHomes, with_runs}
 use Rattle.bx_redo.specs.Stands.{IsAcknowledged, bytes_of, stored}
 use Rattle.bx_redo.specs.Steps.{writes}
@@ -46,7 +41,7 @@ use Rattle.bx_views.specs.Truths.{Hints, Truth}
 use Rattle.bx_volume.specs.Overlay.{with_log}
 use Rattle.bx_volume.specs.Records.{IsLogged, Logged}
 use Rattle.bx_world_logs.specs.Logs.{Activity, Finds, IsLogOf, OfLog, Slot, idle, view_of}
-use Rattle.bx_world_logs.proofs.Moving.{slot_here, with_slot}
+use Rattle.bx_world_logs.proofs.Moving.{slot_here}
 use Rattle.bx_world_standing.specs.Standing.{Course, Known, StandsAt, SureOf}
 
 -- a list without length has nothing

@@ -1,48 +1,37 @@
 -- What a recovery asks for will be read as it stands; and its slot is spared where another slot's work goes on, or another session's write is sent.
-use Rattle.std.proofs.Common.{◌≡◌, ◌≢◌, ◌⊎◌, ⊎_elim, inl, inr, ◌∙◌, ℕ, ◌+◌, ◌*◌, ◌<◌, ◌≤◌, Bool, true, false, List, ◌∷◌, Contains, length, Option, Some, None, refl, sym, ap, subst, arith}
+use Rattle.std.proofs.Common.{◌≡◌, ◌≢◌, ⊎_elim, inl, ◌∙◌, ℕ, ◌+◌, ◌<◌, ◌≤◌, List, ◌∷◌, Some, refl, sym, ap, subst, arith}
 use Rattle.bx_base.specs.declared.names.Actor.TheVariants.{Node}
 use Rattle.bx_disk.specs.Disks.{Disks, Image}
 use Rattle.bx_facts.specs.declared.owners.Owners as owners
 use Rattle.bx_facts.specs.declared.register.Register as register
 use Rattle.bx_facts.specs.declared.store.Store as store
-use Rattle.bx_facts.specs.Chains.{Chain, HasRow, IsPlace, LivesIn, grown, last, oldest}
+use Rattle.bx_facts.specs.Chains.{HasRow, IsPlace, LivesIn, last, oldest}
 use Rattle.bx_facts.specs.Holds.{Hold}
-use Rattle.bx_facts.specs.Writes.{Asked, GoesOn, IsOnly, Made, Sent, WritesTo, store_grown}
+use Rattle.bx_facts.specs.Writes.{Asked, IsOnly, Made, Sent, WritesTo}
 use Rattle.bx_facts.proofs.Lists.{front_or_behind}
 use Rattle.bx_global.specs.Allowed.{IsAllowed}
-use Rattle.bx_global.specs.declared.change.Change.{Change}
-use Rattle.bx_global.specs.declared.change.Change.TheVariants.{Close}
 use Rattle.bx_global.specs.declared.state.GlobalState.{GlobalState}
-use Rattle.bx_global.specs.Table.{IsLegal, effect}
 use Rattle.bx_node_landings.proofs.Landed.{with_landed}
-use Rattle.bx_node_machines.specs.Recovering.{Around, IsFilled, IsRecovering, IsStill, Recovers, around, body_asked, gates_asked}
-use Rattle.bx_node_machines.proofs.Going.{IsNear, SparesSlot, body_low, filled_sure, goes_on}
+use Rattle.bx_node_machines.specs.Recovering.{IsFilled, IsStill, Recovers, around}
+use Rattle.bx_node_machines.proofs.Going.{IsNear, SparesSlot, body_low, filled_sure}
 use Rattle.bx_node_events.proofs.Sparing.{few_records, log_of, near_touches, slot_low}
 use Rattle.bx_node_sends.proofs.Sent.{with_write}
 use Rattle.bx_node_views.proofs.Touching.{touch_clash}
-use Rattle.bx_places.specs.Places.{body_place, gate_place, log_device, log_start}
+use Rattle.bx_places.specs.Places.{body_place, gate_place}
 use Rattle.bx_post.specs.declared.packets.Letter.{Letter}
 use Rattle.bx_recover.specs.declared.stage.Stage.{Stage}
-use Rattle.bx_rows.specs.declared.session.SessionRow.{SessionRow}
-use Rattle.bx_rows.specs.Words.{row_in}
 use Rattle.bx_views.specs.Attempts.{Deed}
 use Rattle.bx_views.specs.Truths.{Hints, Truth}
 use Rattle.bx_volume.specs.Overlay.{Logs}
 use Rattle.bx_volume.specs.Records.{Logged, gate_of}
 use Rattle.bx_world_chains.specs.Entitled.{AreAllowed, IsEntitled}
-use Rattle.bx_world_chains.proofs.Chains.{index_most, last_place}
-use Rattle.bx_world_chains.proofs.Changed.{closed_or}
-use Rattle.bx_world_chains.proofs.Rows.{entitled_after, has_of, lives_row, one_entitled}
+use Rattle.bx_world_chains.proofs.Chains.{last_place}
+use Rattle.bx_world_chains.proofs.Rows.{has_of, lives_row}
 use Rattle.bx_world_logs.specs.Logs.{Slot}
 use Rattle.bx_world_logs.proofs.Moving.{slot_there}
-use Rattle.bx_world_stays.proofs.Drops.{dropped_course}
 use Rattle.bx_world_standing.specs.Rights.{IsOfSlot, IsToldOf, IsWithin, MayTouch, Surely}
-use Rattle.bx_world_standing.specs.Rights.MayTouch.{OfLogged, OfSlot}
 use Rattle.bx_world_standing.specs.Sessions.{IsOfNode}
 use Rattle.bx_world_standing.specs.Standing.{Course, Known, StandsAt, SureOf, own_up}
-use Rattle.bx_world_standing.proofs.Grown.{surely_goes}
-use Rattle.bx_world_standing.proofs.Grows.{grown_course}
-use Rattle.bx_world_standing.proofs.Owns.{of_before}
 use Rattle.bx_world_standing.proofs.Told.{own_of_node}
 
 -- ---- what is asked for

@@ -1,5 +1,6 @@
 pub mod Asking
 pub mod Begun
+pub mod Beside
 pub mod Closing
 pub mod Keeping
 pub mod Reading

@@ -1,9 +1,9 @@
 -- What a recovery reads comes as it stands.
-use Rattle.std.proofs.Common.{◌≡◌, ◌⊎◌, inl, inr, ◌∙◌, ℕ, ◌+◌, ◌-◌, ◌<◌, ◌≤◌, List, Option, Some, None, sym, ap, subst, arith}
+use Rattle.std.proofs.Common.{◌≡◌, inl, inr, ◌∙◌, ℕ, ◌+◌, ◌-◌, ◌<◌, ◌≤◌, List, Some, None, sym, ap, subst, arith}
 use Rattle.bx_disk.specs.Disks.{sector_of}
 use Rattle.bx_facts.specs.Writes.{Asked}
-use Rattle.bx_node_machines.specs.Recovering.{AreAsRead, AreGatesAsked, Around, IsBodyAsRead, IsBodyAsked, IsFilled, IsStill, body_asked, gates_asked}
-use Rattle.bx_places.specs.Places.{body_place, gate_place, log_device, log_start}
+use Rattle.bx_node_machines.specs.Recovering.{AreAsRead, AreGatesAsked, Around, IsBodyAsRead, IsBodyAsked, body_asked, gates_asked}
+use Rattle.bx_places.specs.Places.{body_place, log_start}
 use Rattle.bx_volume.specs.Records.{gate_of}
 
 module _ (devices : ℕ) (Reads : ℕ → List ℕ → Type 0) (a : Around) (slot : ℕ) (asks : Asked) (asked : a.asked ≡ Some asks) (bytes : List ℕ)

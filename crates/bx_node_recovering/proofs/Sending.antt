@@ -1,14 +1,14 @@
 -- A recovery sends a write: it may be sent, its store says what comes of it, and it is out.
-use Rattle.std.proofs.Common.{◌≡◌, ◌≢◌, ◌⊎◌, ⊎_elim, inl, inr, ◌∙◌, ℕ, ◌+◌, ◌<◌, ◌≤◌, Bool, true, false, List, ◌∷◌, Contains, length, Some, refl, sym, ap, subst, arith}
+use Rattle.std.proofs.Common.{◌≡◌, ◌≢◌, ⊎_elim, inl, inr, ◌∙◌, ℕ, ◌<◌, false, List, ◌∷◌, Contains, length, Some, refl, sym, subst}
 use Rattle.bx_base.specs.declared.names.Actor.TheVariants.{Node}
-use Rattle.bx_disk.specs.Disks.{Disks, sector_of}
+use Rattle.bx_disk.specs.Disks.{Disks}
 use Rattle.bx_facts.specs.declared.owners.Owners as owners
 use Rattle.bx_facts.specs.declared.register.Register as register
 use Rattle.bx_facts.specs.declared.store.Store as store
 use Rattle.bx_facts.specs.Chains.{LivesIn, last, oldest}
 use Rattle.bx_facts.specs.Writes.{IsSettled, Made, Sent, WritesIn, WritesTo}
 use Rattle.bx_facts.proofs.Lists.{front_or_behind}
-use Rattle.bx_global.specs.Allowed.{IsAllowed, IsSession}
+use Rattle.bx_global.specs.Allowed.{IsAllowed}
 use Rattle.bx_global.specs.declared.change.Change.TheVariants.{Close}
 use Rattle.bx_node_events.proofs.Sparing.{log_of, slot_low}
 use Rattle.bx_node_events.proofs.Working.{IsHanded, IsSending}
@@ -20,19 +20,16 @@ use Rattle.bx_node_recovers.proofs.Sending.{homes_touch, slot_touches}
 use Rattle.bx_node_recovers.proofs.Sent as sent
 use Rattle.bx_node_sends.proofs.Sent.{with_write}
 use Rattle.bx_node_views.proofs.Touching.{may_write}
-use Rattle.bx_places.specs.Places.{gate_place, log_device, log_start}
 use Rattle.bx_post.specs.declared.packets.Letter.{Letter}
 use Rattle.bx_records.specs.declared.runs.Run.{Run}
 use Rattle.bx_recover.specs.declared.stage.Stage.{Stage}
 use Rattle.bx_redo.specs.Homes.{AreItsHomes}
 use Rattle.bx_redo.specs.declared.work.Work.TheVariants as works
-use Rattle.bx_rows.specs.Words.{is_taken}
 use Rattle.bx_views.specs.Attempts.{Deed}
 use Rattle.bx_views.specs.Truths.{Hints, Truth}
-use Rattle.bx_volume.specs.Records.{LogWhere, Logged, gate_of}
+use Rattle.bx_volume.specs.Records.{Logged, gate_of}
 use Rattle.bx_world_chains.specs.Entitled.{IsEntitled}
-use Rattle.bx_world_chains.proofs.Rows.{all_row, taken_of}
-use Rattle.bx_world_logs.specs.Logs.{Found, IsLogOf, OfLog, SlotStands}
+use Rattle.bx_world_logs.specs.Logs.{Found, IsLogOf, OfLog}
 use Rattle.bx_world_standing.specs.Rights.{IsOfSlot, IsWithin, MayTouch, Surely}
 use Rattle.bx_world_standing.specs.Sessions.{IsOfNode}
 use Rattle.bx_world_standing.specs.Standing.{Course, Known, StandsAt, SureOf}

@@ -1,5 +1,5 @@
 -- A recovery writes the gates back as it read them; and where gate 0 isn't open it has nothing to tell, and closes the others.
-use Rattle.std.proofs.Common.{◌≡◌, ◌≢◌, ◌⊎◌, ⊎_elim, inl, inr, ◌∙◌, ℕ, ◌<◌, true, false, List, [], ◌∷◌, Contains, length, reverse, Some, None, refl, sym, ap, subst, arith}
+use Rattle.std.proofs.Common.{◌≡◌, ◌≢◌, ◌⊎◌, ⊎_elim, inl, ◌∙◌, ℕ, ◌<◌, true, false, List, [], ◌∷◌, Contains, length, Some, None, refl, sym, ap, subst, arith}
 use Rattle.std.specs.Prelude.{map}
 use Rattle.std.proofs.lemmas.List.{length-reverse}
 use Rattle.bx_base.specs.declared.names.Actor.TheVariants.{Node}

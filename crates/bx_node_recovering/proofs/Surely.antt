@@ -1,8 +1,8 @@
 -- What is settled in a sector is one content, and so is what stands there surely.
-use Rattle.std.proofs.Common.{◌≡◌, ◌≢◌, ◌⊎◌, ⊎_elim, inl, inr, ◌∙◌, ℕ, Bool, true, false, List, Some, sym, subst, arith}
-use Rattle.std.specs.Prelude.{Option, slice_get}
+use Rattle.std.proofs.Common.{◌≡◌, ◌⊎◌, inl, inr, ◌∙◌, ℕ, Bool, true, false, List, sym, subst, arith}
+use Rattle.std.specs.Prelude.{Option}
 use Rattle.bx_disk.specs.Disks.{Disks}
-use Rattle.bx_facts.specs.Writes.{IsSettled, IsSourceRow, Sent, member_disk}
+use Rattle.bx_facts.specs.Writes.{IsSettled, IsSourceRow, Sent}
 use Rattle.bx_global.specs.declared.state.GlobalState.{GlobalState}
 use Rattle.bx_redo.proofs.Settled.{there_is}
 use Rattle.bx_rows.specs.Modes.{IsReadAtA, IsSource}

@@ -1,5 +1,5 @@
 -- A recovery has read its run, and tells the points: its log is found then, with the records that were read, and the tree is as it was, or that after the record in doubt.
-use Rattle.std.proofs.Common.{◌≡◌, ◌≢◌, ◌⊎◌, inl, inr, ◌∙◌, ℕ, ◌+◌, ◌<◌, true, List, [], ◌∷◌, ◌++◌, Contains, length, map, reverse, None, Some, refl, sym, ap, subst, arith}
+use Rattle.std.proofs.Common.{◌≡◌, ◌≢◌, ◌⊎◌, inl, inr, ◌∙◌, ℕ, ◌+◌, ◌<◌, true, List, [], ◌∷◌, ◌++◌, Contains, length, map, reverse, None, Some, sym, ap, subst, arith}
 use Rattle.std.proofs.lemmas.List.{length-append, length-reverse}
 use Rattle.bx_base.specs.declared.names.Actor.TheVariants.{Node}
 use Rattle.bx_disk.specs.Disks.{Disks, Image, sector_of}
@@ -31,7 +31,7 @@ use Rattle.bx_volume.specs.Records.{IsLog, Logged, gate_of}
 use Rattle.bx_volume.proofs.Overlay.{log_here}
 use Rattle.bx_world_chains.specs.Entitled.{IsEntitled}
 use Rattle.bx_world_images.proofs.Settling.{found_slot}
-use Rattle.bx_world_logs.specs.Logs.{Found, Slot, opens}
+use Rattle.bx_world_logs.specs.Logs.{Slot, opens}
 use Rattle.bx_world_logs.proofs.Moving.{slot_here}
 use Rattle.bx_world_views.specs.Views.{Unacknowledged, StepOf}
 use Rattle.bx_world_standing.specs.Standing.{Course, Known, StandsAt, SureOf}

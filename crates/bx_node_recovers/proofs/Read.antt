@@ -8,8 +8,8 @@ use Rattle.bx_rows.specs.declared.session.SessionRow.{SessionRow}
 use Rattle.bx_rows.specs.Words.{is_taken}
 use Rattle.bx_views.specs.Truths.{Truth}
 use Rattle.bx_volume.specs.Overlay.{Logs, filled_of}
-use Rattle.bx_volume.specs.Records.{IsLog, Logged, logged_text}
-use Rattle.bx_volume.proofs.Sizes.{filled_below, filled_there}
+use Rattle.bx_volume.specs.Records.{IsLog, Logged}
+use Rattle.bx_volume.proofs.Sizes.{filled_below}
 use Rattle.bx_world_standing.specs.bx_world_logs.specs.Logs.{Activity, Finds, Found, IsLogOf, LogsStand, OfLog, Slot, SlotStands, opens, writes_in}
 use Rattle.bx_world_standing.specs.bx_world_logs.specs.Shown.{IsRun}
 use Rattle.bx_node_logs.proofs.Moved.{fills_few}

@@ -2,6 +2,7 @@ pub mod Asking
 pub mod Begun
 pub mod Beside
 pub mod Closing
+pub mod InSlot
 pub mod Keeping
 pub mod Reading
 pub mod Sending

@@ -16,7 +16,9 @@ use Rattle.bx_node_events.proofs.Working.{IsSending}
 use Rattle.bx_node_landings.proofs.Landed.{with_landed}
 use Rattle.bx_node_machines.specs.Recovering.{AreAsRead, AreBodiesAsRead, AreSettled, IsBodyAsRead, IsFound, Recovers, around, gates_back, gates_shut}
 use Rattle.bx_node_recovering.proofs.Asking.{gates_or_body, none_read_then, settled_sure}
+use Rattle.bx_node_recovering.proofs.Beside.{IsInSlot}
 use Rattle.bx_node_recovering.proofs.Closing as closing
+use Rattle.bx_node_recovering.proofs.InSlot.{lands_in}
 use Rattle.bx_node_recovering.proofs.Sending as sends
 use Rattle.bx_node_events.proofs.Sparing.{slot_low}
 use Rattle.bx_node_recovering.proofs.Telling as tells
@@ -34,9 +36,9 @@ use Rattle.bx_redo.specs.declared.work.Work.TheVariants as works
 use Rattle.bx_views.specs.Attempts.{Deed}
 use Rattle.bx_views.specs.Truths.{Hints, Truth}
 use Rattle.bx_volume.specs.Records.{Logged}
-use Rattle.bx_world_logs.specs.Logs.{OfLog, Slot, opens}
+use Rattle.bx_volume.proofs.Overlay.{log_here}
+use Rattle.bx_world_logs.specs.Logs.{OfLog, Slot}
 use Rattle.bx_world_logs.proofs.Moving.{slot_here}
-use Rattle.bx_world_views.specs.Views.{Unacknowledged, StepOf}
 use Rattle.bx_world_views.proofs.Doubts.{without_doubt}
 use Rattle.bx_world_standing.specs.Standing.{Course, Known, StandsAt, SureOf}
 
@@ -54,10 +56,6 @@ module _ {G O S T : Type 0} (g : register.Ghosts G) (o : owners.Ghosts O) (st : 
 
   abbrev Before : Stage → Type 0
   Before stage = Recovers g o st Stands Step_is register_is owners_are old x known c node session gone slot stage records
-
-  -- the tree is as it was, or that after the record in doubt, whose gate was being opened
-  abbrev pub GoesTo : T → Type 0
-  GoesTo next = (next ≡ tree) ⊎ ((doubt : Unacknowledged) × (c.doubts gone ≡ Some doubt) × (opens (c.slots slot).activity ≡ true) × StepOf Stands Step_is doubt.act tree next)
 
   -- Where gate 0 is open, and settled, the first body begins with a record.
   pub has_first : (opened : ℕ) (bytes : List ℕ) → step.arrived ≡ Some bytes → st.asked old node ≡ None → (was : Before (Bodies opened))
@@ -114,16 +112,19 @@ module _ {G O S T : Type 0} (g : register.Ghosts G) (o : owners.Ghosts O) (st : 
 
     -- They are settled, and gate 0 isn't open: there are no records, and the other gates are closed.
     pub finds_closed : (opened : ℕ) → opened ≡ 0 → st.out_of old node ≡ None → step.done ≡ true → write.runs ≡ gates_shut devices slot works.Shuts
-        → step.said ≡ closes (recovery_of slot devices areas (Settles opened) records) works.Shuts → (was : Before (Settles opened)) → (later : Course) × (later.register ≡ c.register) × (later.doubts ≡ without_doubt c.doubts gone)
-        × ((next : T) × GoesTo next × Sends later next Shuts)
+        → step.said ≡ closes (recovery_of slot devices areas (Settles opened) records) works.Shuts → (was : Before (Settles opened)) → (later : Course) × (later.register ≡ c.register) × (later.owners ≡ c.owners) × (later.store ≡ c.store)
+        × IsInSlot devices areas c slot gone later.before later.logs later.slots later.doubts × (later.logs slot ≡ []) × (later.doubts ≡ without_doubt c.doubts gone) × Sends later tree Shuts
     finds_closed opened closed none is_done runs_are said was = (
       later,
       refl,
       refl,
-      (
-        told.0,
-        told.1,
-        (
+      refl,
+      lands_in (st.made old).devices (st.made old).areas c slot gone told_then.before told_then.logs told_then.slots told_then.doubts
+          (tells.told_in_slot g o st Stands Step_is register_is owners_are old x known c tree node session gone slot at allowed less none_sent settled_is was.claimed was.other (was.unproposed (λ over. over)) Shuts records (step ∷ was.steps) has sure bodies)
+          then_is (λ e. cc),
+      nothing_logged,
+      refl,
+      subst (λ (t : T). Sends later t Shuts) as_it_was (
           stood.1,
           sends.recovers_on g o st Stands Step_is register_is owners_are old new x known later told.0 letters node session write shut gone slot allowed was.claimed (was.unproposed (λ over. over)) up own sending_then Shuts records stood.0 (record {
             claimed = was.claimed;
@@ -143,7 +144,6 @@ module _ {G O S T : Type 0} (g : register.Ghosts G) (o : owners.Ghosts O) (st : 
                   (gates_shut devices slot works.Shuts) runs_are none_sent stood.0),
             );
           }),
-        ),
       ),
     )
       where
@@ -169,10 +169,13 @@ module _ {G O S T : Type 0} (g : register.Ghosts G) (o : owners.Ghosts O) (st : 
         bodies : AreBodiesAsRead devices (around g o st Stands Step_is register_is owners_are old x known c node) slot (step ∷ was.steps)
         bodies body bytes read = absurd (none_read_then devices slot was.steps step _ was.done.2.2 was.at.2 body bytes read)
 
+        told_run : List Logged
+        told_run = tells.its_run g o st Stands Step_is register_is owners_are old x known c tree node session gone slot at allowed less none_sent settled_is was.claimed was.other (was.unproposed (λ over. over)) Shuts records (step ∷ was.steps) has sure bodies
+
         told_then : Course
         told_then = tells.told_course g o st Stands Step_is register_is owners_are old x known c tree node session gone slot at allowed less none_sent settled_is was.claimed was.other (was.unproposed (λ over. over)) Shuts records (step ∷ was.steps) has sure bodies
 
-        told : (next : T) × GoesTo next × StandsAt g o st Stands Step_is register_is owners_are old x known told_then next
+        told : (next : T) × tells.GoesTo g o st Stands Step_is register_is owners_are old x known c tree node session gone slot at allowed less none_sent settled_is was.claimed was.other (was.unproposed (λ over. over)) (told_run) next × StandsAt g o st Stands Step_is register_is owners_are old x known told_then next
         told = tells.told_stands g o st Stands Step_is register_is owners_are old x known c tree node session gone slot at allowed less none_sent settled_is was.claimed was.other (was.unproposed (λ over. over)) Shuts records (step ∷ was.steps) has sure bodies
 
         found : IsFound (around g o st Stands Step_is register_is owners_are old x known told_then node) slot records
@@ -180,6 +183,19 @@ module _ {G O S T : Type 0} (g : register.Ghosts G) (o : owners.Ghosts O) (st : 
 
         no_records : length (told_then.logs slot) ≡ 0
         no_records = sym (length-reverse (told_then.logs slot)) ∙ sym (ap (λ (l : List Logged). length l) found.1) ∙ none_read_before
+
+        none_of : (run : List Logged) → length run ≡ 0 → run ≡ []
+        none_of [] is = refl
+        none_of (one ∷ run) is = absurd (omega (arith, is))
+
+        nothing_logged : told_then.logs slot ≡ []
+        nothing_logged = none_of (told_then.logs slot) no_records
+
+        -- no record in doubt was found
+        as_it_was : told.0 ≡ tree
+        as_it_was = ⊎_elim (λ still. still.0)
+            (λ found_one. absurd (let e = sym nothing_logged ∙ log_here c.logs slot told_run ∙ found_one.3 in cc))
+            told.1
 
         then_is : Slot
         then_is = record { activity = OfLog works.Shuts; more = (c.slots slot).more }

@@ -14,6 +14,8 @@ use Rattle.bx_layout.specs.Labels.{IsOpenGate}
 use Rattle.bx_logs.specs.Bodies.{point_of}
 use Rattle.bx_node_machines.specs.Recovering.{AreBodiesAsRead, AreSettled, IsBodyAsRead, IsFound, Recovers, around}
 use Rattle.bx_node_recovering.proofs.Asking.{bodies_then}
+use Rattle.bx_node_recovering.proofs.Beside.{IsInSlot}
+use Rattle.bx_node_recovering.proofs.InSlot.{told_in}
 use Rattle.bx_node_recovering.proofs.Surely.{one_sure}
 use Rattle.bx_node_machines.specs.Recovering.{recovery_of}
 use Rattle.bx_node_recovers.proofs.Told as tells
@@ -34,6 +36,7 @@ use Rattle.bx_world_images.proofs.Settling.{found_slot}
 use Rattle.bx_world_logs.specs.Logs.{Slot, opens}
 use Rattle.bx_world_logs.proofs.Moving.{slot_here}
 use Rattle.bx_world_views.specs.Views.{Unacknowledged, StepOf}
+use Rattle.bx_world_standing.specs.Doubts.{IsRecordOf}
 use Rattle.bx_world_standing.specs.Standing.{Course, Known, StandsAt, SureOf}
 
 module _ {G O S T : Type 0} (g : register.Ghosts G) (o : owners.Ghosts O) (st : store.Ghosts S) (Stands : Truth → Hints → T → Type 0) (Step_is : T → Deed → T → Type 0)
@@ -51,9 +54,10 @@ module _ {G O S T : Type 0} (g : register.Ghosts G) (o : owners.Ghosts O) (st : 
   abbrev areas : ℕ
   areas = (st.made store_is).areas
 
-  -- The tree is as it was, or that after the record in doubt, whose gate was being opened.
-  abbrev pub GoesTo : T → Type 0
-  GoesTo next = (next ≡ tree) ⊎ ((doubt : Unacknowledged) × (c.doubts gone ≡ Some doubt) × (opens (c.slots slot).activity ≡ true) × StepOf Stands Step_is doubt.act tree next)
+  -- The tree is as it was, and the log has what it had, or nothing; or it is that after the record in doubt, whose gate was being opened, and which the log has besides.
+  abbrev pub GoesTo : List Logged → T → Type 0
+  GoesTo run next = ((next ≡ tree) × ((run ≡ c.logs slot) ⊎ (run ≡ [])))
+      ⊎ ((doubt : Unacknowledged) × (c.doubts gone ≡ Some doubt) × (opens (c.slots slot).activity ≡ true) × (run ≡ (c.slots slot).more ∷ c.logs slot) × IsRecordOf (c.slots slot).more doubt × StepOf Stands Step_is doubt.act tree next)
 
   -- ---- by a run that was read
 
@@ -68,10 +72,22 @@ module _ {G O S T : Type 0} (g : register.Ghosts G) (o : owners.Ghosts O) (st : 
     told_course = tells.then_is g o st Stands Step_is register_is owners_are store_is x known c tree at gone session slot less allowed claimed other none_sent unproposed stage read steps has as_read sure
         (λ body i bytes came few one fills. bodies body bytes came i few (one, fills))
 
+    -- the records that its log has then
+    abbrev pub its_run : List Logged
+    its_run = tells.run g o st Stands Step_is register_is owners_are store_is x known c tree at gone session slot less allowed claimed other none_sent unproposed stage read steps has as_read sure (λ body i bytes came few one fills. bodies body bytes came i few (one, fills))
+
     -- It stands then.
-    pub told_stands : (next : T) × GoesTo next × StandsAt g o st Stands Step_is register_is owners_are store_is x known told_course next
+    pub told_stands : (next : T) × GoesTo its_run next × StandsAt g o st Stands Step_is register_is owners_are store_is x known told_course next
     told_stands = tells.told_at g o st Stands Step_is register_is owners_are store_is x known c tree at gone session slot less allowed claimed other none_sent unproposed stage read steps has as_read sure
         (λ body i bytes came few one fills. bodies body bytes came i few (one, fills))
+
+    -- All else than its slot is as it was.
+    pub told_in_slot : IsInSlot devices areas c slot gone told_course.before told_course.logs told_course.slots told_course.doubts
+    told_in_slot = told_in devices areas c slot gone less has.settled.gates its_run (found_in told_stands.0 told_stands.1)
+      where
+        found_in : (next : T) → GoesTo its_run next → ((its_run ≡ c.logs slot) ⊎ (its_run ≡ [])) ⊎ ((opens (c.slots slot).activity ≡ true) × (its_run ≡ (c.slots slot).more ∷ c.logs slot))
+        found_in next (inl is) = inl is.1
+        found_in next (inr is) = inr (is.2, is.3)
 
     -- its log is found, and has the records that were read
     pub told_found : IsFound (around g o st Stands Step_is register_is owners_are store_is x known told_course node) slot read
@@ -80,9 +96,6 @@ module _ {G O S T : Type 0} (g : register.Ghosts G) (o : owners.Ghosts O) (st : 
       tells.told_records g o st Stands Step_is register_is owners_are store_is x known c tree at gone session slot less allowed claimed other none_sent unproposed stage read steps has as_read sure
           (λ body i bytes came few one fills. bodies body bytes came i few (one, fills)),
     )
-
-    abbrev its_run : List Logged
-    its_run = tells.run g o st Stands Step_is register_is owners_are store_is x known c tree at gone session slot less allowed claimed other none_sent unproposed stage read steps has as_read sure (λ body i bytes came few one fills. bodies body bytes came i few (one, fills))
 
     abbrev its_now : Image
     its_now = tells.now g o st Stands Step_is register_is owners_are store_is x known c tree at gone session slot less allowed claimed other none_sent unproposed stage read steps has as_read sure (λ body i bytes came few one fills. bodies body bytes came i few (one, fills))
@@ -138,7 +151,7 @@ module _ {G O S T : Type 0} (g : register.Ghosts G) (o : owners.Ghosts O) (st : 
 
     -- The points of the records are told.
     pub tells_then : (read : List Logged) (has : HasRun (recovery_of slot devices areas Told read) (step ∷ was.steps)) (gates_are : has.settled.gates ≡ was.done.1.gates) → step.said ≡ Acked (map point_of read) → 0 < length read
-        → (next : T) × GoesTo next × StandsAt g o st Stands Step_is register_is owners_are store_is x known (told_course Told read (step ∷ was.steps) has (sure_then read has gates_are) then_bodies) next
+        → (next : T) × GoesTo (its_run Told read (step ∷ was.steps) has (sure_then read has gates_are) then_bodies) next × StandsAt g o st Stands Step_is register_is owners_are store_is x known (told_course Told read (step ∷ was.steps) has (sure_then read has gates_are) then_bodies) next
         × Recovers g o st Stands Step_is register_is owners_are store_is x known (told_course Told read (step ∷ was.steps) has (sure_then read has gates_are) then_bodies) node session gone slot Told read
     tells_then read has gates_are said some =
         let stands = told_stands Told read (step ∷ was.steps) has (sure_then read has gates_are) then_bodies in (

@@ -1,5 +1,5 @@
 -- A recovery has written the gates of a slot back as it read them, and that is acknowledged: what was under way in the slot is settled.
-use Rattle.std.proofs.Common.{◌≡◌, ◌≢◌, ◌⊎◌, ⊎_elim, inl, inr, ℕ, ◌<◌, true, false, List, Contains, Option, Some, None, IsSome, refl, sym, ◌∙◌, ap, subst, arith}
+use Rattle.std.proofs.Common.{◌≡◌, ◌≢◌, ◌⊎◌, ⊎_elim, inl, inr, ℕ, ◌<◌, true, false, List, [], ◌∷◌, Contains, Option, Some, None, IsSome, refl, sym, ◌∙◌, ap, subst, arith}
 use Rattle.std.specs.Prelude.{IsSomeAnd, length}
 use Rattle.bx_disk.specs.Disks.{Disks, Image}
 use Rattle.bx_facts.specs.declared.register.Register as register
@@ -164,9 +164,10 @@ module _ {G O S T : Type 0} (g : register.Ghosts G) (o : owners.Ghosts O) (st : 
 
   -- ---- the tree
 
-  -- It is as it was; or it is that after the record that was in doubt.
+  -- It is as it was, where the log has what it had, or nothing; or it is that after the record that was in doubt, which the log has besides.
   abbrev pub IsSettledTo : T → Type 0
-  IsSettledTo next = (next ≡ tree) ⊎ ((doubt : Unacknowledged) × (c.doubts gone ≡ Some doubt) × (opens (c.slots slot).activity ≡ true) × StepOf Stands Step doubt.act tree next)
+  IsSettledTo next = ((next ≡ tree) × ((settled.run ≡ c.logs slot) ⊎ (settled.run ≡ [])))
+      ⊎ ((doubt : Unacknowledged) × (c.doubts gone ≡ Some doubt) × (opens (c.slots slot).activity ≡ true) × (settled.run ≡ (c.slots slot).more ∷ c.logs slot) × IsRecordOf (c.slots slot).more doubt × StepOf Stands Step doubt.act tree next)
 
   abbrev Then : Truth → T → Type 0
   Then truth next = VolumeStands Stands Step c.owners.holding (HasRow (last c.register.chain)) (LivesIn (last c.register.chain)) (own_up known.clocks.down (o.own owners_are)) known.held known.hints (without_doubt c.doubts gone) truth next
@@ -181,10 +182,10 @@ module _ {G O S T : Type 0} (g : register.Ghosts G) (o : owners.Ghosts O) (st : 
           let e = one_row live.0 entitled.row (row_in (last c.register.chain).sessions gone) live.1 entitled.is in
           let z = live.2 in let d = claimed.0 in let f = ap (λ (r : SessionRow). r.dead) e in omega (arith, z, d, f)
 
-  stays_so : settled.next ≡ c.truth → (next : T) × IsSettledTo next × Then settled.next next
-  stays_so is = (
+  stays_so : (settled.run ≡ c.logs slot) ⊎ (settled.run ≡ []) → settled.next ≡ c.truth → (next : T) × IsSettledTo next × Then settled.next next
+  stays_so run_is is = (
     tree,
-    inl refl,
+    inl (refl, run_is),
     subst (λ (t : Truth). Then t tree) (sym is)
         (dropped Stands Step c.owners.holding (HasRow (last c.register.chain)) (LivesIn (last c.register.chain)) (own_up known.clocks.down (o.own owners_are)) known.held known.hints c.doubts (without_doubt c.doubts gone) c.truth tree gone at.volume (without_only c.doubts gone)),
   )
@@ -193,9 +194,9 @@ module _ {G O S T : Type 0} (g : register.Ghosts G) (o : owners.Ghosts O) (st : 
   volume = by settled.shows
     where
       by : ShowsSlot c.logs c.slots slot settled.run c.truth settled.next → (next : T) × IsSettledTo next × Then settled.next next
-      by (inl is) = stays_so is.1
-      by (inr (inr is)) = stays_so is.2
-      by (inr (inl is)) = (done.0, inr (mine.0, mine.1, is.0, done.1), subst (λ (t : Truth). Then t done.0) (sym (is.2 ∙ ap (with_draft c.truth) mine.2.draft)) done.2)
+      by (inl is) = stays_so (inl is.0) is.1
+      by (inr (inr is)) = stays_so (inr is.1) is.2
+      by (inr (inl is)) = (done.0, inr (mine.0, mine.1, is.0, is.1, mine.2, done.1), subst (λ (t : Truth). Then t done.0) (sym (is.2 ∙ ap (with_draft c.truth) mine.2.draft)) done.2)
         where
           mine : (doubt : Unacknowledged) × (c.doubts gone ≡ Some doubt) × IsRecordOf (c.slots slot).more doubt
           mine = doubt_of (c.doubts gone) (IsRecordOf (c.slots slot).more) (subst (λ (k : ℕ). IsSomeAnd (c.doubts gone) (IsRecordOf (c.slots k).more)) entitled.at

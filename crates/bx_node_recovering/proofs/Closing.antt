@@ -11,7 +11,7 @@ use Rattle.bx_facts.specs.Chains.{last}
 use Rattle.bx_facts.specs.Writes.{Sent, WritesIn}
 use Rattle.bx_global.specs.Allowed.{IsAllowed}
 use Rattle.bx_node_events.proofs.Landed.{acknowledged}
-use Rattle.bx_node_events.proofs.Working.{IsSending}
+use Rattle.bx_node_events.proofs.Working.{IsHanded, IsSending}
 use Rattle.bx_node_landings.proofs.Landed.{with_landed}
 use Rattle.bx_node_machines.specs.Machines.{IsWriting}
 use Rattle.bx_node_machines.specs.Recovering.{Recovers, gates_shut}
@@ -67,9 +67,9 @@ module _ {G O S T : Type 0} (g : register.Ghosts G) (o : owners.Ghosts O) (st : 
   abbrev Before : Stage → Type 0
   Before stage = Recovers g o st Stands Step_is register_is owners_are old x known c node session gone slot stage records
 
-  -- A cluster stands for a tree, and its recovery is at a stage, once the write is sent.
+  -- A cluster stands for a tree, and its recovery is at a stage, once the write is handed to the store.
   abbrev pub Sends : Course → T → Stage → Type 0
-  Sends later next stage = StandsAt g o st Stands Step_is register_is owners_are new x (record known { letters = letters }) (with_write later letters write) next
+  Sends later next stage = IsHanded st old new x later.store letters node write × StandsAt g o st Stands Step_is register_is owners_are new x (record known { letters = letters }) (with_write later letters write) next
       × Recovers g o st Stands Step_is register_is owners_are new x (record known { letters = letters }) (with_write later letters write) node session gone slot stage records
 
   -- a write of which none is out is done
@@ -83,6 +83,7 @@ module _ {G O S T : Type 0} (g : register.Ghosts G) (o : owners.Ghosts O) (st : 
   pub brings : (blocks : List Changed) → AreNewestOf records blocks → AllByRecursion (IsLogged areas) records → write.runs ≡ home_runs devices blocks
       → step.said ≡ brings_home (recovery_of slot devices areas Told records) blocks → Before Told → Sends c tree Homes
   brings blocks newest logged runs_are said was = (
+    stood.0,
     stood.1,
     sends.recovers_on g o st Stands Step_is register_is owners_are old new x known c tree letters node session write at gone slot allowed was.claimed (was.unproposed (λ over. over)) up own sending Homes records stood.0 (record {
       claimed = was.claimed;
@@ -146,6 +147,7 @@ module _ {G O S T : Type 0} (g : register.Ghosts G) (o : owners.Ghosts O) (st : 
   pub closes_first : st.out_of old node ≡ None → step.done ≡ true → write.runs ≡ gates_shut devices slot works.Closes → step.said ≡ closes (recovery_of slot devices areas Homes records) works.Closes
       → (was : Before Homes) → Sends (home_then was) tree Closes
   closes_first none is_done runs_are said was = (
+    stood.0,
     stood.1,
     sends.recovers_on g o st Stands Step_is register_is owners_are old new x known later tree letters node session write home gone slot allowed was.claimed (was.unproposed (λ over. over)) up own sending_then Closes records stood.0 (record {
       claimed = was.claimed;
@@ -206,6 +208,7 @@ module _ {G O S T : Type 0} (g : register.Ghosts G) (o : owners.Ghosts O) (st : 
   pub closes_others : st.out_of old node ≡ None → step.done ≡ true → write.runs ≡ gates_shut devices slot works.Shuts → step.said ≡ closes (recovery_of slot devices areas Closes records) works.Shuts
       → Before Closes → Sends first_then tree Shuts
   closes_others none is_done runs_are said was = (
+    stood.0,
     stood.1,
     sends.recovers_on g o st Stands Step_is register_is owners_are old new x known later tree letters node session write shut gone slot allowed was.claimed (was.unproposed (λ over. over)) up own sending_then Shuts records stood.0 (record {
       claimed = was.claimed;

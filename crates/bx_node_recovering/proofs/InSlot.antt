@@ -23,7 +23,7 @@ use Rattle.bx_world_views.proofs.Doubts.{without_doubt, without_only}
 use Rattle.bx_world_views.specs.Views.{Unacknowledged}
 
 -- two slots have no sector in common
-one_place : (devices slot other d s : ℕ) → IsOfSlot devices slot d s → IsOfSlot devices other d s → other ≡ slot
+pub one_place : (devices slot other d s : ℕ) → IsOfSlot devices slot d s → IsOfSlot devices other d s → other ≡ slot
 one_place devices slot other d s a b = let x1 = a.from in let x2 = a.to in let y1 = b.from in let y2 = b.to in omega (arith, x1, x2, y1, y2)
 
 module _ (devices areas : ℕ) (c : Course) (slot gone : ℕ) (less : slot < 8) where

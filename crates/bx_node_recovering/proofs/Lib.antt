@@ -4,6 +4,7 @@ pub mod Beside
 pub mod Closing
 pub mod InSlot
 pub mod Keeping
+pub mod Nodes
 pub mod Reading
 pub mod Sending
 pub mod Settling

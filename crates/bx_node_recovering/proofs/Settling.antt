@@ -82,6 +82,7 @@ module _ {G O S T : Type 0} (g : register.Ghosts G) (o : owners.Ghosts O) (st : 
     pub writes_back : (bytes : List ℕ) (opened : ℕ) → length bytes ≡ 4096 → IsOpenRun bytes opened → write.runs ≡ gates_back devices slot bytes → AreAsRead devices (around g o st Stands Step_is register_is owners_are old x known c node) slot bytes
         → step.arrived ≡ Some bytes → step.said ≡ settles (recovery_of slot devices areas Gates records) bytes → st.asked old node ≡ None → Before Gates → Sends c tree (Settles opened)
     writes_back bytes opened long run runs_are as_read came said asked was = (
+      stood.0,
       stood.1,
       sends.recovers_on g o st Stands Step_is register_is owners_are old new x known c tree letters node session write at gone slot allowed was.claimed (was.unproposed (λ over. over)) up own sending (Settles opened) records stood.0 (record {
         claimed = was.claimed;
@@ -125,6 +126,7 @@ module _ {G O S T : Type 0} (g : register.Ghosts G) (o : owners.Ghosts O) (st : 
       nothing_logged,
       refl,
       subst (λ (t : T). Sends later t Shuts) as_it_was (
+          stood.0,
           stood.1,
           sends.recovers_on g o st Stands Step_is register_is owners_are old new x known later told.0 letters node session write shut gone slot allowed was.claimed (was.unproposed (λ over. over)) up own sending_then Shuts records stood.0 (record {
             claimed = was.claimed;

@@ -11,3 +11,6 @@ pub mod Settling
 pub mod Surely
 pub mod Telling
 pub mod Unsaid
+pub mod Written
+pub mod Leading
+pub mod Writing

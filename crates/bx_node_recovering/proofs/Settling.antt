@@ -1,5 +1,5 @@
 -- A recovery writes the gates back as it read them; and where gate 0 isn't open it has nothing to tell, and closes the others.
-use Rattle.std.proofs.Common.{◌≡◌, ◌≢◌, ◌⊎◌, ⊎_elim, inl, ◌∙◌, ℕ, ◌<◌, true, false, List, [], ◌∷◌, Contains, length, Some, None, refl, sym, ap, subst, arith}
+use Rattle.std.proofs.Common.{◌≡◌, ◌≢◌, ◌⊎◌, ⊎_elim, inl, ◌∙◌, ℕ, ◌<◌, true, false, List, [], ◌∷◌, Contains, length, Option, Some, None, refl, sym, ap, subst, arith}
 use Rattle.std.specs.Prelude.{map}
 use Rattle.std.proofs.lemmas.List.{length-reverse}
 use Rattle.bx_base.specs.declared.names.Actor.TheVariants.{Node}
@@ -39,7 +39,11 @@ use Rattle.bx_volume.specs.Records.{Logged}
 use Rattle.bx_volume.proofs.Overlay.{log_here}
 use Rattle.bx_world_logs.specs.Logs.{OfLog, Slot}
 use Rattle.bx_world_logs.proofs.Moving.{slot_here}
-use Rattle.bx_world_views.proofs.Doubts.{without_doubt}
+use Rattle.bx_world_logs.proofs.Moving.{with_slot}
+use Rattle.bx_world_views.specs.Views.{Unacknowledged}
+use Rattle.bx_world_views.proofs.Doubts.{without_doubt, without_only}
+use Rattle.bx_disk.specs.Disks.{Image}
+use Rattle.bx_volume.specs.Overlay.{Logs}
 use Rattle.bx_world_standing.specs.Standing.{Course, Known, StandsAt, SureOf}
 
 module _ {G O S T : Type 0} (g : register.Ghosts G) (o : owners.Ghosts O) (st : store.Ghosts S) (Stands : Truth → Hints → T → Type 0) (Step_is : T → Deed → T → Type 0)
@@ -78,6 +82,18 @@ module _ {G O S T : Type 0} (g : register.Ghosts G) (o : owners.Ghosts O) (st : 
     abbrev Sends : Course → T → Stage → Type 0
     Sends later next stage = closing.Sends g o st Stands Step_is register_is owners_are old new x known c tree letters node session gone slot write at allowed none_sent up own sending records step later next stage
 
+    -- No record is found: the log has none, nothing of the session is in doubt, and the other gates are closed.
+    pub record FindsClosed : Type 0 where
+      pub now : Image
+      pub logs : Logs
+      pub slots : ℕ → Slot
+      pub truth : Truth
+      pub doubts : ℕ → Option Unacknowledged
+      pub in_slot : IsInSlot devices areas c slot gone now logs slots doubts
+      pub none : logs slot ≡ []
+      pub undoubted : doubts gone ≡ None
+      pub sends : Sends (record c { before = now; logs = logs; slots = slots; truth = truth; doubts = doubts }) tree Shuts
+
     -- The gates came: they are written back.
     pub writes_back : (bytes : List ℕ) (opened : ℕ) → length bytes ≡ 4096 → IsOpenRun bytes opened → write.runs ≡ gates_back devices slot bytes → AreAsRead devices (around g o st Stands Step_is register_is owners_are old x known c node) slot bytes
         → step.arrived ≡ Some bytes → step.said ≡ settles (recovery_of slot devices areas Gates records) bytes → st.asked old node ≡ None → Before Gates → Sends c tree (Settles opened)
@@ -113,19 +129,19 @@ module _ {G O S T : Type 0} (g : register.Ghosts G) (o : owners.Ghosts O) (st : 
 
     -- They are settled, and gate 0 isn't open: there are no records, and the other gates are closed.
     pub finds_closed : (opened : ℕ) → opened ≡ 0 → st.out_of old node ≡ None → step.done ≡ true → write.runs ≡ gates_shut devices slot works.Shuts
-        → step.said ≡ closes (recovery_of slot devices areas (Settles opened) records) works.Shuts → (was : Before (Settles opened)) → (later : Course) × (later.register ≡ c.register) × (later.owners ≡ c.owners) × (later.store ≡ c.store)
-        × IsInSlot devices areas c slot gone later.before later.logs later.slots later.doubts × (later.logs slot ≡ []) × (later.doubts ≡ without_doubt c.doubts gone) × Sends later tree Shuts
-    finds_closed opened closed none is_done runs_are said was = (
-      later,
-      refl,
-      refl,
-      refl,
-      lands_in (st.made old).devices (st.made old).areas c slot gone told_then.before told_then.logs told_then.slots told_then.doubts
+        → step.said ≡ closes (recovery_of slot devices areas (Settles opened) records) works.Shuts → (was : Before (Settles opened)) → FindsClosed
+    finds_closed opened closed none is_done runs_are said was = record {
+      now = told_then.before;
+      logs = told_then.logs;
+      slots = with_slot told_then.slots slot then_is;
+      truth = told_then.truth;
+      doubts = told_then.doubts;
+      in_slot = lands_in (st.made old).devices (st.made old).areas c slot gone told_then.before told_then.logs told_then.slots told_then.doubts
           (tells.told_in_slot g o st Stands Step_is register_is owners_are old x known c tree node session gone slot at allowed less none_sent settled_is was.claimed was.other (was.unproposed (λ over. over)) Shuts records (step ∷ was.steps) has sure bodies)
-          then_is (λ e. cc),
-      nothing_logged,
-      refl,
-      subst (λ (t : T). Sends later t Shuts) as_it_was (
+          then_is (λ e. cc);
+      none = nothing_logged;
+      undoubted = (without_only c.doubts gone).here;
+      sends = subst (λ (t : T). Sends later t Shuts) as_it_was (
           stood.0,
           stood.1,
           sends.recovers_on g o st Stands Step_is register_is owners_are old new x known later told.0 letters node session write shut gone slot allowed was.claimed (was.unproposed (λ over. over)) up own sending_then Shuts records stood.0 (record {
@@ -146,8 +162,8 @@ module _ {G O S T : Type 0} (g : register.Ghosts G) (o : owners.Ghosts O) (st : 
                   (gates_shut devices slot works.Shuts) runs_are none_sent stood.0),
             );
           }),
-      ),
-    )
+      );
+    }
       where
         settling : RecoveryView
         settling = recovery_of slot devices areas (Settles opened) records

@@ -14,3 +14,4 @@ pub mod Unsaid
 pub mod Written
 pub mod Leading
 pub mod Writing
+pub mod Fetching

@@ -15,3 +15,4 @@ pub mod Written
 pub mod Leading
 pub mod Writing
 pub mod Fetching
+pub mod Pointing

@@ -16,3 +16,4 @@ pub mod Leading
 pub mod Writing
 pub mod Fetching
 pub mod Pointing
+pub mod Ending

@@ -4,6 +4,7 @@ pub mod Cleaning
 pub mod Giving
 pub mod Going
 pub mod Opening
+pub mod Recovering
 pub mod Renewing
 pub mod Sending
 pub mod Standing

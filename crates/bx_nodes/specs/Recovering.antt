@@ -1,7 +1,8 @@
 -- What a node's recovery of the log of a dead session does in a turn, and what is proposed at a tick.
-use Rattle.std.specs.Prelude.{◌≡◌, ℕ, Bool, true, false, List, [], is_some, Option, Some, None}
+use Rattle.std.specs.Prelude.{◌≡◌, ◌||◌, ℕ, Bool, true, false, List, [], is_some, Option, Some, None}
 use Rattle.bx_base.specs.declared.names.Point.{Point}
-use Rattle.bx_facts.specs.Writes.{Asked, Sent}
+use Rattle.bx_facts.specs.Writes.{Asked, Made, Sent}
+use Rattle.bx_node_steps.specs.Ready.{IsReady}
 use Rattle.bx_global.specs.declared.change.Change.{Change}
 use Rattle.bx_global.specs.declared.change.Change.TheVariants.{Claim, Close}
 use Rattle.bx_node_steps.specs.Recoveries.{EndsRecovery, RecoversOn, begun, gone_in, to_claim, to_close, to_recover}
@@ -9,6 +10,7 @@ use Rattle.bx_node_steps.specs.declared.machine.Fetch.TheVariants.{Nothing}
 use Rattle.bx_node_steps.specs.declared.machine.Machine.{Machine}
 use Rattle.bx_node_steps.specs.declared.machine.Stage.TheVariants.{Idle}
 use Rattle.bx_nodes.specs.Sending.{IsSentBy}
+use Rattle.bx_records.specs.Runs.{KindAndRuns}
 use Rattle.bx_recover.specs.declared.moves.Move.{Move}
 use Rattle.bx_recover.specs.declared.moves.Move.TheVariants.{Write, Read, Acked, Closed as Ended, Wait}
 use Rattle.bx_rows.specs.declared.session.SessionRow.{SessionRow}
@@ -28,21 +30,6 @@ pub data BeginsRecovery (own : ℕ) (rows : List SessionRow) (out : Option Sent)
 
 -- ---- what comes of its step
 
--- What of a node is out: its write, and its read.
-pub record Outs : Type 0 where
-  pub out : Option Sent
-  pub asked : Option Asked
-
--- What a recovery asked for is sent, or what it told is given out: a write is out, of the node's session, until its lease ends; a read is out; the homes of the blocks are sent at once behind
--- the points; it ends, and this is offered, that the session is closed; or nothing happens. (`Offers` says of a change that it was offered.)
-pub data Follows (own : Option ℕ) (until session : ℕ) (Offers : Change → Type 0) (before after : Outs) (middle new : Machine) : Move → List Point → Type 0 where
-  Writes : (runs : _) → new ≡ middle → IsSentBy own until (Some runs) after.out → after.asked ≡ before.asked → Follows own until session Offers before after middle new (Write runs) []
-  Reads : (device place sectors : ℕ) → new ≡ middle → after.out ≡ before.out → after.asked ≡ Some (record { device = device; place = place; count = sectors })
-      → Follows own until session Offers before after middle new (Read device place sectors) []
-  Tells : (points : List Point) (runs : _) → RecoversOn None false middle new (Write runs) → IsSentBy own until (Some runs) after.out → after.asked ≡ before.asked → Follows own until session Offers before after middle new (Acked points) points
-  Ends : (gone : ℕ) → EndsRecovery middle new gone → Offers (Close gone session) → after ≡ before → Follows own until session Offers before after middle new Ended []
-  Waits : new ≡ middle → after ≡ before → Follows own until session Offers before after middle new Wait []
-
 -- no write is out
 abbrev pub is_done : Option Sent → Bool
 is_done None = true
@@ -52,6 +39,35 @@ is_done (Some write) = false
 abbrev pub left_asked : Option (List ℕ) → Option Asked → Option Asked
 left_asked None asked = asked
 left_asked (Some bytes) asked = None
+
+-- What of a node is out: its write, and its read.
+pub record Outs : Type 0 where
+  pub out : Option Sent
+  pub asked : Option Asked
+
+abbrev pub outs : Option Sent → Option Asked → Outs
+outs out asked = record { out = out; asked = asked }
+
+-- A node's recovery said this, by a step that it has taken: it was ready before it, and what it asks for may be asked.
+pub record MaySay (made : Made) (engine_areas : ℕ) (is : Outs) (said : Move) (middle : Machine) : Type 0 where
+  pub before : Machine
+  pub arrived : Option (List ℕ)
+  pub done : Bool
+  pub asked : Option Asked
+  pub ready : IsReady made engine_areas asked before
+  pub step : RecoversOn arrived done before middle said
+  pub left : is.asked ≡ left_asked arrived asked
+  pub quiet : done ≡ true → is.out ≡ None
+
+-- What a recovery asked for is sent, or what it told is given out: a write is out, of the node's session, until its lease ends; a read is out; the homes of the blocks are sent at once behind
+-- the points; it ends, and this is offered, that the session is closed; or nothing happens. (`Offers` says of a change that it was offered.)
+pub data Follows (own : Option ℕ) (until session : ℕ) (Offers : Change → Type 0) (before after : Outs) (middle new : Machine) : Move → List Point → Type 0 where
+  Writes : (runs : KindAndRuns) → new ≡ middle → IsSentBy own until (Some runs) after.out → after.asked ≡ before.asked → Follows own until session Offers before after middle new (Write runs) []
+  Reads : (device place sectors : ℕ) → new ≡ middle → after.out ≡ before.out → after.asked ≡ Some (record { device = device; place = place; count = sectors })
+      → Follows own until session Offers before after middle new (Read device place sectors) []
+  Tells : (points : List Point) (runs : KindAndRuns) → RecoversOn None false middle new (Write runs) → IsSentBy own until (Some runs) after.out → after.asked ≡ before.asked → Follows own until session Offers before after middle new (Acked points) points
+  Ends : (gone : ℕ) → EndsRecovery middle new gone → Offers (Close gone session) → after ≡ before → Follows own until session Offers before after middle new Ended []
+  Waits : new ≡ middle → after ≡ before → Follows own until session Offers before after middle new Wait []
 
 -- The recovery under way takes one step, by what came of the node's read and by whether its write is done; where none is under way nothing happens.
 pub data StepsRecovery (own : Option ℕ) (until session : ℕ) (Offers : Change → Type 0) (answer : Option (List ℕ)) (before after : Outs) (old new : Machine) (told : List Point) : Type 0 where
@@ -83,4 +99,13 @@ close_or (Some row) own other = Some (Close row.number own)
 
 -- whether it recovers one, or has to
 abbrev pub is_recovering : ℕ → List SessionRow → Machine → Bool
-is_recovering own rows machine = or_some (gone_in machine.stage) (to_recover own machine.finished.items rows)
+is_recovering own rows machine = is_some (gone_in machine.stage) || is_some (to_recover own machine.finished.items rows)
+
+-- the change of its own that it is to propose then
+abbrev pub change_due : ℕ → List SessionRow → Machine → Option Change
+change_due own rows machine = close_or (to_close own machine.finished.items rows) own (claim_unless (is_recovering own rows machine) own rows)
+
+-- .. where it has what it has under that session, which is its own
+abbrev pub due_under : Bool → ℕ → List SessionRow → Machine → Option Change
+due_under false own rows machine = None
+due_under true own rows machine = change_due own rows machine

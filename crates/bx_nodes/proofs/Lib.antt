@@ -20,6 +20,7 @@ pub mod Opened
 pub mod Readings
 pub mod Readying
 pub mod Receiving
+pub mod Recovering
 pub mod Renewing
 pub mod Rests
 pub mod Stepping

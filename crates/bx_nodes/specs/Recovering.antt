@@ -1,14 +1,16 @@
 -- What a node's recovery of the log of a dead session does in a turn, and what is proposed at a tick.
-use Rattle.std.specs.Prelude.{◌≡◌, ◌||◌, ℕ, Bool, true, false, List, [], is_some, Option, Some, None}
+use Rattle.std.specs.Prelude.{◌≡◌, ◌||◌, ℕ, ◌+◌, ◌<◌, ◌≤◌, Bool, true, false, List, [], is_some, Option, Some, None, IsSome}
 use Rattle.bx_base.specs.declared.names.Point.{Point}
-use Rattle.bx_facts.specs.Writes.{Asked, Made, Sent}
+use Rattle.bx_facts.specs.Writes.{AreRuns, Asked, Made, Sent, store_room}
 use Rattle.bx_node_steps.specs.Ready.{IsReady}
 use Rattle.bx_global.specs.declared.change.Change.{Change}
 use Rattle.bx_global.specs.declared.change.Change.TheVariants.{Claim, Close}
 use Rattle.bx_node_steps.specs.Recoveries.{EndsRecovery, RecoversOn, begun, gone_in, to_claim, to_close, to_recover}
 use Rattle.bx_node_steps.specs.declared.machine.Fetch.TheVariants.{Nothing}
 use Rattle.bx_node_steps.specs.declared.machine.Machine.{Machine}
-use Rattle.bx_node_steps.specs.declared.machine.Stage.TheVariants.{Idle}
+use Rattle.bx_node_steps.specs.declared.machine.Recovering.{Recovering}
+use Rattle.bx_node_steps.specs.declared.machine.Stage.TheVariants.{Idle, Recovers as Recovers_it}
+use Rattle.bx_recover.specs.declared.stage.Stage.TheVariants.{Told}
 use Rattle.bx_nodes.specs.Sending.{IsSentBy}
 use Rattle.bx_records.specs.Runs.{KindAndRuns}
 use Rattle.bx_recover.specs.declared.moves.Move.{Move}
@@ -48,16 +50,20 @@ pub record Outs : Type 0 where
 abbrev pub outs : Option Sent → Option Asked → Outs
 outs out asked = record { out = out; asked = asked }
 
--- A node's recovery said this, by a step that it has taken: it was ready before it, and what it asks for may be asked.
-pub record MaySay (made : Made) (engine_areas : ℕ) (is : Outs) (said : Move) (middle : Machine) : Type 0 where
-  pub before : Machine
-  pub arrived : Option (List ℕ)
-  pub done : Bool
-  pub asked : Option Asked
-  pub ready : IsReady made engine_areas asked before
-  pub step : RecoversOn arrived done before middle said
-  pub left : is.asked ≡ left_asked arrived asked
-  pub quiet : done ≡ true → is.out ≡ None
+-- its recovery has told its points, and brings the blocks home next
+pub record HasTold (machine : Machine) : Type 0 where
+  pub recovering : Recovering
+  pub is : machine.stage ≡ Recovers_it recovering
+  pub told : recovering.recovery.stage ≡ Told
+
+-- What a node's recovery said may be followed: what it asks for may be asked, as nothing of that kind is out; and the node may use its parts, once a read that it asks for is out.
+abbrev pub MayFollow : Made → ℕ → Outs → Machine → Move → Type 0
+MayFollow made engine_areas is machine (Write runs) = (is.out ≡ None) × AreRuns made runs.1 × IsReady made engine_areas is.asked machine
+MayFollow made engine_areas is machine (Read device place sectors) =
+    (is.asked ≡ None) × (device < made.devices) × (1 ≤ place) × (1 ≤ sectors) × (place + sectors ≤ store_room made) × IsReady made engine_areas (Some (record { device = device; place = place; count = sectors })) machine
+MayFollow made engine_areas is machine (Acked points) = (is.out ≡ None) × HasTold machine × IsReady made engine_areas is.asked machine
+MayFollow made engine_areas is machine Ended = IsSome (gone_in machine.stage) × IsReady made engine_areas is.asked machine
+MayFollow made engine_areas is machine Wait = IsReady made engine_areas is.asked machine
 
 -- What a recovery asked for is sent, or what it told is given out: a write is out, of the node's session, until its lease ends; a read is out; the homes of the blocks are sent at once behind
 -- the points; it ends, and this is offered, that the session is closed; or nothing happens. (`Offers` says of a change that it was offered.)

@@ -1,6 +1,6 @@
 //! The recovery of the logs of sessions that are dead.
 
-ghost use Rattle.std.specs.Prelude.{◌≡◌, ◌⊎◌, ℕ, ◌++◌, ◌<◌, false, true, length, List, IfOk, IfSome, IsSome, OnOk, Some, slice_get};
+ghost use Rattle.std.specs.Prelude.{◌≡◌, ◌⊎◌, ℕ, ◌≢◌, ◌++◌, ◌<◌, None, false, true, length, List, IfOk, IfSome, IsSome, OnOk, Some, slice_get};
 ghost use Rattle.bx_base.specs.declared.names.Actor.{Actor};
 ghost use Rattle.bx_base.specs.declared.names.Actor.TheVariants.{Node};
 ghost use Rattle.bx_disk.specs.Disks.{Disks};
@@ -10,9 +10,13 @@ ghost use Rattle.bx_facts.specs.Inputs.{IsRegisters, SendsOnly};
 ghost use Rattle.bx_facts.specs.Pasts.{RegisterPast, register_with};
 ghost use Rattle.bx_global.specs.Table.{IsLegal};
 ghost use Rattle.bx_node_machines.specs.Machines.{is_one};
-ghost use Rattle.bx_node_steps.specs.Recoveries.{gone_in};
+ghost use Rattle.bx_node_steps.specs.Recoveries.{EndsRecovery, RecoversOn, gone_in};
+ghost use Rattle.bx_global.specs.declared.change.Change.TheVariants.{Close};
+ghost use Rattle.bx_nodes.specs.Sending.{IsSentBy};
+ghost use Rattle.bx_records.specs.Runs.{KindAndRuns};
+ghost use Rattle.bx_recover.specs.declared.moves.Move.TheVariants.{Write};
 ghost use Rattle.bx_nodes.specs.Asks.{Later};
-ghost use Rattle.bx_nodes.specs.Recovering.{BeginsRecovery, Follows, MayRecover, MaySay, Recovers, StepsRecovery, due_under, outs};
+ghost use Rattle.bx_nodes.specs.Recovering.{BeginsRecovery, Follows, HasTold, MayFollow, MayRecover, Recovers, StepsRecovery, due_under, outs};
 ghost use Rattle.bx_nodes.specs.Standing.{BeReady, OfBoth, OfNode, Ready, Stand};
 ghost use Rattle.bx_nodes.specs.Taking.{Proposes};
 ghost use Rattle.bx_nodes.specs.Turns.{OnlyMachine, OnlyStore};
@@ -125,7 +129,7 @@ impl<G: Register, O: Owners, S: Store, E: Engine> Nodes<G, O, S, E> {
     ) -> Result<Points, OutOfMemory>
         requires there { (node < length self.old.machines.items) × (node < G.nodes self.old.register) }
         requires session { IsSome (S.own self.old.store node) }
-        requires said { OfNode self.old node (MaySay (S.made self.old.store) (E.areas self.old.engine) (outs (S.out_of self.old.store node) (S.asked self.old.store node)) said.now) }
+        requires said { OfNode self.old node (λ machine. MayFollow (S.made self.old.store) (E.areas self.old.engine) (outs (S.out_of self.old.store node) (S.asked self.old.store node)) machine said.now) }
         ensures follows { IfOk result (λ told. OfBoth self.old self.new node (λ middle new. Follows (S.own self.old.store node) lease.until lease.session (λ one. (G.is_busy self.old.register (Node node) ⊎ G.is_busy self.new.register (Node node)) ⊎ (IsLegal (G.knows self.new.register (Node node)) one → ⊥)) (outs (S.out_of self.old.store node) (S.asked self.old.store node)) (outs (S.out_of self.new.store node) (S.asked self.new.store node)) middle new said.now told)) }
         ensures register { ((who : Actor) → G.knows self.new.register who ≡ G.knows self.old.register who) × (G.made self.new.register ≡ G.made self.old.register) × (G.nodes self.new.register ≡ G.nodes self.old.register) × NeedsNoMore (G.needs self.old.register) (G.needs self.new.register) }
         ensures parts { (self.new.owners ≡ self.old.owners) × (self.new.engine ≡ self.old.engine) × (S.made self.new.store ≡ S.made self.old.store) }
@@ -151,7 +155,20 @@ impl<G: Register, O: Owners, S: Store, E: Engine> Nodes<G, O, S, E> {
     }
 
     /// Sends the blocks of the records that a node's recovery has read to their homes.
-    fn bring_home(&mut self, node: u32, lease: Lease, out: &mut Outbox) -> Result<(), OutOfMemory> {
+    fn bring_home(&mut self, node: u32, lease: Lease, out: &mut Outbox) -> Result<(), OutOfMemory>
+        requires there { node < length self.old.machines.items }
+        requires ready { Ready S.Store E.Engine self.old node }
+        requires session { IsSome (S.own self.old.store node) }
+        requires none_out { S.out_of self.old.store node ≡ None }
+        requires told { OfNode self.old node HasTold }
+        ensures brings { OnOk result (OfBoth self.old self.new node (λ old new. (runs : KindAndRuns) × RecoversOn None false old new (Write runs) × IsSentBy (S.own self.old.store node) lease.until (Some runs) (S.out_of self.new.store node))) }
+        ensures store { (other : ℕ) → (S.own self.new.store other ≡ S.own self.old.store other) × (S.asked self.new.store other ≡ S.asked self.old.store other) × (S.answer self.new.store other ≡ S.answer self.old.store other) }
+        ensures elsewhere { (other : ℕ) → other ≢ node → S.out_of self.new.store other ≡ S.out_of self.old.store other }
+        ensures ready { OnOk result (Ready S.Store E.Engine self.new node) }
+        ensures parts { (self.new.register ≡ self.old.register) × (self.new.owners ≡ self.old.owners) × (self.new.engine ≡ self.old.engine) × (S.made self.new.store ≡ S.made self.old.store) }
+        ensures others { OnlyMachine node self.old.machines.items self.new.machines.items }
+        ensures count { length self.new.machines.items ≡ length self.old.machines.items }
+    {
         let said = self.machines[node as usize].recover_on(None, false)?;
         let Move::Write(runs) = said else {
             unreachable!();
@@ -165,7 +182,15 @@ impl<G: Register, O: Owners, S: Store, E: Engine> Nodes<G, O, S, E> {
         node: u32,
         session: u64,
         out: &mut Outbox,
-    ) -> Result<(), OutOfMemory> {
+    ) -> Result<(), OutOfMemory>
+        requires there { (node < length self.old.machines.items) × (node < G.nodes self.old.register) }
+        requires recovers { OfNode self.old node (λ machine. IsSome (gone_in machine.stage)) }
+        ensures ends { OnOk result (OfBoth self.old self.new node (λ old new. (gone : ℕ) × EndsRecovery old new gone × ((G.is_busy self.old.register (Node node) ⊎ G.is_busy self.new.register (Node node)) ⊎ (IsLegal (G.knows self.new.register (Node node)) (Close gone session) → ⊥)))) }
+        ensures register { ((who : Actor) → G.knows self.new.register who ≡ G.knows self.old.register who) × (G.made self.new.register ≡ G.made self.old.register) × (G.nodes self.new.register ≡ G.nodes self.old.register) × NeedsNoMore (G.needs self.old.register) (G.needs self.new.register) }
+        ensures parts { (self.new.owners ≡ self.old.owners) × (self.new.store ≡ self.old.store) × (self.new.engine ≡ self.old.engine) }
+        ensures others { OnlyMachine node self.old.machines.items self.new.machines.items }
+        ensures count { length self.new.machines.items ≡ length self.old.machines.items }
+    {
         let gone = self.machines[node as usize].end_recovery()?;
         self.propose(
             node,

@@ -13,12 +13,12 @@ use Rattle.bx_layout.specs.Labels.{gate_text, gate_word}
 use Rattle.bx_layout.specs.declared.block.Block.{Block}
 use Rattle.bx_layout.specs.declared.gate.Gate.{Gate}
 use Rattle.bx_layout.specs.declared.gate.Gate.TheVariants.{Open, Closed as Shut}
-use Rattle.bx_node_cache.specs.Kept.{AreHomesOf}
+use Rattle.bx_node_cache.specs.Kept.{AreHomesOf, IsHomeOf}
 use Rattle.bx_node_machines.specs.Machines.{number_of}
 use Rattle.bx_node_tries.specs.declared.round.Said.{Said}
 use Rattle.bx_node_steps.specs.Changing.{LetsGo, TakesIn, left_fetch}
-use Rattle.bx_node_steps.specs.Logging.{Begins, Closed, FitsStage, IsNumbered, LogGoes, Rests, SendsClosing, SendsGate, SendsHomes, SendsShut}
-use Rattle.bx_node_steps.specs.Ready.{FitsFetch, IsReady}
+use Rattle.bx_node_steps.specs.Logging.{Begins, Closed, FitsStage, IsNumbered, LogGoes, Rests, RestsMeanwhile, SendsClosing, SendsGate, SendsHomes, SendsShut}
+use Rattle.bx_node_steps.specs.Ready.{FitsFetch, IsReady, RecoversNone}
 use Rattle.bx_node_steps.specs.Seen.{replying}
 use Rattle.bx_node_steps.specs.declared.machine.Fetch.{Fetch}
 use Rattle.bx_node_steps.specs.declared.machine.Fetch.TheVariants as fetches
@@ -54,7 +54,7 @@ one_fits made run is = record {
     mine d s content (it, has, w) = subst (λ (r : Run). Writes r d s content) (sym (only_run run it has)) w
 
 -- so many sectors in a log slot
-slot_fits : (made : Made) (slot device place sectors : ℕ) (bytes : List ℕ) → IsVolume made.devices made.areas → slot < 8 → device ≡ log_device slot made.devices → length bytes ≡ 512 * sectors → 1 ≤ sectors
+pub slot_fits : (made : Made) (slot device place sectors : ℕ) (bytes : List ℕ) → IsVolume made.devices made.areas → slot < 8 → device ≡ log_device slot made.devices → length bytes ≡ 512 * sectors → 1 ≤ sectors
     → log_start slot ≤ place → place + sectors ≤ log_start slot + 1168 → AreRuns made ((record { device = device; place = place; bytes = bytes }) ∷ [])
 slot_fits made slot device place sectors bytes volume low on long least from to = one_fits made (record { device = device; place = place; bytes = bytes }) (record {
   device = let some = volume.least_devices in omega (arith, on, some);
@@ -82,10 +82,10 @@ module _ (made : Made) (log : LogView) (volume : IsVolume made.devices made.area
   opens_fits : log.count < 8 → AreRuns made ((record { device = log.device; place = log_start log.slot + log.count; bytes = gate_text Open }) ∷ [])
   opens_fits room = slot_fits made log.slot log.device (log_start log.slot + log.count) 1 (gate_text Open) volume low on (omega (arith, gate_long Open)) (omega arith) (omega arith) (omega (arith, room))
 
-  closes_fits : AreRuns made ((record { device = log.device; place = log_start log.slot + 0; bytes = gate_text Shut }) ∷ [])
+  pub closes_fits : AreRuns made ((record { device = log.device; place = log_start log.slot + 0; bytes = gate_text Shut }) ∷ [])
   closes_fits = slot_fits made log.slot log.device (log_start log.slot + 0) 1 (gate_text Shut) volume low on (omega (arith, gate_long Shut)) (omega arith) (omega arith) (omega arith)
 
-  shuts_fits : AreRuns made ((record { device = log.device; place = log_start log.slot + 1; bytes = shut_text }) ∷ [])
+  pub shuts_fits : AreRuns made ((record { device = log.device; place = log_start log.slot + 1; bytes = shut_text }) ∷ [])
   shuts_fits = slot_fits made log.slot log.device (log_start log.slot + 1) 7 shut_text volume low on (omega (arith, shut_long)) (omega arith) (omega arith) (omega arith)
 
 -- the homes of blocks
@@ -105,12 +105,12 @@ module _ (made : Made) (volume : IsVolume made.devices made.areas) (away : ℕ �
       within : length (block_text block) ≡ 4608 → (block_place at made.devices).1 + length (block_text block) / 512 ≤ 9345 + 8649 * ((made.areas + made.devices - 1) / made.devices)
       within long = let v = volume.least_devices in let area = is.area in let slot = is.slot in grind (arith, nat_tests)
 
-  pub homes_fit : (runs : List Run) → AreHomesOf made.devices made.areas away runs → AreRuns made runs
-  homes_fit runs are = record {
-    each = λ run has. let h = are.each run has in subst (IsRun made) (sym h.run_is) (home_fits h.at h.block h.is h.parts);
+  pub each_fits : (runs : List Run) → ((run : Run) → Contains runs run → IsHomeOf made.devices made.areas away run) → AreRuns made runs
+  each_fits runs each = record {
+    each = λ run has. let h = each run has in subst (IsRun made) (sym h.run_is) (home_fits h.at h.block h.is h.parts);
     once = λ d s content other (run, has, w) (run_too, has_too, v).
-        let one = are.each run has in
-        let two = are.each run_too has_too in
+        let one = each run has in
+        let two = each run_too has_too in
         both d s content other one.at two.at one.block two.block one.is two.is one.parts two.parts one.is_away two.is_away
         (subst (λ (r : Run). Writes r d s content) one.run_is w) (subst (λ (r : Run). Writes r d s other) two.run_is v);
   }
@@ -135,6 +135,9 @@ module _ (made : Made) (volume : IsVolume made.devices made.areas) (away : ℕ �
               absurd (⊎_elim (λ le. omega (arith, le, from, below, from_too, below_too, long, long_too)) (λ le. omega (arith, le, from, below, from_too, below_too, long, long_too))
               (two_homes at at_too made.devices made.areas volume is is_too (λ e. grind (arith, nat_tests, differ, e)) (w.on ∙ sym v.on)))
 
+  pub homes_fit : (runs : List Run) → AreHomesOf made.devices made.areas away runs → AreRuns made runs
+  homes_fit runs are = each_fits runs are.each
+
 -- ---- what a node's log does
 
 module _ (made : Made) (areas : ℕ) (asked : Option Asked) (old new : Machine) (is : IsReady made areas asked old) where
@@ -158,6 +161,7 @@ module _ (made : Made) (areas : ℕ) (asked : Option Asked) (old new : Machine) 
   -- and it goes on
   pub still_ready : (runs : Option KindAndRuns) (said : Option Said) → LogGoes old new runs said → IsReady made areas asked new
   still_ready runs said (Rests stage now) = subst (λ (m : Machine). IsReady made areas asked m) (sym now) is
+  still_ready runs said (RestsMeanwhile recovering stage now) = subst (λ (m : Machine). IsReady made areas asked m) (sym now) is
   still_ready runs said (SendsGate pending text point stage work now) = subst (λ (m : Machine). IsReady made areas asked m) (sym now) (record {
     volume = is.volume;
     engine = is.engine;
@@ -168,6 +172,7 @@ module _ (made : Made) (areas : ℕ) (asked : Option Asked) (old new : Machine) 
     room = room_as (works.Body text point) work;
     fits = subst (λ (s : Stage). FitsStage old.cache.areas (record old.log { work = works.Opens point; out = true }) s) (sym stage) (tt, refl, (fits_as (stages.Records pending) stage).2, subst (λ (w : Work). IsNumbered w pending.call) work (fits_as (stages.Records pending) stage).3, (fits_as (stages.Records pending) stage).4);
     fetch = is.fetch;
+    none_recovered = is.none_recovered;
   })
   still_ready runs said (SendsHomes pending point stage work now volume commits homes) = subst (λ (m : Machine). IsReady made areas asked m) (sym now) (record {
     volume = is.volume;
@@ -179,6 +184,7 @@ module _ (made : Made) (areas : ℕ) (asked : Option Asked) (old new : Machine) 
     room = tt;
     fits = (refl, omega arith);
     fetch = is.fetch;
+    none_recovered = tt;
   })
   still_ready runs said (SendsClosing stage now volume settles) = subst (λ (m : Machine). IsReady made areas asked m) (sym now) (record {
     volume = is.volume;
@@ -190,6 +196,7 @@ module _ (made : Made) (areas : ℕ) (asked : Option Asked) (old new : Machine) 
     room = tt;
     fits = (tt, refl, λ e. let wrong : works.Closes ≡ works.Shuts = e in absurd cc);
     fetch = is.fetch;
+    none_recovered = tt;
   })
   still_ready runs said (SendsShut stage work now) = subst (λ (m : Machine). IsReady made areas asked m) (sym now) (record {
     volume = is.volume;
@@ -201,6 +208,7 @@ module _ (made : Made) (areas : ℕ) (asked : Option Asked) (old new : Machine) 
     room = tt;
     fits = subst (λ (s : Stage). FitsStage old.cache.areas (record old.log { count = 0; work = works.Shuts; out = true }) s) (sym stage) (tt, refl, λ e. refl);
     fetch = is.fetch;
+    none_recovered = is.none_recovered;
   })
   still_ready runs said (Closed stage work now) = subst (λ (m : Machine). IsReady made areas asked m) (sym now) (record {
     volume = is.volume;
@@ -212,6 +220,7 @@ module _ (made : Made) (areas : ℕ) (asked : Option Asked) (old new : Machine) 
     room = tt;
     fits = (refl, (fits_as stages.Closes stage).2 work);
     fetch = is.fetch;
+    none_recovered = tt;
   })
 
   -- so where a record begins
@@ -231,6 +240,7 @@ module _ (made : Made) (areas : ℕ) (asked : Option Asked) (old new : Machine) 
       room = let none = (fits_as stages.Idle idle).1 in omega (arith, none);
       fits = (tt, refl, begins.logged.blocks, numbered, (fits_as stages.Idle idle).1);
       fetch = is.fetch;
+      none_recovered = tt;
     })
 
 -- ---- what else leaves a node ready
@@ -242,6 +252,7 @@ fetch_block areas asked fetch at mode fits is = (subst (λ (f : Fetch). FitsFetc
 fits_left : (areas at : ℕ) (asked : Option Asked) (fetch : Fetch) → FitsFetch areas asked fetch → FitsFetch areas asked (left_fetch at fetch)
 fits_left areas at asked fetches.Nothing is = is
 fits_left areas at asked fetches.Dropped is = is
+fits_left areas at asked fetches.Recovery is = is
 fits_left areas at asked (fetches.Block block mode) is = by (block == at)
   where
     by : (b : Bool) → FitsFetch areas asked (if b then fetches.Dropped else fetches.Block block mode)
@@ -261,6 +272,7 @@ module _ (made : Made) (areas : ℕ) (asked : Option Asked) (old new : Machine) 
     room = subst (λ (l : LogView). HasRecordRoom l.work l.count) (sym log) is.room;
     fits = subst (λ (n : ℕ). FitsStage n new.log new.stage) (sym areas_same) (subst (λ (l : LogView). FitsStage old.cache.areas l new.stage) (sym log) (subst (λ (s : Stage). FitsStage old.cache.areas old.log s) (sym stage) is.fits));
     fetch = fits;
+    none_recovered = subst (λ (s : Stage). RecoversNone s) (sym stage) is.none_recovered;
   }
 
   -- so once a block was let go

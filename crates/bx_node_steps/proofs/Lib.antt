@@ -5,3 +5,4 @@ pub mod Fitting
 pub mod LogSteps
 pub mod Order
 pub mod Trying
+pub mod Recovered

@@ -29,6 +29,7 @@ waits_again work stages.Idle = None
 waits_again work (stages.Records pending) = option_map (left_over (is_opening work)) pending.call
 waits_again work stages.Homes = None
 waits_again work stages.Closes = None
+waits_again work (stages.Recovers recovering) = None
 
 -- a read that is still out counts for nothing
 abbrev pub left_read : Bool → Fetch
@@ -43,9 +44,11 @@ pub record BeginsAnew (row : Option SessionRow) (reads : Bool) (old new : Machin
     log = first_log old.cache.devices row;
     stage = stages.Idle;
     fetch = left_read reads;
+    finished = new.finished;
     calls = new.calls;
     mark = None;
     ticks = old.ticks;
     tidy = old.tidy;
   }
+  pub forgets : new.finished.items ≡ []
   pub calls : WaitsOn (waits_again old.log.work old.stage) old.calls.items new.calls.items

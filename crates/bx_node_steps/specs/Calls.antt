@@ -36,6 +36,7 @@ call_written stages.Idle = None
 call_written (stages.Records pending) = option_map (λ (call : Waiting × List ℕ). call.0) pending.call
 call_written stages.Homes = None
 call_written stages.Closes = None
+call_written (stages.Recovers recovering) = None
 
 -- A call waits at a node: it is one of those that are to be attempted, or its record is written.
 abbrev pub WaitsAt : Machine → CallOf → Type 0

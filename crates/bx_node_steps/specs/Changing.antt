@@ -22,6 +22,7 @@ KeepsRead bytes (fetches.Block at mode) old new =
     ((block : Block) × SpellsBlock block bytes × OnlyKept at (Some (record { mode = mode; block = block; committed = false })) old new)
     ⊎ (((block : Block) → SpellsBlock block bytes → ⊥) × (new ≡ old))
 KeepsRead bytes fetches.Dropped old new = new ≡ old
+KeepsRead bytes fetches.Recovery old new = new ≡ old
 
 -- What was read is taken in, and nothing is read then.
 pub record TakesIn (bytes : List ℕ) (old new : Machine) : Type 0 where
@@ -41,6 +42,7 @@ abbrev pub left_fetch : ℕ → Fetch → Fetch
 left_fetch at fetches.Nothing = fetches.Nothing
 left_fetch at (fetches.Block block mode) = if block == at then fetches.Dropped else fetches.Block block mode
 left_fetch at fetches.Dropped = fetches.Dropped
+left_fetch at fetches.Recovery = fetches.Recovery
 
 -- A block is let go: it isn't kept, and may stay as a hint of itself.
 pub record LetsGo (at : ℕ) (old new : Machine) : Type 0 where

@@ -4,5 +4,6 @@ pub mod Changing
 pub mod Gives
 pub mod Logging
 pub mod Ready
+pub mod Recoveries
 pub mod Seen
 pub mod Tidying

@@ -1,5 +1,5 @@
 -- How a node is seen.
-use Rattle.std.specs.Prelude.{ℕ, List, [], map, Option, Some, None}
+use Rattle.std.specs.Prelude.{ℕ, List, map, Option, Some, None}
 use Rattle.bx_node_cache.specs.Kept.{away_in, held_in, hint_in}
 use Rattle.bx_node_machines.specs.Machines as views
 use Rattle.bx_node_machines.specs.Machines.{MachineView, Replying}
@@ -20,11 +20,13 @@ stage_of stages.Idle = views.Idle
 stage_of (stages.Records pending) = views.Records (replying pending.call) pending.draft
 stage_of stages.Homes = views.Homes
 stage_of stages.Closes = views.Closes
+stage_of (stages.Recovers recovering) = views.Recovers recovering.gone recovering.recovery
 
 abbrev pub fetch_of : Fetch → views.Fetch
 fetch_of fetches.Nothing = views.Nothing
 fetch_of (fetches.Block block mode) = views.Block block mode
 fetch_of fetches.Dropped = views.Dropped
+fetch_of fetches.Recovery = views.OfLog
 
 abbrev pub view_of : Machine → MachineView
 view_of machine = record {
@@ -35,7 +37,7 @@ view_of machine = record {
   log = machine.log;
   stage = stage_of machine.stage;
   fetch = fetch_of machine.fetch;
-  finished = [];
+  finished = machine.finished.items;
 }
 
 abbrev pub seen : List Machine → List MachineView

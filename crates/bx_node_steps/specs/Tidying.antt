@@ -60,6 +60,7 @@ is_idle stages.Idle = true
 is_idle (stages.Records pending) = false
 is_idle stages.Homes = false
 is_idle stages.Closes = false
+is_idle (stages.Recovers recovering) = false
 
 -- whether something is left to do at a node: a call is to be attempted, its log doesn't rest, as it does not while a call's record is written, or a tidy is under way
 abbrev pub has_work : Machine → Bool

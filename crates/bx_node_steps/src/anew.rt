@@ -37,6 +37,7 @@ impl Machine {
         } else {
             Fetch::Nothing
         };
+        self.finished = Vec::new(alloc);
         self.mark = None;
         Ok(())
     }

@@ -9,9 +9,11 @@ mod logs;
 mod machine;
 mod marks;
 mod recording;
+mod recovering;
 mod tidies;
 
 pub use logs::LogStep;
-pub use machine::{Fetch, Machine, Mark, Pending, Stage, Tidy};
+pub use machine::{Fetch, Machine, Mark, Pending, Recovering, Stage, Tidy};
 pub use marks::waits_since;
 pub use recording::{Recording, asked_by, tidying};
+pub use recovering::to_claim;

@@ -10,6 +10,7 @@ use bx_base::{CallNo, Mode, Raw};
 use bx_node_cache::Cache;
 use bx_node_tries::Waiting;
 use bx_records::Draft;
+use bx_recover::Recovery;
 use bx_redo::Log;
 use std::alloc::Global;
 
@@ -20,6 +21,15 @@ pub struct Pending {
     pub call: Option<(Waiting, Raw)>,
     /// What it changes.
     pub draft: Draft,
+}
+
+/// The recovery of the log of a session that is dead.
+#[derive(Drop)]
+pub struct Recovering {
+    /// The session.
+    pub gone: u64,
+    /// How far its recovery is.
+    pub recovery: Recovery,
 }
 
 /// What a node's log is for.
@@ -33,6 +43,8 @@ pub enum Stage {
     Homes,
     /// It is closed.
     Closes,
+    /// Nothing, and the node recovers the log of another session.
+    Recovers(Recovering),
 }
 
 /// What a node reads.
@@ -44,6 +56,8 @@ pub enum Fetch {
     Block(u64, Mode),
     /// A block that it has let go meanwhile: what comes counts for nothing.
     Dropped,
+    /// What its recovery of a log asked for.
+    Recovery,
 }
 
 /// Since when a block is asked back.
@@ -79,6 +93,8 @@ pub struct Machine {
     pub stage: Stage,
     /// What it reads.
     pub fetch: Fetch,
+    /// The sessions whose logs it recovered and closed.
+    pub finished: Vec<u64>,
     /// The calls that wait, the oldest first.
     pub calls: Vec<Waiting>,
     /// Since when the first block is asked back.
@@ -96,7 +112,7 @@ impl Machine {
         ensures session { result.session ≡ None }
         ensures cache { result.cache ≡ record { devices = devices; areas = areas; kept = []; hinted = [] } }
         ensures log { result.log ≡ closed_log 0 0 }
-        ensures idle { (result.stage ≡ Idle) × (result.fetch ≡ Nothing) }
+        ensures idle { (result.stage ≡ Idle) × (result.fetch ≡ Nothing) × (result.finished.items ≡ []) }
         ensures calls { (result.calls.items ≡ []) × (result.mark ≡ None) }
         ensures tidy { (result.ticks ≡ 0) × (result.tidy ≡ None) }
     {
@@ -106,6 +122,7 @@ impl Machine {
             log: Log::new(alloc, 0, 0),
             stage: Stage::Idle,
             fetch: Fetch::Nothing,
+            finished: Vec::new(alloc),
             calls: Vec::new(alloc),
             mark: None,
             ticks: 0,

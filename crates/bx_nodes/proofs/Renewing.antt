@@ -137,7 +137,7 @@ module _ (devices : ℕ) (row : Option SessionRow) (reads : Bool) (before after 
         ∙ ap (λ (d : ℕ). closed_log its.slot (log_device its.slot d)) same ∙ ap (λ (s : ℕ). closed_log s (log_device s devices)) (sym at);
     stage = ap (λ (m : Machine). stage_of m.stage) begins.only;
     fetch = ap (λ (m : Machine). fetch_of m.fetch) begins.only ∙ ap (λ (b : Bool). fetch_of (left_read b)) none;
-    finished = refl;
+    finished = begins.forgets;
   }
 
 module _ {G O S T : Type 0} (g : register.Ghosts G) (o : owners.Ghosts O) (st : store.Ghosts S) (Stands : Truth → Hints → T → Type 0) (Step : T → Deed → T → Type 0)

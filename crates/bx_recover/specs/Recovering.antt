@@ -147,6 +147,18 @@ IsOut Closes arrived done = done ≡ false
 IsOut Shuts arrived done = done ≡ false
 IsOut Closed arrived done = ⊥
 
+-- whether the run of its records was read
+abbrev pub has_run : Stage → Bool
+has_run Begins = false
+has_run Gates = false
+has_run (Settles opened) = false
+has_run (Bodies opened) = false
+has_run Told = true
+has_run Homes = true
+has_run Closes = true
+has_run Shuts = true
+has_run Closed = true
+
 -- a write of it is out
 abbrev pub IsWriting : Stage → Type 0
 IsWriting Begins = ⊥

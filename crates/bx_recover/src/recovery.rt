@@ -57,7 +57,7 @@ impl Recovery {
     ghost use Rattle.bx_places.specs.Places.{IsVolume, gate_place, log_device};
     ghost use Rattle.bx_recover.specs.declared.moves.Move.TheVariants as moves;
     ghost use Rattle.bx_recover.specs.declared.stage.Stage.TheVariants as stages;
-    ghost use Rattle.bx_recover.specs.Recovering.{EntersStageWith, EntersStage, IsOut, IsWriting, SendsHomes, Settled, Steps, TakesBody, TakesGates, closes, first_recovery, reads_body, reads_gates};
+    ghost use Rattle.bx_recover.specs.Recovering.{EntersStageWith, EntersStage, IsOut, IsRecovery, IsWriting, SendsHomes, Settled, Steps, TakesBody, has_run, TakesGates, closes, first_recovery, reads_body, reads_gates};
     ghost use Rattle.bx_redo.specs.Steps.{one_run};
     ghost use Rattle.bx_redo.specs.declared.work.Work.TheVariants as works;
     ghost use Rattle.bx_redo.specs.bx_volume.specs.Records.{IsLogged};
@@ -103,6 +103,23 @@ impl Recovery {
                 if done { self.go_on() } else { Ok(Move::Wait) }
             }
             Stage::Closed => Ok(Move::Closed),
+        }
+    }
+
+    /// It is a recovery of a volume, of a slot that this has, and each record that it read is one of the volume. It takes no memory.
+    pub fn is_of_volume(&self)
+        ensures { IsRecovery self.now }
+    {
+        let _ = &self.alloc;
+    }
+
+    /// Whether the run of its records was read.
+    pub fn has_run(&self) -> bool
+        ensures { result ≡ has_run self.now.stage }
+    {
+        match self.stage {
+            Stage::Begins | Stage::Gates | Stage::Settles(_) | Stage::Bodies(_) => false,
+            Stage::Told | Stage::Homes | Stage::Closes | Stage::Shuts | Stage::Closed => true,
         }
     }
 

@@ -6,7 +6,7 @@ use Rattle.bx_base.specs.declared.names.Point.{Point}
 use Rattle.bx_facts.proofs.Lists.{behind, front, front_or_behind, nothing}
 use Rattle.bx_node_steps.proofs.Acting.{acts_over, acts_same, acts_sent, acts_unwritten}
 use Rattle.bx_node_steps.specs.Calls.{Acting, ActsAt, ActsOn, Answers, AnswersCalls, AreApart, AreInOrder, AreToOthers, CallOf, IsAmong, IsAnswered, IsOpening, IsThat, WaitsAt, acting_of, acting_said, call_of, call_written, is_opening, point_in, under_way}
-use Rattle.bx_node_steps.specs.Logging.{Closed, FitsStage, IsNumbered, LogGoes, Rests, RestsMeanwhile, SendsClosing, SendsGate, SendsHomes, SendsShut, said_of}
+use Rattle.bx_node_steps.specs.Logging.{Closed, FitsStage, IsNumbered, LogGoes, Rests, SendsClosing, SendsGate, SendsHomes, SendsShut, said_of}
 use Rattle.bx_node_steps.specs.declared.machine.Machine.{Machine}
 use Rattle.bx_node_steps.specs.declared.machine.Stage.{Stage}
 use Rattle.bx_node_steps.specs.declared.machine.Stage.TheVariants as stages
@@ -167,7 +167,7 @@ fits_numbered areas machine fits = by machine.stage fits
     by (stages.Records pending) fits_it = numbered_work machine.log.work pending.call fits_it.3
     by stages.Homes fits_it = tt
     by stages.Closes fits_it = tt
-    by (stages.Recovers recovering) fits_it = tt
+    by (stages.Recovers recovering) fits_it = absurd fits_it
 
 pub idle_numbered : (machine : Machine) → machine.stage ≡ stages.Idle → IsNumberedAt machine
 idle_numbered machine idle = subst (λ (s : Stage). AreNumbered (call_written s) (point_in machine.log.work)) (sym idle) tt
@@ -272,8 +272,6 @@ module _ (moment : ℕ) (calls : List Waiting) (call : Waiting) (reply : List �
 
 pub log_answers : (moment areas : ℕ) (old new : Machine) (runs : Option KindAndRuns) (said : Option Said) → FitsStage areas old.log old.stage → AreApart old → LogGoes old new runs said → AnswersCalls moment old new (option_to_list said)
 log_answers moment areas old new runs said fits apart (Rests stage now) =
-    same_calls moment old new (ap (λ (m : Machine). m.calls.items) now) (ap (λ (m : Machine). call_written m.stage) now) (ap under_way now) (ap (λ (m : Machine). is_opening m.log.work) now) (fits_numbered areas old fits) apart
-log_answers moment areas old new runs said fits apart (RestsMeanwhile recovering stage now) =
     same_calls moment old new (ap (λ (m : Machine). m.calls.items) now) (ap (λ (m : Machine). call_written m.stage) now) (ap under_way now) (ap (λ (m : Machine). is_opening m.log.work) now) (fits_numbered areas old fits) apart
 log_answers moment areas old new runs said fits apart (SendsGate pending text point stage work now) =
     same_as moment old new (ap (λ (m : Machine). m.calls.items) now) (ap (λ (m : Machine). call_written m.stage) now)

@@ -17,8 +17,8 @@ use Rattle.bx_node_cache.specs.Kept.{AreHomesOf, IsHomeOf}
 use Rattle.bx_node_machines.specs.Machines.{number_of}
 use Rattle.bx_node_tries.specs.declared.round.Said.{Said}
 use Rattle.bx_node_steps.specs.Changing.{LetsGo, TakesIn, left_fetch}
-use Rattle.bx_node_steps.specs.Logging.{Begins, Closed, FitsStage, IsNumbered, LogGoes, Rests, RestsMeanwhile, SendsClosing, SendsGate, SendsHomes, SendsShut}
-use Rattle.bx_node_steps.specs.Ready.{FitsFetch, IsReady, RecoversNone}
+use Rattle.bx_node_steps.specs.Logging.{Begins, Closed, FitsStage, IsNumbered, LogGoes, Rests, SendsClosing, SendsGate, SendsHomes, SendsShut}
+use Rattle.bx_node_steps.specs.Ready.{FitsFetch, IsReady}
 use Rattle.bx_node_steps.specs.Seen.{replying}
 use Rattle.bx_node_steps.specs.declared.machine.Fetch.{Fetch}
 use Rattle.bx_node_steps.specs.declared.machine.Fetch.TheVariants as fetches
@@ -161,7 +161,6 @@ module _ (made : Made) (areas : ℕ) (asked : Option Asked) (old new : Machine) 
   -- and it goes on
   pub still_ready : (runs : Option KindAndRuns) (said : Option Said) → LogGoes old new runs said → IsReady made areas asked new
   still_ready runs said (Rests stage now) = subst (λ (m : Machine). IsReady made areas asked m) (sym now) is
-  still_ready runs said (RestsMeanwhile recovering stage now) = subst (λ (m : Machine). IsReady made areas asked m) (sym now) is
   still_ready runs said (SendsGate pending text point stage work now) = subst (λ (m : Machine). IsReady made areas asked m) (sym now) (record {
     volume = is.volume;
     engine = is.engine;
@@ -172,7 +171,6 @@ module _ (made : Made) (areas : ℕ) (asked : Option Asked) (old new : Machine) 
     room = room_as (works.Body text point) work;
     fits = subst (λ (s : Stage). FitsStage old.cache.areas (record old.log { work = works.Opens point; out = true }) s) (sym stage) (tt, refl, (fits_as (stages.Records pending) stage).2, subst (λ (w : Work). IsNumbered w pending.call) work (fits_as (stages.Records pending) stage).3, (fits_as (stages.Records pending) stage).4);
     fetch = is.fetch;
-    none_recovered = is.none_recovered;
   })
   still_ready runs said (SendsHomes pending point stage work now volume commits homes) = subst (λ (m : Machine). IsReady made areas asked m) (sym now) (record {
     volume = is.volume;
@@ -184,7 +182,6 @@ module _ (made : Made) (areas : ℕ) (asked : Option Asked) (old new : Machine) 
     room = tt;
     fits = (refl, omega arith);
     fetch = is.fetch;
-    none_recovered = tt;
   })
   still_ready runs said (SendsClosing stage now volume settles) = subst (λ (m : Machine). IsReady made areas asked m) (sym now) (record {
     volume = is.volume;
@@ -196,7 +193,6 @@ module _ (made : Made) (areas : ℕ) (asked : Option Asked) (old new : Machine) 
     room = tt;
     fits = (tt, refl, λ e. let wrong : works.Closes ≡ works.Shuts = e in absurd cc);
     fetch = is.fetch;
-    none_recovered = tt;
   })
   still_ready runs said (SendsShut stage work now) = subst (λ (m : Machine). IsReady made areas asked m) (sym now) (record {
     volume = is.volume;
@@ -208,7 +204,6 @@ module _ (made : Made) (areas : ℕ) (asked : Option Asked) (old new : Machine) 
     room = tt;
     fits = subst (λ (s : Stage). FitsStage old.cache.areas (record old.log { count = 0; work = works.Shuts; out = true }) s) (sym stage) (tt, refl, λ e. refl);
     fetch = is.fetch;
-    none_recovered = is.none_recovered;
   })
   still_ready runs said (Closed stage work now) = subst (λ (m : Machine). IsReady made areas asked m) (sym now) (record {
     volume = is.volume;
@@ -220,7 +215,6 @@ module _ (made : Made) (areas : ℕ) (asked : Option Asked) (old new : Machine) 
     room = tt;
     fits = (refl, (fits_as stages.Closes stage).2 work);
     fetch = is.fetch;
-    none_recovered = tt;
   })
 
   -- so where a record begins
@@ -240,7 +234,6 @@ module _ (made : Made) (areas : ℕ) (asked : Option Asked) (old new : Machine) 
       room = let none = (fits_as stages.Idle idle).1 in omega (arith, none);
       fits = (tt, refl, begins.logged.blocks, numbered, (fits_as stages.Idle idle).1);
       fetch = is.fetch;
-      none_recovered = tt;
     })
 
 -- ---- what else leaves a node ready
@@ -272,7 +265,6 @@ module _ (made : Made) (areas : ℕ) (asked : Option Asked) (old new : Machine) 
     room = subst (λ (l : LogView). HasRecordRoom l.work l.count) (sym log) is.room;
     fits = subst (λ (n : ℕ). FitsStage n new.log new.stage) (sym areas_same) (subst (λ (l : LogView). FitsStage old.cache.areas l new.stage) (sym log) (subst (λ (s : Stage). FitsStage old.cache.areas old.log s) (sym stage) is.fits));
     fetch = fits;
-    none_recovered = subst (λ (s : Stage). RecoversNone s) (sym stage) is.none_recovered;
   }
 
   -- so once a block was let go

@@ -10,7 +10,6 @@ use Rattle.bx_node_tries.specs.declared.round.Waiting.{Waiting}
 use Rattle.bx_node_steps.specs.Seen.{replying}
 use Rattle.bx_node_steps.specs.declared.machine.Machine.{Machine}
 use Rattle.bx_node_steps.specs.declared.machine.Pending.{Pending}
-use Rattle.bx_node_steps.specs.declared.machine.Recovering.{Recovering}
 use Rattle.bx_node_steps.specs.declared.machine.Stage.{Stage}
 use Rattle.bx_node_steps.specs.declared.machine.Stage.TheVariants as stages
 use Rattle.bx_node_steps.specs.declared.recording.Recording.{Recording}
@@ -39,12 +38,12 @@ IsNumbered (works.Opens point) call = point.call ≡ number_of (replying call)
 IsNumbered works.Closes call = Unit {0}
 IsNumbered works.Shuts call = Unit {0}
 
--- What a log does goes with what it is for: where nothing, it rests and has no records; nor has it any while one is written, or once gate 0 is closed.
+-- What a log does goes with what it is for: where nothing, it rests and has no records; nor has it any while one is written, or once gate 0 is closed. It is for no recovery: no node begins one yet.
 abbrev pub FitsStage : ℕ → LogView → Stage → Type 0
 FitsStage areas log stages.Idle = (log.work ≡ works.Idle) × (log.count ≡ 0)
 FitsStage areas log (stages.Records pending) = IsOfRecord log.work × (log.out ≡ true) × AreBlocks areas pending.draft × IsNumbered log.work pending.call × (log.count ≡ 0)
 FitsStage areas log stages.Homes = (log.work ≡ works.Idle) × (0 < log.count)
-FitsStage areas log (stages.Recovers recovering) = (log.work ≡ works.Idle) × (log.count ≡ 0)
+FitsStage areas log (stages.Recovers recovering) = ⊥
 FitsStage areas log stages.Closes = IsOfClosing log.work × (log.out ≡ true) × (log.work ≡ works.Shuts → log.count ≡ 0)
 
 -- ---- a record begins
@@ -119,7 +118,6 @@ pub record Opened (pending : Pending) (point : Point) (old new : Machine) (runs 
 -- What a node's log does once what it wrote last is done: what it writes next, and what is said.
 pub data LogGoes (old new : Machine) : Option KindAndRuns → Option Said → Type 0 where
   Rests : old.stage ≡ stages.Idle → new ≡ old → LogGoes old new None None
-  RestsMeanwhile : (recovering : Recovering) → old.stage ≡ stages.Recovers recovering → new ≡ old → LogGoes old new None None
   SendsGate : (pending : Pending) (text : List ℕ) (point : Point) → old.stage ≡ stages.Records pending → old.log.work ≡ works.Body text point
       → new ≡ record old { log = record old.log { work = works.Opens point; out = true } } → LogGoes old new (Some (writes old.log (works.Opens point))) None
   SendsHomes : (pending : Pending) (point : Point) → old.stage ≡ stages.Records pending → old.log.work ≡ works.Opens point

@@ -5,8 +5,6 @@ use Rattle.bx_node_steps.specs.Logging.{FitsStage}
 use Rattle.bx_node_steps.specs.declared.machine.Fetch.{Fetch}
 use Rattle.bx_node_steps.specs.declared.machine.Fetch.TheVariants as fetches
 use Rattle.bx_node_steps.specs.declared.machine.Machine.{Machine}
-use Rattle.bx_node_steps.specs.declared.machine.Stage.{Stage}
-use Rattle.bx_node_steps.specs.declared.machine.Stage.TheVariants as stages
 use Rattle.bx_places.specs.Places.{IsBlock, IsVolume, log_device}
 use Rattle.bx_redo.specs.View.{HasRecordRoom}
 
@@ -17,16 +15,8 @@ FitsFetch areas asked (fetches.Block block mode) = IsBlock areas block × IsSome
 FitsFetch areas asked fetches.Dropped = IsSome asked
 FitsFetch areas asked fetches.Recovery = IsSome asked
 
--- it recovers no log: nodes don't do that yet
-abbrev pub RecoversNone : Stage → Type 0
-RecoversNone stages.Idle = Unit {0}
-RecoversNone (stages.Records pending) = Unit {0}
-RecoversNone stages.Homes = Unit {0}
-RecoversNone stages.Closes = Unit {0}
-RecoversNone (stages.Recovers recovering) = ⊥
-
 -- A node may use its parts, whatever its session: its cache is of the volume that the store is made for, and so is its engine, with so many areas; its log has a
--- slot, on that slot's device, and room for what it does, which goes with what it is for; what it reads fits what it asked the store for; and it recovers no log.
+-- slot, on that slot's device, and room for what it does, which goes with what it is for; and what it reads fits what it asked the store for.
 pub record IsReady (made : Made) (engine_areas : ℕ) (asked : Option Asked) (machine : Machine) : Type 0 where
   pub volume : IsVolume made.devices made.areas
   pub engine : engine_areas ≡ made.areas
@@ -37,7 +27,6 @@ pub record IsReady (made : Made) (engine_areas : ℕ) (asked : Option Asked) (ma
   pub room : HasRecordRoom machine.log.work machine.log.count
   pub fits : FitsStage machine.cache.areas machine.log machine.stage
   pub fetch : FitsFetch made.areas asked machine.fetch
-  pub none_recovered : RecoversNone machine.stage
 
 -- So it was before an input came, behind which its read may be lost.
 pub record WasReady (made : Made) (engine_areas : ℕ) (asked : Option Asked) (machine : Machine) : Type 0 where

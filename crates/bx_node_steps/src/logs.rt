@@ -34,13 +34,10 @@ impl Machine {
                 runs: None,
                 said: None,
             }),
-            Stage::Recovers(_) => Ok(LogStep {
-                runs: None,
-                said: None,
-            }),
             Stage::Records(_) => self.record_on(),
             Stage::Homes => self.close(),
             Stage::Closes => self.shut_on(),
+            Stage::Recovers(_) => unreachable!(),
         }
     }
 

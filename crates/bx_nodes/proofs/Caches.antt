@@ -64,6 +64,7 @@ home_left at old new only other = by (eqb other at) refl
 pub leaves_fetch : (at : ℕ) (fetch : Fetch) → LeavesFetch at (fetch_of fetch) (fetch_of (left_fetch at fetch))
 leaves_fetch at fetches.Nothing = Stays (λ mode e. cc)
 leaves_fetch at fetches.Dropped = Stays (λ mode e. cc)
+leaves_fetch at fetches.Recovery = Stays (λ mode e. cc)
 leaves_fetch at (fetches.Block block mode) = by (block == at) refl
   where
     by : (b : Bool) → (block == at) ≡ b → LeavesFetch at (words.Block block mode) (fetch_of (if b then fetches.Dropped else fetches.Block block mode))

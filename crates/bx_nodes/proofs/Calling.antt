@@ -156,6 +156,8 @@ waits_on work stages.Homes old new same other order =
     (λ call. ((λ among. inl (subst (λ (l : List Waiting). IsAmong l call) same among)), (λ was. ⊎_elim (λ among. subst (λ (l : List Waiting). IsAmong l call) (sym same) among) (λ none. absurd none) was)), subst AreInOrder (sym same) order)
 waits_on work stages.Closes old new same other order =
     (λ call. ((λ among. inl (subst (λ (l : List Waiting). IsAmong l call) same among)), (λ was. ⊎_elim (λ among. subst (λ (l : List Waiting). IsAmong l call) (sym same) among) (λ none. absurd none) was)), subst AreInOrder (sym same) order)
+waits_on work (stages.Recovers recovering) old new same other order =
+    (λ call. ((λ among. inl (subst (λ (l : List Waiting). IsAmong l call) same among)), (λ was. ⊎_elim (λ among. subst (λ (l : List Waiting). IsAmong l call) (sym same) among) (λ none. absurd none) was)), subst AreInOrder (sym same) order)
 waits_on work (stages.Records pending) old new puts other order = by pending.call puts other
   where
     by : (call : Option (Waiting × List ℕ)) → WaitsOn (option_map (left_over (is_opening work)) call) old new → IsOther old (option_map (λ (c : Waiting × List ℕ). c.0) call)
@@ -171,6 +173,7 @@ left_may : (work : Work) (stage : Stage) (old new : List Waiting) → WaitsOn (w
 left_may work stages.Idle old new same number may = inl (subst (λ (l : List Waiting). MayAct l number) same may)
 left_may work stages.Homes old new same number may = inl (subst (λ (l : List Waiting). MayAct l number) same may)
 left_may work stages.Closes old new same number may = inl (subst (λ (l : List Waiting). MayAct l number) same may)
+left_may work (stages.Recovers recovering) old new same number may = inl (subst (λ (l : List Waiting). MayAct l number) same may)
 left_may work (stages.Records pending) old new puts number may = by pending.call puts
   where
     gate : (over : Bool) (opening : Bool) → (over || opening) ≡ false → opening ≡ false

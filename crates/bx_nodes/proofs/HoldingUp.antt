@@ -44,6 +44,7 @@ module _ {E T : Type 0} (e : engine.Ghosts E T) (engine_is : E) (out : Option Se
       idle tidy is awake none_wait (stages.Records pending) at = AtWork (λ same. let wrong = sym at ∙ same in absurd cc)
       idle tidy is awake none_wait stages.Homes at = AtWork (λ same. let wrong = sym at ∙ same in absurd cc)
       idle tidy is awake none_wait stages.Closes at = AtWork (λ same. let wrong = sym at ∙ same in absurd cc)
+      idle tidy is awake none_wait (stages.Recovers recovering) at = AtWork (λ same. let wrong = sym at ∙ same in absurd cc)
 
       waits : (tidy : Tidy) → machine.tidy ≡ Some tidy → tidy.rests ≡ false → (calls : List Waiting) → machine.calls.items ≡ calls → (written : Option Waiting) → call_written machine.stage ≡ written → HoldsUp e engine_is out IsAsked machine tidy
       waits tidy is awake (one ∷ calls) are written was = Calls (call_of one) (inl (record { one = one; there = subst (λ (l : List Waiting). Contains l one) (sym are) (front one calls); same = refl }))

@@ -37,7 +37,6 @@ module _ (made : Made) (areas : ℕ) (own : Option ℕ) (asked : Option Asked) (
       room = subst (λ (l : LogView). HasRecordRoom l.work l.count) (sym log_is) (has_room row);
       fits = subst (λ (s : Stage). FitsStage after.cache.areas after.log s) (sym (ap (λ (m : Machine). m.stage) begins.only)) rests;
       fetch = subst (λ (f : Fetch). FitsFetch made.areas asked f) (sym (ap (λ (m : Machine). m.fetch) begins.only)) (left asked);
-      none_recovered = subst (λ (s : Stage). RecoversNone s) (sym (ap (λ (m : Machine). m.stage) begins.only)) tt;
     };
     stays = inl refl;
   }
@@ -92,7 +91,6 @@ ready_calls made areas asked before after only is =
         room = stood.room;
         fits = stood.fits;
         fetch = stood.fetch;
-        none_recovered = stood.none_recovered;
       };
       stays = is.stays;
     })
@@ -124,7 +122,6 @@ first_ready made areas asked machine volume same none has = record {
     room = subst (λ (l : LogView). HasRecordRoom l.work l.count) (sym has.log) tt;
     fits = subst (λ (s : Stage). FitsStage machine.cache.areas machine.log s) (sym has.idle) (ap (λ (l : LogView). l.work) has.log, ap (λ (l : LogView). l.count) has.log);
     fetch = subst (λ (f : Fetch). FitsFetch made.areas asked f) (sym has.reads) none;
-    none_recovered = subst (λ (s : Stage). RecoversNone s) (sym has.idle) tt;
   };
   stays = inl refl;
 }

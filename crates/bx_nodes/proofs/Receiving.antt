@@ -93,6 +93,7 @@ module _ {G O S T : Type 0} (g : register.Ghosts G) (o : owners.Ghosts O) (st : 
         → ViewStands c.owners.holding c.truth session (held_in after.cache.kept) × ((at : ℕ) → away_in after.cache.kept at ≡ away_in before.cache.kept at)
     fine fetches.Nothing is still = unchanged still
     fine fetches.Dropped is still = unchanged still
+    fine fetches.Recovery is still = unchanged still
     fine (fetches.Block at mode) is (inl (block, spells, only)) = kept at mode block is spells only
     fine (fetches.Block at mode) is (inr (none_spelt, still)) = unchanged still
 

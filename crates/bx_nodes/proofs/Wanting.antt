@@ -53,6 +53,7 @@ reads_left at (fetches.Block block mode) some = by (block == at)
     by true e = cc
     by false e = cc
 reads_left at fetches.Dropped some = some
+reads_left at fetches.Recovery some = some
 
 -- what stood about a block stands, where its request and hold are as they were, and nothing that is out falls
 pub asking_on : (request request_then : Option Mode) (hold hold_then : Option Hold) (knows : ℕ) (fetch fetch_then : Fetch) (IsSpent IsSpent_then : Type 0) → request_then ≡ request → hold_then ≡ hold

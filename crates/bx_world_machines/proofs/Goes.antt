@@ -107,6 +107,7 @@ module _ (devices areas : ℕ) (Sure : ℕ → ℕ → List ℕ → Type 0) (Rea
       by (stages.Records pending) is_stage work = of_record pending is_stage machine.log.work refl work.0 work.2 work.4
       by stages.Homes is_stage work = closed idle work.1 refl
       by stages.Closes is_stage work = of_closing machine.log.work work.0 work.2
+      by (stages.Recovers recovering) is_stage work = closed idle work.1 refl
 
 -- ---- a call that may act, or whose gate was sent, waits
 

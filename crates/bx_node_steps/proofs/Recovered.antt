@@ -1,22 +1,20 @@
 -- What a recovery asks for may be written and read.
-use Rattle.std.proofs.Common.{◌≡◌, ◌∙◌, ℕ, ◌+◌, ◌*◌, ◌<◌, ◌≤◌, Bool, true, false, List, [], ◌∷◌, length, reverse, Option, Some, None, refl, sym, ap, subst, arith}
-use Rattle.std.specs.List.{AllByRecursion}
-use Rattle.bx_disk.specs.Disks.{sector_of}
-use Rattle.bx_facts.specs.Writes.{AreRuns, Asked, Made, store_room}
+use Rattle.std.proofs.Common.{◌≡◌, ℕ, ◌+◌, ◌*◌, ◌<◌, ◌≤◌, Bool, true, false, List, [], ◌∷◌, length, reverse, Option, Some, None, refl, sym, ap, subst, arith}
+use Rattle.bx_facts.specs.Writes.{AreRuns, Made, store_room}
 use Rattle.bx_node_steps.proofs.Fitting.{closes_fits, each_fits, shuts_fits, slot_fits}
 use Rattle.bx_node_cache.specs.Kept.{IsHomeOf}
 use Rattle.bx_places.specs.Places.{IsVolume, body_place, gate_place, log_device, log_start}
 use Rattle.bx_records.specs.Drafts.{Changed}
 use Rattle.bx_recover.proofs.HomesOf.{its_homes}
 use Rattle.bx_recover.specs.HomesOf.{AreNewestOf, home_runs}
-use Rattle.bx_recover.specs.Recovering.{AsksBodyAgain, AsksFirst, AsksGatesAgain, AsksNext, EntersStage, EntersStageWith, FindsClosed, FindsNone, FitsStage as FitsIts, IsRecovery, RecoveryGoesOn, RecoveryView, Settled, Stays, Steps, TakesBody, TakesGates, TellsAll, TellsThose, WritesBack}
+use Rattle.bx_recover.specs.Recovering.{AsksBodyAgain, AsksFirst, AsksGatesAgain, AsksNext, EntersStage, EntersStageWith, FindsClosed, FindsNone, FitsStage as FitsIts, IsRecovery, RecoveryGoesOn, RecoveryView, Settled, Stays, TakesBody, TellsAll, TellsThose, WritesBack}
 use Rattle.bx_recover.specs.declared.moves.Move.{Move}
 use Rattle.bx_recover.specs.declared.moves.Move.TheVariants as moves
 use Rattle.bx_recover.specs.declared.stage.Stage as recovery
 use Rattle.bx_recover.specs.declared.stage.Stage.TheVariants.{Begins, Gates, Settles, Bodies, Told, Homes, Closes, Shuts, Closed}
 use Rattle.bx_redo.specs.View.{LogView}
 use Rattle.bx_redo.specs.declared.work.Work.TheVariants as works
-use Rattle.bx_redo.specs.bx_volume.specs.Records.{IsLogged, Logged, newest_in}
+use Rattle.bx_redo.specs.bx_volume.specs.Records.{Logged, newest_in}
 
 -- a read that may be asked for: of sectors behind the label, which a device of the store has
 pub record MayRead (made : Made) (device place sectors : ℕ) : Type 0 where

@@ -1,5 +1,4 @@
 use Rattle.std.proofs.Common.{rules}
-use Rattle.bx_node_steps.specs.Recoveries.{RecoversOn}
 use Rattle.bx_node_steps.proofs.machine.Machine.recover_on.Goals as goal
 
 pub returns-clause-steps : goal.returns-clause-steps

@@ -34,6 +34,7 @@ impl<G: Register, O: Owners, S: Store, E: Engine> World<G, O, S, E> {
             machines,
             post: Post::new(alloc),
             desks,
+            lacking: Vec::new(alloc),
             events: 0,
         })
     }

@@ -17,7 +17,7 @@ ghost use Rattle.bx_world_standing.specs.Standing.{Course};
 
 use crate::tells::nothing;
 use crate::world::World;
-use bx_base::{Actor, OutOfMemory, Raw};
+use bx_base::{Actor, CallNo, OutOfMemory, Raw};
 use bx_cluster::{EventError, Outcome, ReplyOut};
 use bx_desk::Desk;
 use bx_facts::{Outbox, Owners, Register, Store};
@@ -130,6 +130,7 @@ impl<G: Register, O: Owners, S: Store, E: Engine> World<G, O, S, E> {
             is_over: false,
         };
         wait_at(alloc, &mut self.desks, node, &call)?;
+        lack(&mut self.lacking, number)?;
         let mut out = Outbox::new(alloc);
         let turn = self.machines.call(node, call, reading, &mut out)?;
         let outcome = self.end(alloc, Actor::Node(node), Ok(turn), out)?;
@@ -188,4 +189,10 @@ impl<G: Register, O: Owners, S: Store, E: Engine> World<G, O, S, E> {
         let turn = self.machines.turn(node, reading, &mut out)?;
         self.end(alloc, Actor::Node(node), Ok(turn), out)
     }
+}
+
+/// A call lacks its point.
+fn lack(lacking: &mut Vec<CallNo>, call: CallNo) -> Result<(), OutOfMemory> {
+    lacking.push(call)?;
+    Ok(())
 }

@@ -144,7 +144,7 @@ impl<G: Register, O: Owners, S: Store, E: Engine> World<G, O, S, E> {
         match heard {
             Ok(turn) => {
                 self.post.send(alloc, out)?;
-                Ok(told(alloc, &mut self.desks, at, turn)?)
+                Ok(told(alloc, &mut self.desks, &mut self.lacking, at, turn)?)
             }
             Err(FactError::Disk) => {
                 clear_at(&mut self.desks, at);

@@ -3,7 +3,7 @@
 ghost use Rattle.std.specs.Prelude.{◌≡◌, ◌<◌, None, map, length, IfOk, OnOk};
 ghost use Rattle.bx_world.specs.Outcomes.{IsBy, all_answered, desks_said, desks_without, nothing, outcome_said, point_said, reply_said, stopped_at};
 
-use bx_base::{Actor, List, OutOfMemory, Point, Raw};
+use bx_base::{Actor, CallNo, List, OutOfMemory, Point, Raw};
 use bx_cluster::{Outcome, ReplyOut};
 use bx_desk::Desk;
 use bx_world_machines::all_nodes::Turn;
@@ -47,6 +47,7 @@ pub(crate) fn stopped(alloc: Global, at: Actor) -> Outcome
 pub(crate) fn told(
     alloc: Global,
     desks: &mut Vec<Desk>,
+    lacking: &mut Vec<CallNo>,
     at: Actor,
     turn: Turn,
 ) -> Result<Outcome, OutOfMemory>
@@ -55,25 +56,31 @@ pub(crate) fn told(
     ensures desks { OnOk result (desks.new.items ≡ desks_said at said.items desks.old.items) }
 {
     match at {
-        Actor::Node(node) => told_by(alloc, &mut desks[node as usize], node, turn),
+        Actor::Node(node) => told_by(alloc, &mut desks[node as usize], lacking, node, turn),
         Actor::Replica(_) | Actor::Server(_) | Actor::Member(_) => Ok(nothing(alloc)),
     }
 }
 
 /// .. at a node.
-fn told_by(alloc: Global, desk: &mut Desk, node: u32, turn: Turn) -> Result<Outcome, OutOfMemory>
-    ensures points { IfOk result (λ outcome. outcome.points ≡ map point_said said.items) }
-    ensures replies { IfOk result (λ outcome. outcome.replies ≡ map (reply_said node) said.items) }
-    ensures alone { IfOk result (λ outcome. (outcome.took ≡ None) × (outcome.again ≡ None) × (outcome.stopped ≡ None)) }
-    ensures desk { OnOk result (desk.new ≡ all_answered desk.old said.items) }
+fn told_by(
+    alloc: Global,
+    desk: &mut Desk,
+    lacking: &mut Vec<CallNo>,
+    node: u32,
+    turn: Turn,
+) -> Result<Outcome, OutOfMemory>
 {
-    let Turn { found, said } = turn;
+    let Turn { told, said } = turn;
     let mut points: Vec<Point> = Vec::new(alloc);
-    if let Some(point) = found {
-        points.push(point)?;
+    for point in told.items() {
+        if lacking.iter().any(|one| *one == point.call) {
+            points.push(*point)?;
+            strike(lacking, point.call);
+        }
     }
     let mut replies: Vec<ReplyOut> = Vec::new(alloc);
     for one in said {
+        strike(lacking, one.point.call);
         let kept = Raw::of(alloc, one.reply.bytes())?;
         desk.answer(alloc, one.point.call, kept)?;
         points.push(one.point)?;
@@ -91,4 +98,9 @@ fn told_by(alloc: Global, desk: &mut Desk, node: u32, turn: Turn) -> Result<Outc
         again: None,
         stopped: None,
     })
+}
+
+/// A call has its point. It takes no memory.
+fn strike(lacking: &mut Vec<CallNo>, call: CallNo) {
+    lacking.retain(|one| *one != call);
 }

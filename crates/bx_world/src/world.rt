@@ -1,5 +1,6 @@
 //! The world.
 
+use bx_base::CallNo;
 use bx_desk::Desk;
 use bx_facts::{Owners, Post, Register, Store};
 use bx_views::Engine;
@@ -12,6 +13,8 @@ pub struct World<G: Register, O: Owners, S: Store, E: Engine> {
     pub(crate) post: Post,
     /// By node.
     pub(crate) desks: Vec<Desk>,
+    /// The calls that lack their points.
+    pub(crate) lacking: Vec<CallNo>,
     /// How many events have started something: a call that came, a machine that started again.
     pub(crate) events: u64,
 }
